@@ -1,0 +1,175 @@
+//! Byte texts, lists of them, and the one error for want of memory.
+
+ghost use Rattle.std.specs.Prelude.{◌≡◌, ◌<◌, ◌↔◌, IsTrue, [], ◌∷◌, ◌++◌, length, IfOk, OnOk, OnErr, slice_get};
+
+use std::alloc::{AllocError, AllocFailed, Global};
+use std::marker::Model;
+use thiserror::Error;
+
+/// Memory ran out. A value that a call found no memory for is as it was before the call.
+#[derive(Clone, Copy, Debug, PartialEq, Eq, Error)]
+#[error("no memory")]
+pub struct NoMemory;
+
+impl From<AllocError> for NoMemory {
+    fn from(_cause: AllocError) -> NoMemory {
+        NoMemory
+    }
+}
+
+impl<T: Drop> From<AllocFailed<T>> for NoMemory {
+    fn from(_cause: AllocFailed<T>) -> NoMemory {
+        NoMemory
+    }
+}
+
+/// A list of bytes. Contracts see its numbers.
+#[derive(Debug, Drop)]
+pub struct Bytes {
+    items: Vec<u8>,
+}
+
+impl Model for Bytes {
+    ghost use Rattle.std.specs.Prelude.{ℕ, List};
+
+    ghost Value = { List ℕ };
+
+    ghost view = { λ a. a.items.items };
+}
+
+impl Bytes {
+    /// The empty list; it takes no memory.
+    pub fn new(alloc: Global) -> Bytes
+        ensures { result ≡ [] }
+    {
+        Bytes {
+            items: Vec::new(alloc),
+        }
+    }
+
+    /// A copy of these bytes.
+    pub fn of(alloc: Global, bytes: &[u8]) -> Result<Bytes, NoMemory>
+        ensures { IfOk result (λ made. made ≡ bytes.now) }
+    {
+        Ok(Bytes {
+            items: Vec::from_slice(alloc, bytes)?,
+        })
+    }
+
+    /// These bytes, with their memory.
+    pub fn from_vec(items: Vec<u8>) -> Bytes
+        ensures { result ≡ items.items }
+    {
+        Bytes { items }
+    }
+
+    pub fn len(&self) -> usize
+        ensures { result ≡ length self.now }
+    {
+        self.items.len()
+    }
+
+    pub fn is_empty(&self) -> bool
+        ensures { IsTrue result ↔ (self.now ≡ []) }
+    {
+        self.items.is_empty()
+    }
+
+    pub fn as_slice(&self) -> &[u8]
+        ensures { result.now ≡ self.now }
+    {
+        self.items.as_slice()
+    }
+
+    /// The byte at a place, counted from 0.
+    pub fn at(&self, place: usize) -> &u8
+        requires { place < length self.now }
+        ensures { slice_get self.now place ≡ Some result.now }
+    {
+        &self.items[place]
+    }
+
+    /// Puts a byte last.
+    pub fn push(&mut self, byte: u8) -> Result<(), NoMemory>
+        ensures ok { OnOk result (self.new ≡ self.old ++ byte ∷ []) }
+        ensures err { OnErr result (self.new ≡ self.old) }
+    {
+        self.items.push(byte)?;
+        Ok(())
+    }
+
+    /// Puts bytes last, in order; all of them or none.
+    pub fn append(&mut self, bytes: &[u8]) -> Result<(), NoMemory>
+        ensures ok { OnOk result (self.new ≡ self.old ++ bytes.now) }
+        ensures err { OnErr result (self.new ≡ self.old) }
+    {
+        self.items.extend_from_slice(bytes)?;
+        Ok(())
+    }
+
+    pub fn copy(&self, alloc: Global) -> Result<Bytes, NoMemory>
+        ensures { IfOk result (λ made. made ≡ self.now) }
+    {
+        Bytes::of(alloc, self.as_slice())
+    }
+}
+
+/// A list of byte texts.
+#[derive(Debug, Drop)]
+pub struct Names {
+    items: Vec<Bytes>,
+}
+
+impl Model for Names {
+    ghost use Rattle.std.specs.Prelude.{ℕ, List};
+
+    ghost Value = { List (List ℕ) };
+
+    ghost view = { λ a. a.items.items };
+}
+
+impl Names {
+    /// The empty list; it takes no memory.
+    pub fn new(alloc: Global) -> Names
+        ensures { result ≡ [] }
+    {
+        Names {
+            items: Vec::new(alloc),
+        }
+    }
+
+    pub fn len(&self) -> usize
+        ensures { result ≡ length self.now }
+    {
+        self.items.len()
+    }
+
+    pub fn is_empty(&self) -> bool
+        ensures { IsTrue result ↔ (self.now ≡ []) }
+    {
+        self.items.is_empty()
+    }
+
+    pub fn as_slice(&self) -> &[Bytes]
+        ensures { result.now ≡ self.now }
+    {
+        self.items.as_slice()
+    }
+
+    /// The text at a place, counted from 0.
+    pub fn at(&self, place: usize) -> &Bytes
+        requires { place < length self.now }
+        ensures { slice_get self.now place ≡ Some result.now }
+    {
+        &self.items[place]
+    }
+
+    /// Puts a text last.
+    pub fn push(&mut self, text: Bytes) -> Result<(), NoMemory>
+        ensures ok { OnOk result (self.new ≡ self.old ++ text ∷ []) }
+        ensures err { OnErr result (self.new ≡ self.old) }
+    {
+        self.items.push(text)?;
+        Ok(())
+    }
+}

@@ -1,0 +1,366 @@
+-- What a client does with a call and with a payload. Paths and lists of steps have the newest first.
+use Rattle.std.specs.Prelude.{◌≡◌, ℕ, ◌+◌, ◌-◌, ◌<◌, ◌^◌, Bool, true, false, not, ◌&&◌, ◌||◌, List, [], ◌∷◌, ◌++◌, length, Option, Some, None, is_some, is_none, nat_eq, nat_lt, nat_le, if◌then◌else◌, IsTrue}
+use Rattle.std.specs.List.{list_all, filter, fold}
+use Rattle.std.specs.Str.{bytes_eq}
+use Rattle.vic_dict.specs.declared.op.Op.{Op}
+use Rattle.vic_dict.specs.declared.op.Op.TheVariants as op
+use Rattle.vic_dict.specs.declared.op.Outcome.{Outcome}
+use Rattle.vic_dict.specs.declared.op.Outcome.TheVariants as outcome
+use Rattle.vic_dict.specs.declared.op.Entry.{Entry}
+use Rattle.vic_dict.specs.declared.op.Mode.TheVariants as mode
+use Rattle.vic_dict.specs.Lists.{AreBytes, front}
+use Rattle.vic_dict.specs.Dictionary.{Dictionary, Fits, AreBytesIn, reply, after}
+use Rattle.vic_wire.specs.declared.message.Digest32.{Digest32}
+use Rattle.vic_wire.specs.declared.message.Seal.{Seal}
+use Rattle.vic_wire.specs.declared.message.Tagged.{Tagged}
+use Rattle.vic_wire.specs.declared.message.ToServer.{ToServer}
+use Rattle.vic_wire.specs.declared.message.ToServer.TheVariants as ask
+use Rattle.vic_wire.specs.declared.message.ToClient.{ToClient}
+use Rattle.vic_wire.specs.declared.message.ToClient.TheVariants as say
+use Rattle.vic_wire.specs.Texts.{invoke_text, commit_text, seal_text}
+use Rattle.vic_wire.specs.Hashes.{Group, chain, tag_of, empty_root}
+use Rattle.vic_wire.specs.Conflict.{conflicts}
+use Rattle.vic_wire.specs.Messages.{request_text}
+use Rattle.vic_wire.specs.Reading.{read_answer}
+use Rattle.vic_rules.specs.declared.state.Own.{Own}
+use Rattle.vic_rules.specs.declared.state.Awaiting.{Awaiting}
+use Rattle.vic_rules.specs.declared.state.Awaiting.TheVariants as awaits
+use Rattle.vic_rules.specs.declared.trace.Input.{Input}
+use Rattle.vic_rules.specs.declared.trace.Input.TheVariants as input
+use Rattle.vic_wire.specs.Parts.{Part, read_part, part_root, reaches, walked, root_after}
+
+-- ---- the state
+
+-- where a client stands: its path (the newest entry first), its highest seal (position and root), its own calls that
+-- aren't sealed (the oldest first), what it awaits, how often it has invoked, and the check at which it halted
+pub record Standing : Type 0 where
+  pub path : List Entry
+  pub sealed : ℕ
+  pub root : List ℕ
+  pub own : List Own
+  pub awaiting : Awaiting
+  pub calls : ℕ
+  pub halted : Option ℕ
+
+abbrev pub at_start : Standing
+at_start = record { path = []; sealed = 0; root = empty_root; own = []; awaiting = awaits.Nothing; calls = 0; halted = None }
+
+-- the path with the entries of an answer put onto it, one after the other
+abbrev pub onto : List Tagged → List Entry → List Entry
+onto [] p = p
+onto (t ∷ ts) p = onto ts (t.entry ∷ p)
+
+abbrev pub newest_first : List Tagged → List Entry
+newest_first ts = onto ts []
+
+abbrev pub grown : Standing → List Tagged → List Entry
+grown s ts = onto ts s.path
+
+-- ---- the decision
+
+abbrev pub is_write : Op → Bool
+is_write (op.Put k v) = true
+is_write (op.Get k) = false
+is_write (op.Del k) = true
+is_write (op.List p) = false
+
+abbrev pub or_this : Option ℕ → Option ℕ → Option ℕ
+or_this (Some u) other = Some u
+or_this None other = other
+
+-- the least position above base at which the test finds an entry
+unfoldable pub least_above : ℕ → (Entry → Bool) → List Entry → Option ℕ
+least_above base test [] = None
+least_above base test (e ∷ path) =
+    or_this (least_above base test path) (if nat_lt base (length (e ∷ path)) && test e then Some (length (e ∷ path)) else None)
+
+-- another client's entry that conflicts with the operation
+abbrev pub is_in_the_way : ℕ → Op → Entry → Bool
+is_in_the_way me o e = not (nat_eq e.client me) && conflicts e.op o
+
+-- the least position above base whose entry is another client's and conflicts
+abbrev pub in_the_way : ℕ → Op → ℕ → List Entry → Option ℕ
+in_the_way me o base path = least_above base (is_in_the_way me o) path
+
+abbrev pub done_op : Dictionary → Own → Dictionary
+done_op d o = if o.done then after d o.op else d
+
+-- the part's dictionary with the own done calls above base laid over it, in order
+abbrev pub laid : List Own → ℕ → Dictionary → Dictionary
+laid own base d = fold done_op d (filter (λ o. nat_lt base o.position) own)
+
+abbrev pub decided : Option ℕ → Dictionary → Op → Outcome
+decided None d o = outcome.Done (reply d o)
+decided (Some u) d o = outcome.Aborted u
+
+-- what a client decides of its operation, given the path below it
+unfoldable pub decision : ℕ → Standing → List Entry → ℕ → Part → Op → Outcome
+decision me s below base part o = decided (in_the_way me o base below) (laid s.own base (walked part o)) o
+
+-- ---- the checks, each true where it passes
+
+abbrev pub same_op : Op → Op → Bool
+same_op (op.Put k v) (op.Put q w) = bytes_eq k q && bytes_eq v w
+same_op (op.Get k) (op.Get q) = bytes_eq k q
+same_op (op.Del k) (op.Del q) = bytes_eq k q
+same_op (op.List k) (op.List q) = bytes_eq k q
+same_op _ _ = false
+
+abbrev pub same_entry : Entry → Entry → Bool
+same_entry a b = nat_eq a.client b.client && (nat_eq a.seq b.seq && same_op a.op b.op)
+
+abbrev pub is_awaited : Awaiting → ToClient → Bool
+is_awaited (awaits.Reply n o load) (say.Reply seal entries part) = true
+is_awaited (awaits.Reply n o load) (say.Refused r) = true
+is_awaited awaits.Turn say.Wait = true
+is_awaited awaits.Turn (say.Update seal part) = true
+is_awaited awaits.Entries (say.Entries seal entries) = true
+is_awaited awaits.Kept say.Kept = true
+is_awaited awaits.Kept (say.Refused r) = true
+is_awaited (awaits.Content hash len) (say.Content c) = true
+is_awaited (awaits.Content hash len) say.Absent = true
+is_awaited _ _ = false
+
+-- 1: the kind is awaited, the part is one, and the lengths are within the limits
+abbrev pub has_form : Standing → ToClient → Bool
+has_form s (say.Reply seal entries part) =
+    let n = length s.path + length entries in
+    is_awaited s.awaiting (say.Reply seal entries part) && (is_some (read_part part) && (nat_le n 1048576 && (nat_lt seal.position n && nat_le (n - seal.position) 1024)))
+has_form s (say.Update seal part) =
+    is_awaited s.awaiting (say.Update seal part) && (is_some (read_part part) && (nat_le (length s.path) 1048576 && nat_le seal.position (length s.path)))
+has_form s (say.Entries seal entries) =
+    let n = length s.path + length entries in
+    is_awaited s.awaiting (say.Entries seal entries) && (nat_le n 1048576 && (nat_le seal.position n && nat_le (n - seal.position) 1024))
+has_form s m = is_awaited s.awaiting m
+
+-- the entry that the client awaits a Reply to
+abbrev pub is_open : ℕ → Awaiting → Entry → Bool
+is_open me (awaits.Reply n o load) e = same_entry e (record { client = me; seq = n; op = o })
+is_open me _ e = false
+
+abbrev pub is_other : ℕ → ℕ → Entry → Bool
+is_other count me e = nat_le e.client count && not (nat_eq e.client me)
+
+abbrev pub is_reply_to : ℕ → ℕ → Awaiting → List Entry → Bool
+is_reply_to count me a [] = false
+is_reply_to count me a (e ∷ others) = nat_le e.client count && (is_open me a e && list_all (is_other count me) others)
+
+-- 2: the last entry of a Reply is the open call, and every other entry is another member's
+abbrev pub has_members : Group → ℕ → Standing → ToClient → Bool
+has_members g me s (say.Reply seal entries part) = is_reply_to g.count me s.awaiting (newest_first entries)
+has_members g me s (say.Entries seal entries) = list_all (is_other g.count me) (newest_first entries)
+has_members g me s m = true
+
+abbrev pub is_tagged : List ℕ → Tagged → Bool
+is_tagged key t = bytes_eq t.tag.bytes (tag_of key (invoke_text t.entry))
+
+abbrev pub entries_of : ToClient → List Tagged
+entries_of (say.Reply seal entries part) = entries
+entries_of (say.Entries seal entries) = entries
+entries_of m = []
+
+abbrev pub seal_of : ToClient → Option Seal
+seal_of (say.Reply seal entries part) = Some seal
+seal_of (say.Update seal part) = Some seal
+seal_of (say.Entries seal entries) = Some seal
+seal_of m = None
+
+-- 3: the tag of each entry holds
+abbrev pub has_tags : Group → ToClient → Bool
+has_tags g m = list_all (is_tagged g.key) (entries_of m)
+
+-- 4: the seal isn't older than the highest one
+abbrev pub goes_on : Standing → Option Seal → Bool
+goes_on s None = true
+goes_on s (Some seal) = nat_le s.sealed seal.position
+
+-- the text of a seal of a position of a path, with its root
+unfoldable pub seal_text_on : Group → List Entry → ℕ → List ℕ → List ℕ
+seal_text_on g path position root = seal_text position (chain g (front position path)) root
+
+-- 5: the tag of the seal holds on this client's path
+abbrev pub is_sealed : Group → List Entry → Option Seal → Bool
+is_sealed g path None = true
+is_sealed g path (Some seal) = nat_eq seal.position 0 || bytes_eq seal.tag.bytes (tag_of g.key (seal_text_on g path seal.position seal.root.bytes))
+
+-- 6: no own unsealed call stands at or below the seal
+abbrev pub keeps_own : Standing → Option Seal → Bool
+keeps_own s None = true
+keeps_own s (Some seal) = list_all (λ o. nat_lt seal.position o.position) s.own
+
+abbrev pub shows : Option Part → List ℕ → Bool
+shows None root = false
+shows (Some part) root = bytes_eq (part_root part) root
+
+abbrev pub shows_walk : Option Part → Op → Bool
+shows_walk None o = false
+shows_walk (Some part) o = reaches part o
+
+abbrev pub shows_open : Option Part → Awaiting → Bool
+shows_open part (awaits.Reply n o load) = shows_walk part o
+shows_open part _ = true
+
+abbrev pub shows_own : Option Part → List Own → Bool
+shows_own part [] = true
+shows_own part (o ∷ others) = not (o.done && is_write o.op) || shows_walk part o.op
+
+-- 7: the part has the seal's root, and shows what the operation walks over
+abbrev pub is_proved : Standing → ToClient → Bool
+is_proved s (say.Reply seal entries part) = shows (read_part part) seal.root.bytes && shows_open (read_part part) s.awaiting
+is_proved s (say.Update seal part) = shows (read_part part) seal.root.bytes && shows_own (read_part part) s.own
+is_proved s m = true
+
+abbrev pub is_next : ℕ → List Own → Bool
+is_next position [] = false
+is_next position (o ∷ others) = nat_eq o.position position
+
+-- 8: in an Update the first own unsealed call stands just above the seal
+abbrev pub has_turn : Standing → ToClient → Bool
+has_turn s (say.Update seal part) = is_next (seal.position + 1) s.own
+has_turn s m = true
+
+-- the number of the first check that fails
+abbrev pub first_failing : List (ℕ × Bool) → Option ℕ
+first_failing [] = None
+first_failing (c ∷ cs) = if c.1 then first_failing cs else Some c.0
+
+abbrev pub verdict_on : Group → ℕ → Standing → Option ToClient → Option ℕ
+verdict_on g me s None = Some 1
+verdict_on g me s (Some m) = first_failing (
+    (1, has_form s m) ∷ (2, has_members g me s m) ∷ (3, has_tags g m) ∷ (4, goes_on s (seal_of m))
+    ∷ (5, is_sealed g (grown s (entries_of m)) (seal_of m)) ∷ (6, keeps_own s (seal_of m))
+    ∷ (7, is_proved s m) ∷ (8, has_turn s m) ∷ [])
+
+-- the check at which the client halts on a payload, if it doesn't pass
+unfoldable pub verdict : Group → ℕ → Standing → List ℕ → Option ℕ
+verdict g me s payload = verdict_on g me s (read_answer payload)
+
+-- ---- the step
+
+-- what a client sends. The numbers and hashes are those of where it then stands
+pub data Sending : Type 0 where
+  Invokes : (seq : ℕ) (o : Op) → Sending
+  Commits : (done : Bool) → Sending
+  Polls : Sending
+  Seals : Sending
+  Syncs : Sending
+
+-- where a client stands next, what it sends, and what it returns to its caller
+pub record Move : Type 0 where
+  pub next : Standing
+  pub sends : Option Sending
+  pub returns : Option Outcome
+
+abbrev pub moves : Standing → Option Sending → Option Outcome → Move
+moves s sends returns = record { next = s; sends = sends; returns = returns }
+
+-- the text of a commit of the last entry of a path
+unfoldable pub commit_text_on : Group → List Entry → Bool → List ℕ
+commit_text_on g path done = commit_text (length path) (chain g path) done
+
+-- the text whose tag goes with it
+abbrev pub made_text : Group → ℕ → Standing → Sending → Option (List ℕ)
+made_text g me s (Invokes n o) = Some (invoke_text (record { client = me; seq = n; op = o }))
+made_text g me s (Commits done) = Some (commit_text_on g s.path done)
+made_text g me s Polls = None
+made_text g me s Seals = Some (seal_text_on g s.path s.sealed s.root)
+made_text g me s Syncs = None
+
+abbrev pub digest : List ℕ → Digest32
+digest bytes = record { bytes = bytes }
+
+abbrev pub tag_for : Group → List ℕ → Digest32
+tag_for g text = digest (tag_of g.key text)
+
+-- the request that is sent
+abbrev pub request_of : Group → ℕ → Standing → Sending → ToServer
+request_of g me s (Invokes n o) = ask.Invoke (length s.path) n o (tag_for g (invoke_text (record { client = me; seq = n; op = o })))
+request_of g me s (Commits done) = ask.Commit (length s.path) done (tag_for g (commit_text_on g s.path done))
+request_of g me s Polls = ask.Poll
+request_of g me s Seals = ask.Seal s.sealed (digest s.root) (tag_for g (seal_text_on g s.path s.sealed s.root))
+request_of g me s Syncs = ask.Sync (length s.path)
+
+-- the payload that carries it
+abbrev pub payload_of : Group → ℕ → Standing → Option Sending → Option (List ℕ)
+payload_of g me s None = None
+payload_of g me s (Some sending) = Some (request_text (request_of g me s sending))
+
+abbrev pub is_done : Outcome → Bool
+is_done (outcome.Done a) = true
+is_done (outcome.Aborted u) = false
+is_done (outcome.Refused r) = false
+is_done (outcome.Halted k) = false
+
+abbrev pub halts : Standing → ℕ → Move
+halts s k = moves (record s { halted = Some k }) None (Some (outcome.Halted k))
+
+-- the call is decided: its path, the seal of the Reply, and the call as own and unsealed
+abbrev pub replied_to : Standing → List Entry → ℕ → List ℕ → List Own → Outcome → Move
+replied_to s p base root own ends =
+    moves (record s { path = p; sealed = base; root = root; awaiting = awaits.Turn; own = own }) (Some (Commits (is_done ends))) (Some ends)
+
+-- after a Reply whose last entry is the open call
+abbrev pub replied : ℕ → Standing → Seal → List Entry → Option Part → Awaiting → Move
+replied me s seal (e ∷ below) (Some part) (awaits.Reply n o load) =
+    let ends = decision me s below seal.position part o in
+    replied_to s (e ∷ below) seal.position seal.root.bytes (s.own ++ record { position = length (e ∷ below); op = o; done = is_done ends } ∷ []) ends
+replied me s seal path part a = halts s 1
+
+-- the root after an own call is sealed
+abbrev pub new_root : Own → Part → List ℕ → List ℕ
+new_root o part root = if o.done && is_write o.op then root_after part o.op else root
+
+-- a position is sealed, with its root; the own calls above it are left
+abbrev pub sealed_to : Standing → ℕ → List ℕ → List Own → Move
+sealed_to s position root own = moves (record s { sealed = position; root = root; own = own; awaiting = awaits.Turn }) (Some Seals) None
+
+-- after an Update: the first own unsealed call is sealed
+abbrev pub updated : Standing → Seal → Option Part → List Own → Move
+updated s seal (Some part) (o ∷ others) = sealed_to s (seal.position + 1) (new_root o part seal.root.bytes) others
+updated s seal part own = halts s 1
+
+-- after Entries: the path grows, and the seal is theirs
+abbrev pub listed_to : Standing → List Entry → ℕ → List ℕ → Move
+listed_to s p base root = moves (record s { path = p; sealed = base; root = root; awaiting = awaits.Nothing }) None None
+
+-- the effect of an answer that passed the checks; no other kind passes
+abbrev pub taken : ℕ → Standing → ToClient → Move
+taken me s (say.Reply seal entries part) = replied me s seal (grown s entries) (read_part part) s.awaiting
+taken me s say.Wait = moves (record s { awaiting = awaits.Nothing }) None None
+taken me s (say.Update seal part) = updated s seal (read_part part) s.own
+taken me s (say.Entries seal entries) = listed_to s (grown s entries) seal.position seal.root.bytes
+taken me s (say.Refused r) = moves (record s { awaiting = awaits.Nothing }) None (Some (outcome.Refused r))
+taken me s m = halts s 1
+
+abbrev pub taken_or_halts : ℕ → Standing → Option ToClient → Option ℕ → Move
+taken_or_halts me s m (Some k) = halts s k
+taken_or_halts me s (Some m) None = taken me s m
+taken_or_halts me s None None = halts s 1
+
+-- a halted client returns the same number again
+abbrev pub on_payload : Group → ℕ → Standing → Option ℕ → List ℕ → Move
+on_payload g me s (Some k) payload = halts s k
+on_payload g me s None payload = taken_or_halts me s (read_answer payload) (verdict g me s payload)
+
+-- one step of a client
+unfoldable pub step : Group → ℕ → Standing → Input → Move
+step g me s (input.Call o) = moves (record s { calls = s.calls + 1; awaiting = awaits.Reply (s.calls + 1) o false }) (Some (Invokes (s.calls + 1) o)) None
+step g me s input.Poll = moves (record s { awaiting = awaits.Turn }) (Some Polls) None
+step g me s input.Sync = moves (record s { awaiting = awaits.Entries }) (Some Syncs) None
+step g me s (input.Payload payload) = on_payload g me s s.halted payload
+
+-- ---- when a step may be made
+
+abbrev pub awaits_nothing : Awaiting → Bool
+awaits_nothing awaits.Nothing = true
+awaits_nothing _ = false
+
+abbrev pub IsIdle : Standing → Type 0
+IsIdle s = IsTrue (awaits_nothing s.awaiting && is_none s.halted)
+
+-- what a client may be asked to do where it stands. A number in a text is a byte, as the type of the program says
+abbrev pub MayStep : Group → Standing → Input → Type 0
+MayStep g s (input.Call o) = IsIdle s × ((g.mode ≡ mode.Plain) × (Fits o × (AreBytesIn o × (s.calls + 1 < 2 ^ 32))))
+MayStep g s input.Poll = IsIdle s
+MayStep g s input.Sync = IsIdle s
+MayStep g s (input.Payload payload) = AreBytes payload

@@ -1,0 +1,5 @@
+pub mod Client
+pub mod History
+pub mod Views
+pub mod Trust
+pub mod Headline

@@ -1,0 +1,10 @@
+//! The rules of a client, the histories of a group, the views that they give, and the claim on those views.
+//!
+//! This crate holds the types that contracts see, and the definitions in `specs/`; `specs/Headline.antt` is the claim.
+#![tactic(auto)]
+
+pub mod state;
+pub mod trace;
+
+pub use state::{Awaiting, Own};
+pub use trace::{Input, Shown, TraceStep};
