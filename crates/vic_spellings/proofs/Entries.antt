@@ -17,7 +17,7 @@ use Rattle.vic_wire.specs.Hashes.{empty_root}
 use Rattle.vic_wire.specs.Messages.{IsEntry, IsSeal, IsTagged, IsDigest, seal_field, tagged_field, entries_field}
 use Rattle.vic_wire.specs.Reading.{FieldFault, Value, ◌>>=◌, byte_at, number_at, allowed, digest_at, op_at, entry_at, tagged_at, tagged_list_at, entries_at, seal_after, seal_at}
 use Rattle.vic_spellings.proofs.Steps.{bind_ok, allowed_ok, chosen, ok_is, Takes, Takes-none, Takes-then, Takes-cons}
-use Rattle.vic_spellings.proofs.Fields.{byte_takes, w16_takes, w16_again, w32_takes, w32_again, digest_takes, digest_again}
+use Rattle.vic_spellings.proofs.Fields.{within_takes, positive_takes, w16_takes, w16_again, w32_again, digest_takes, digest_again}
 use Rattle.vic_spellings.proofs.Operations.{op_takes, op_again}
 
 -- ---- entries
@@ -30,20 +30,12 @@ entry_takes bytes x fits e =
     let c = bind_ok (number_at w32 b.0.1) (λ s. allowed (ltb 0 s.0) s >>= λ seq. op_at seq.1 >>= λ o. Ok (record { client = b.0.0; seq = seq.0; op = o.0 }, o.1)) x b.2 in
     let d = bind_ok (allowed (ltb 0 c.0.0) c.0) (λ seq. op_at seq.1 >>= λ o. Ok (record { client = b.0.0; seq = seq.0; op = o.0 }, o.1)) x c.2 in
     let f = bind_ok (op_at d.0.1) (λ o. Ok (record { client = b.0.0; seq = d.0.0; op = o.0 }, o.1)) x d.2 in
-    let member = allowed_ok (ltb 0 a.0.0 && leb a.0.0 64) a.0 b.0 b.1 in
-    let tests = and_parts (ltb 0 a.0.0) (leb a.0.0 64) member.0 in
-    let counted = allowed_ok (ltb 0 c.0.0) c.0 d.0 d.1 in
-    let first = byte_takes bytes a.0 fits a.1 in
-    let low : 0 < b.0.0 = subst (λ (y : ℕ × List ℕ). 0 < y.0) member.1 (ltb-true 0 a.0.0 tests.0) in
-    let high : b.0.0 ≤ 64 = subst (λ (y : ℕ × List ℕ). y.0 ≤ 64) member.1 (leb-true a.0.0 64 tests.1) in
-    let begun : (bytes ≡ b.0.0 ∷ b.0.1) × AreBytes b.0.1 = subst (λ (y : ℕ × List ℕ). (bytes ≡ y.0 ∷ y.1) × AreBytes y.1) member.1 (first.0, first.2) in
-    let number = w32_takes b.0.1 c.0 begun.1 c.1 in
-    let seq : Takes b.0.1 (to_be_bytes w32 d.0.0) d.0.1 × (d.0.0 < 2 ^ 32) = subst (λ (y : ℕ × List ℕ). Takes b.0.1 (to_be_bytes w32 y.0) y.1 × (y.0 < 2 ^ 32)) counted.1 number in
-    let positive : 0 < d.0.0 = subst (λ (y : ℕ × List ℕ). 0 < y.0) counted.1 (ltb-true 0 c.0.0 counted.0) in
+    let client = within_takes 64 bytes a.0 b.0 fits a.1 b.1 in
+    let seq = positive_takes b.0.1 c.0 d.0 client.2 c.1 d.1 in
     let o = op_takes d.0.1 f.0 seq.0.rest_fits f.1 in
     let made : Entry × List ℕ = (record { client = b.0.0; seq = d.0.0; op = f.0.0 }, f.0.1) in
-    let whole : Takes bytes (entry_text made.0) made.1 = subst (λ (t : List ℕ). Takes t (entry_text made.0) made.1) (sym begun.0) (Takes-cons b.0.0 b.0.1 _ _ (Takes-then b.0.1 (to_be_bytes w32 d.0.0) d.0.1 (op_text f.0.0) f.0.1 seq.0 o.0)) in
-    subst (λ (y : Entry × List ℕ). Takes bytes (entry_text y.0) y.1 × IsEntry y.0) (ok_is made x f.2) (whole, record { client = (low, high); seq = (positive, seq.1); op = (o.1, o.2) })
+    let whole : Takes bytes (entry_text made.0) made.1 = subst (λ (t : List ℕ). Takes t (entry_text made.0) made.1) (sym client.0) (Takes-cons b.0.0 b.0.1 (to_be_bytes w32 d.0.0 ++ op_text f.0.0) f.0.1 (Takes-then b.0.1 (to_be_bytes w32 d.0.0) d.0.1 (op_text f.0.0) f.0.1 seq.0 o.0)) in
+    subst (λ (y : Entry × List ℕ). Takes bytes (entry_text y.0) y.1 × IsEntry y.0) {x = made} (ok_is made x f.2) (whole, record { client = client.1; seq = seq.1; op = (o.1, o.2) })
 
 pub entry_again : (e : Entry) (rest : List ℕ) → IsEntry e → entry_at (entry_text e ++ rest) ≡ Ok (e, rest)
 unfolding entry_at

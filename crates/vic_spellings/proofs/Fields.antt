@@ -1,13 +1,13 @@
 -- Numbers, digests and short texts: what is read is what was spelled, and what is spelled is read again.
 use Rattle.std.proofs.Common.{◌≡◌, ℕ, zero, suc, ◌+◌, ◌^◌, ◌<◌, ◌≤◌, Bool, true, false, cond, ltb, leb, ◌&&◌, List, [], ◌∷◌, ◌++◌, length, get_or, take, drop, Result, Ok, Err, refl, sym, ap, subst, ◌∙◌, append_assoc, arith}
 use Rattle.std.specs.Int.{Width, w16, w32, byte_len, from_be_bytes, to_be_bytes}
-use Rattle.std.proofs.lemmas.Bool.{ltb-false, le-ltb, leb-true, le-leb, and_parts, and_from}
+use Rattle.std.proofs.lemmas.Bool.{ltb-true, ltb-false, le-ltb, leb-true, le-leb, and_parts, and_from}
 use Rattle.std.proofs.lemmas.List.{take_at, drop_at, take-append-drop, length-append, length-take}
 use Rattle.std.proofs.lemmas.Nat.{be_bytes_2, be_bytes_4, from_be_bytes-to_be_bytes_2, from_be_bytes-to_be_bytes_4}
 use Rattle.vic_dict.specs.Lists.{AreBytes}
 use Rattle.vic_wire.specs.declared.message.Digest32.{Digest32}
 use Rattle.vic_wire.specs.Texts.{short_text}
-use Rattle.vic_wire.specs.Messages.{IsDigest}
+use Rattle.vic_wire.specs.Messages.{IsDigest, IsNumber}
 use Rattle.vic_wire.specs.Reading.{FieldFault, Short, ◌>>=◌, byte_at, bytes_at, number_at, allowed, digest_at, short_at}
 use Rattle.vic_spellings.proofs.Steps.{bytes-rest, bytes-drop, bytes-take, bind_ok, guard_ok, allowed_ok, ok_is, Takes, Takes-then, Takes-cons}
 
@@ -82,6 +82,22 @@ w32_takes bytes x fits e = number_takes w32 (2 ^ 32) wide32 bytes x fits e
 
 pub w32_again : (n : ℕ) (rest : List ℕ) → n < 2 ^ 32 → number_at w32 (to_be_bytes w32 n ++ rest) ≡ Ok (n, rest)
 w32_again n rest lt = number_again w32 (2 ^ 32) wide32 n rest lt
+
+-- a number that isn't 0
+pub positive_takes : (bytes : List ℕ) (x y : ℕ × List ℕ) → AreBytes bytes → number_at w32 bytes ≡ Ok x → allowed (ltb 0 x.0) x ≡ Ok y → Takes bytes (to_be_bytes w32 y.0) y.1 × IsNumber y.0
+positive_takes bytes x y fits e f =
+    let a = allowed_ok (ltb 0 x.0) x y f in
+    let t = w32_takes bytes x fits e in
+    subst (λ (z : ℕ × List ℕ). Takes bytes (to_be_bytes w32 z.0) z.1 × IsNumber z.0) a.1 (t.0, (ltb-true 0 x.0 a.0, t.1))
+
+-- a byte from 1 up to a bound
+pub within_takes : (most : ℕ) (bytes : List ℕ) (x y : ℕ × List ℕ) → AreBytes bytes → byte_at bytes ≡ Ok x → allowed (ltb 0 x.0 && leb x.0 most) x ≡ Ok y
+    → (bytes ≡ y.0 ∷ y.1) × ((0 < y.0) × (y.0 ≤ most)) × AreBytes y.1
+within_takes most bytes x y fits e f =
+    let a = allowed_ok (ltb 0 x.0 && leb x.0 most) x y f in
+    let tests = and_parts (ltb 0 x.0) (leb x.0 most) a.0 in
+    let t = byte_takes bytes x fits e in
+    subst (λ (z : ℕ × List ℕ). (bytes ≡ z.0 ∷ z.1) × ((0 < z.0) × (z.0 ≤ most)) × AreBytes z.1) a.1 (t.0, (ltb-true 0 x.0 tests.0, leb-true x.0 most tests.1), t.2)
 
 -- ---- digests
 
