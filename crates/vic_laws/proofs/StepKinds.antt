@@ -319,7 +319,11 @@ halts_kind g me k s b alive = is_quiet (quiet_halt g me k s b (λ j e. absurd cc
 part_bytes : (b before part : List ℕ) → AreBytes b → b ≡ before ++ part → AreBytes part
 part_bytes b before part h e = are_bytes_after before part (subst AreBytes e h)
 
-module _ (answer_fits : (b : List ℕ) (m : ToClient) → AreBytes b → read_answer b ≡ Some m → HasSpelling m × (b ≡ answer_text m)) where
+-- what is read in a payload has a spelling, which the payload is
+abbrev pub AnswerFits : Type 0
+AnswerFits = (b : List ℕ) (m : ToClient) → AreBytes b → read_answer b ≡ Some m → HasSpelling m × (b ≡ answer_text m)
+
+module _ (answer_fits : AnswerFits) where
   taken_kind : (g : Group) (me : ℕ) (s : Standing) (b : List ℕ) (m : ToClient) → s.halted ≡ None → AreBytes b → read_answer b ≡ Some m → Passes g me s m
       → b ≡ answer_text m → Kind g me s (input.Payload b) (taken me s m)
   taken_kind g me s b say.Hi alive h read passes text = halts_kind g me 1 s b alive
