@@ -16,6 +16,7 @@ use Rattle.vic_wire.specs.Texts.{op_text, entry_text, empty_text}
 use Rattle.vic_wire.specs.Hashes.{empty_root}
 use Rattle.vic_wire.specs.Messages.{IsEntry, IsSeal, IsTagged, IsDigest, seal_field, tagged_field, entries_field}
 use Rattle.vic_wire.specs.Reading.{FieldFault, Value, ◌>>=◌, byte_at, number_at, allowed, digest_at, op_at, entry_at, tagged_at, tagged_list_at, entries_at, seal_after, seal_at}
+use Rattle.vic_spellings.specs.Spellings.{HaveByteTags}
 use Rattle.vic_spellings.proofs.Steps.{bind_ok, allowed_ok, chosen, ok_is, Takes, Takes-none, Takes-then, Takes-cons}
 use Rattle.vic_spellings.proofs.Fields.{within_takes, positive_takes, w16_takes, w16_again, w32_again, digest_takes, digest_again}
 use Rattle.vic_spellings.proofs.Operations.{op_takes, op_again}
@@ -61,10 +62,6 @@ unfolding tagged_at
 tagged_again t rest fits =
     let regrouped : tagged_field t ++ rest ≡ entry_text t.entry ++ (t.tag.bytes ++ rest) = append_assoc (entry_text t.entry) t.tag.bytes rest in
     ap tagged_at regrouped ∙ rw (entry_again t.entry (t.tag.bytes ++ rest) fits.entry, digest_again t.tag rest fits.tag) refl
-
--- the tags of a list are bytes
-abbrev pub HaveByteTags : List Tagged → Type 0
-HaveByteTags ts = AllByRecursion (λ t. AreBytes t.tag.bytes) ts
 
 pub tagged_list_takes : (n : ℕ) (bytes : List ℕ) (x : List Tagged × List ℕ) → AreBytes bytes → tagged_list_at n bytes ≡ Ok x
     → Takes bytes (flat_map tagged_field x.0) x.1 × (length x.0 ≡ n) × AllByRecursion IsTagged x.0 × HaveByteTags x.0

@@ -4,3 +4,4 @@ pub mod Fields
 pub mod Operations
 pub mod Entries
 pub mod Seals
+pub mod Answers

@@ -10,13 +10,10 @@ use Rattle.vic_wire.specs.Texts.{empty_text}
 use Rattle.vic_wire.specs.Hashes.{empty_root}
 use Rattle.vic_wire.specs.Messages.{IsSeal, IsDigest, seal_field}
 use Rattle.vic_wire.specs.Reading.{FieldFault, ◌>>=◌, number_at, digest_at, seal_after, seal_at}
+use Rattle.vic_spellings.specs.Spellings.{HasBytes}
 use Rattle.vic_spellings.proofs.Steps.{bind_ok, chosen, ok_is, Takes, Takes-then}
 use Rattle.vic_spellings.proofs.Bytes.{bytes-sha256, bytes-replicate}
 use Rattle.vic_spellings.proofs.Fields.{w32_takes, w32_again, digest_takes, digest_again}
-
--- the root and the tag of a seal are bytes
-abbrev pub HasBytes : Seal → Type 0
-HasBytes s = AreBytes s.root.bytes × AreBytes s.tag.bytes
 
 -- the seal of position 0
 abbrev pub first_seal : Seal
