@@ -1,6 +1,7 @@
-//! The laws of histories, over the definitions alone.
+//! The laws of histories: what holds of every lawful history, whatever the payloads hold.
 //!
-//! Each law is the contract of a public function without parameters; the statements stand in `specs/`.
+//! This crate has no code of its own. `specs/Claims.antt` states the laws over the definitions of `vic_rules`, and each is the
+//! contract of a function without parameters and with an empty body.
 #![tactic(auto)]
 
 pub mod order;
