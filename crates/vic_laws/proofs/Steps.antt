@@ -1,9 +1,8 @@
 -- What a step of a client does: one of five kinds, with all that the checks showed.
-use Rattle.std.specs.Prelude.{◌≡◌, ◌≢◌, ℕ, ◌+◌, ◌-◌, ◌<◌, ◌≤◌, ◌^◌, ◌⊎◌, Bool, true, false, List, [], ◌∷◌, ◌++◌, length, Option, Some, None}
+use Rattle.std.specs.Prelude.{◌≡◌, ℕ, ◌+◌, ◌<◌, ◌≤◌, ◌^◌, ◌⊎◌, Bool, true, false, List, [], ◌∷◌, ◌++◌, length, Some, None}
 use Rattle.std.specs.List.{AllByRecursion}
 use Rattle.vic_dict.specs.declared.op.Op.{Op}
 use Rattle.vic_dict.specs.declared.op.Entry.{Entry}
-use Rattle.vic_dict.specs.declared.op.Outcome.{Outcome}
 use Rattle.vic_dict.specs.declared.op.Mode.TheVariants as mode
 use Rattle.vic_dict.specs.Lists.{IsIn, AreBytes}
 use Rattle.vic_dict.specs.Dictionary.{Fits, AreBytesIn}
@@ -15,14 +14,12 @@ use Rattle.vic_wire.specs.Texts.{invoke_text}
 use Rattle.vic_wire.specs.Hashes.{Group, tag_of}
 use Rattle.vic_wire.specs.Messages.{HasSpelling, IsEntry, IsSeal}
 use Rattle.vic_wire.specs.Parts.{Part, read_part, part_root}
-use Rattle.vic_wire.specs.Reading.{read_answer}
 use Rattle.vic_rules.specs.declared.state.Own.{Own}
-use Rattle.vic_rules.specs.declared.state.Awaiting.{Awaiting}
 use Rattle.vic_rules.specs.declared.state.Awaiting.TheVariants as awaits
 use Rattle.vic_rules.specs.declared.trace.Input.{Input}
 use Rattle.vic_rules.specs.declared.trace.Input.TheVariants as input
-use Rattle.vic_rules.specs.Client.{Standing, Move, Sending, Invokes, moves, IsIdle, decision, is_done, new_root, replied_to, sealed_to, listed_to, has_form, has_members, has_tags, goes_on, is_sealed, keeps_own, is_proved, has_turn, entries_of, seal_of, grown, newest_first, seal_text_on}
-use Rattle.vic_rules.specs.History.{Completion, completion}
+use Rattle.vic_rules.specs.Client.{Standing, Move, Invokes, moves, IsIdle, decision, is_done, new_root, replied_to, sealed_to, listed_to, has_form, has_members, has_tags, goes_on, is_sealed, keeps_own, is_proved, has_turn, entries_of, seal_of, grown, newest_first, seal_text_on}
+use Rattle.vic_rules.specs.History.{completion}
 use Rattle.vic_rules.specs.Trust.{taken_by, checked_texts, text_sent, parts_in}
 use Rattle.vic_rules.specs.Views.{IsCall}
 
