@@ -1,4 +1,4 @@
-use Rattle.vic_laws.proofs.prefixes.Goals as goal
+use Rattle.vic_laws.proofs.trust.prefixes.Goals as goal
 use Rattle.vic_laws.proofs.Paths.{hashes_tell_paths}
 
 pub returns : goal.returns

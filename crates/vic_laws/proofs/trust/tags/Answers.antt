@@ -1,4 +1,4 @@
-use Rattle.vic_laws.proofs.tags.Goals as goal
+use Rattle.vic_laws.proofs.trust.tags.Goals as goal
 use Rattle.vic_laws.proofs.TagsHeld.{tags_hold}
 
 pub returns : goal.returns
