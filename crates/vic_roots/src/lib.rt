@@ -3,9 +3,14 @@
 //! Each law is the contract of a function without parameters and with an empty body; its words stand in `specs/Roots.antt`.
 #![tactic(auto)]
 
-ghost use Rattle.vic_roots.specs.Roots.{KeepsProper};
+ghost use Rattle.vic_roots.specs.Roots.{KeepsProper, OneRootOneDictionary};
 
 /// Operations and reading keep each key within 1 to 255 bytes and each value within 64.
 pub fn keeps_proper()
     ensures { KeepsProper }
+{}
+
+/// Two dictionaries of one root are the same, unless two texts of their nodes have one hash.
+pub fn one_root()
+    ensures { OneRootOneDictionary }
 {}
