@@ -70,8 +70,8 @@ pub same_completion : (g : Group) (h : List TraceStep) → AreSteps g h → (c d
     → (e f : Entry) (p q : List Entry) → c.prefix ≡ e ∷ p → d.prefix ≡ f ∷ q → IsSameCall e f → c ≡ d
 same_completion g h steps c d hc hd e f p q ec ed same =
     one_completion g h steps c d hc hd
-        (completion_owner g h steps c hc e p ec ∙ same.0 ∙ sym (completion_owner g h steps d hd f q ed))
-        (ap number_of ec ∙ same.1 ∙ sym (ap number_of ed))
+    (completion_owner g h steps c hc e p ec ∙ same.0 ∙ sym (completion_owner g h steps d hd f q ed))
+    (ap number_of ec ∙ same.1 ∙ sym (ap number_of ed))
 
 -- the path of a completion is confirmed by it
 pub confirmed_by : (g : Group) (h : List TraceStep) → AreSteps g h → (p : List Entry) (c : Completion) → IsIn (completions g h) c → c.prefix ≡ p → confirmed (completions g h) p ≡ Some c
@@ -80,13 +80,14 @@ confirmed_by g h steps p c w e =
     let tells : IsIn (completions g h) found.0 × (found.0.prefix ≡ p) = confirmed_tells (completions g h) p found.0 found.1 in
     let n : Numbered c = numbered g h steps c w in
     let same : found.0 ≡ c =
-        same_completion g h steps found.0 c tells.0 w n.entry n.entry n.below n.below (tells.1 ∙ sym e ∙ n.is) n.is (refl, refl) in
+    same_completion g h steps found.0 c tells.0 w n.entry n.entry n.below n.below (tells.1 ∙ sym e ∙ n.is) n.is (refl, refl) in
     found.1 ∙ ap Some same
 
 pub confirmed_is : ConfirmedIs
 confirmed_is g h lawful p c = (
-    confirmed_tells (completions g h) p c,
-    λ w. confirmed_by g h lawful.steps p c w.0 w.1)
+  confirmed_tells (completions g h) p c,
+  λ w. confirmed_by g h lawful.steps p c w.0 w.1,
+)
 
 pub confirmed_by_owner : ConfirmedByOwner
 confirmed_by_owner g h lawful e below c is =
@@ -118,14 +119,14 @@ tail_of x y v w e = cc
 
 shown_above : (cs : List Completion) (e : Entry) (p : List Entry) (x : Shown) (older : List Shown) → ShownAt cs p x older → ShownAt cs (e ∷ p) x older
 shown_above cs e p x older s = record {
-    above = e ∷ s.above;
-    entry = s.entry;
-    below = s.below;
-    by = s.by;
-    is = ap (λ (q : List Entry). e ∷ q) s.is;
-    confirms = s.confirms;
-    shown = s.shown;
-    rest = s.rest;
+  above = e ∷ s.above;
+  entry = s.entry;
+  below = s.below;
+  by = s.by;
+  is = ap (λ (q : List Entry). e ∷ q) s.is;
+  confirms = s.confirms;
+  shown = s.shown;
+  rest = s.rest;
 }
 
 shown_more : (cs : List Completion) (e : Entry) (p : List Entry) (newer : List Shown) (x : Shown) (older : List Shown)
@@ -133,14 +134,14 @@ shown_more : (cs : List Completion) (e : Entry) (p : List Entry) (newer : List S
     → ((newer : List Shown) → confirmed_calls cs p ≡ newer ++ x ∷ older → ShownAt cs p x older) → ShownAt cs (e ∷ p) x older
 shown_more cs e p newer x older None c is before = shown_above cs e p x older (before newer is)
 shown_more cs e p [] x older (Some b) c is before = record {
-    above = [];
-    entry = e;
-    below = p;
-    by = b;
-    is = refl;
-    confirms = c;
-    shown = sym (head_of (record { entry = e; outcome = b.outcome }) x (confirmed_calls cs p) older is);
-    rest = sym (tail_of (record { entry = e; outcome = b.outcome }) x (confirmed_calls cs p) older is);
+  above = [];
+  entry = e;
+  below = p;
+  by = b;
+  is = refl;
+  confirms = c;
+  shown = sym (head_of (record { entry = e; outcome = b.outcome }) x (confirmed_calls cs p) older is);
+  rest = sym (tail_of (record { entry = e; outcome = b.outcome }) x (confirmed_calls cs p) older is);
 }
 shown_more cs e p (y ∷ newer) x older (Some b) c is before =
     shown_above cs e p x older (before newer (tail_of (record { entry = e; outcome = b.outcome }) y (confirmed_calls cs p) (newer ++ x ∷ older) is))
@@ -192,8 +193,9 @@ same_place g h steps p q x y v w s t same =
     let ex : x.entry ≡ s.entry = shown_entry cs p x v s in
     let ey : y.entry ≡ t.entry = shown_entry cs q y w t in
     let call : IsSameCall s.entry t.entry = (
-        sym (ap (λ (e : Entry). e.client) ex) ∙ same.0 ∙ ap (λ (e : Entry). e.client) ey,
-        sym (ap (λ (e : Entry). e.seq) ex) ∙ same.1 ∙ ap (λ (e : Entry). e.seq) ey) in
+      sym (ap (λ (e : Entry). e.client) ex) ∙ same.0 ∙ ap (λ (e : Entry). e.client) ey,
+      sym (ap (λ (e : Entry). e.seq) ex) ∙ same.1 ∙ ap (λ (e : Entry). e.seq) ey,
+    ) in
     sym a.1 ∙ ap (λ (c : Completion). c.prefix) (same_completion g h steps s.by t.by a.0 b.0 s.entry t.entry s.below t.below a.1 b.1 call) ∙ b.1
 
 paths_agree : (g : Group) (h : List TraceStep) → AreSteps g h → (p q : List Entry) → Agree (confirmed_calls (completions g h) p) (confirmed_calls (completions g h) q)

@@ -59,8 +59,8 @@ after_first a x y e = cc
 pub seal_text_told : (n m : ℕ) (a b r q : List ℕ) → n < 2 ^ 32 → m < 2 ^ 32 → length a ≡ length b → seal_text n a r ≡ seal_text m b q → (n ≡ m) × (a ≡ b) × (r ≡ q)
 seal_text_told n m a b r q small few l e =
     let outer = append_same (to_be_bytes w32 n ++ a) (to_be_bytes w32 m ++ b) r q
-      (omega (arith, length-append (to_be_bytes w32 n) a, length-append (to_be_bytes w32 m) b))
-      (after_first 19 (to_be_bytes w32 n ++ a ++ r) (to_be_bytes w32 m ++ b ++ q) e) in
+    (omega (arith, length-append (to_be_bytes w32 n) a, length-append (to_be_bytes w32 m) b))
+    (after_first 19 (to_be_bytes w32 n ++ a ++ r) (to_be_bytes w32 m ++ b ++ q) e) in
     let inner = append_same (to_be_bytes w32 n) (to_be_bytes w32 m) a b refl outer.0 in
     (sym (from_be_bytes-to_be_bytes_4 n small) ∙ (ap (from_be_bytes w32) inner.0 ∙ from_be_bytes-to_be_bytes_4 m few), inner.1, outer.1)
 
@@ -78,16 +78,16 @@ pub record MadeSeal (g : Group) (IsOne : List ℕ → Type 0) (cs : List Complet
 
 pub made_stays : (g : Group) (IsOne : List ℕ → Type 0) (ds cs : List Completion) (t : List ℕ) → MadeSeal g IsOne cs t → MadeSeal g IsOne (ds ++ cs) t
 made_stays g IsOne ds cs t m = record {
-    position = m.position;
-    root = m.root;
-    front = m.front;
-    is = m.is;
-    small = m.small;
-    spelled = m.spelled;
-    texts = m.texts;
-    all = all_confirmed_stays ds cs m.front m.all;
-    is_root = m.is_root ∙ ap (λ v. dictionary_root (left_by v)) (sym (confirmed_calls_stay ds cs m.front m.all));
-  }
+  position = m.position;
+  root = m.root;
+  front = m.front;
+  is = m.is;
+  small = m.small;
+  spelled = m.spelled;
+  texts = m.texts;
+  all = all_confirmed_stays ds cs m.front m.all;
+  is_root = m.is_root ∙ ap (λ v. dictionary_root (left_by v)) (sym (confirmed_calls_stay ds cs m.front m.all));
+}
 
 -- the seal whose text was made so holds of each front that the text tells
 pub made_holds : (g : Group) (IsOne : List ℕ → Type 0) → IsOne (genesis_text g.mode g.count) → (TwoTexts IsOne → ⊥) → (cs : List Completion) (n : ℕ) (q : List Entry) (root : List ℕ)

@@ -1,6 +1,6 @@
 //! The laws on tags, hashes and seals.
 
-ghost use Rattle.vic_laws.specs.Claims.{HashesTellPaths, TagsHold};
+ghost use Rattle.vic_laws.specs.Claims.{HashesTellPaths, SealsHold, TagsHold};
 
 /// One hash tells one path.
 pub fn prefixes()
@@ -10,4 +10,9 @@ pub fn prefixes()
 /// What a client takes came with its tag.
 pub fn tags()
     ensures { TagsHold }
+{}
+
+/// What a seal says holds.
+pub fn seals()
+    ensures { SealsHold }
 {}
