@@ -1,0 +1,6 @@
+pub mod Steps
+pub mod Bytes
+pub mod Fields
+pub mod Operations
+pub mod Entries
+pub mod Seals
