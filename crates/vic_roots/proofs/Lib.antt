@@ -1,0 +1,4 @@
+pub mod Keys
+pub mod Bytes
+pub mod Spelled
+pub mod Proper

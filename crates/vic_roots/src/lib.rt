@@ -1,0 +1,11 @@
+//! What the root of a dictionary tells, and what the spelling of a part tells: statements with their proofs, and no code that runs.
+//!
+//! Each law is the contract of a function without parameters and with an empty body; its words stand in `specs/Roots.antt`.
+#![tactic(auto)]
+
+ghost use Rattle.vic_roots.specs.Roots.{KeepsProper};
+
+/// Operations and reading keep each key within 1 to 255 bytes and each value within 64.
+pub fn keeps_proper()
+    ensures { KeepsProper }
+{}
