@@ -1,2 +1,4 @@
 pub mod Words
 pub mod Standing
+pub mod Spoken
+pub mod Serving
