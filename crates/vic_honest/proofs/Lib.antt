@@ -2,3 +2,4 @@ pub mod Words
 pub mod Standing
 pub mod Spoken
 pub mod Serving
+pub mod Taking

@@ -36,7 +36,7 @@ use Rattle.vic_honest.proofs.Words.{front-joined, front-entries, entries-joined,
 use Rattle.vic_honest.proofs.Spoken.{TaggedBytes, seal_bytes, entries_bytes, part_bytes, tag_bytes}
 use Rattle.vic_honest.proofs.Standing.{EntryFits, SealFits, ServerFits, StandingFits, RequestGoes, AnswerComes, OfSeal}
 
-length-tag : (key text : List ℕ) → length (tag_of key text) ≡ 32
+pub length-tag : (key text : List ℕ) → length (tag_of key text) ≡ 32
 unfolding tag_of
 length-tag key text = length-sha256 _
 
