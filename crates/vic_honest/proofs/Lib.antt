@@ -3,3 +3,4 @@ pub mod Standing
 pub mod Spoken
 pub mod Serving
 pub mod Taking
+pub mod Worlds
