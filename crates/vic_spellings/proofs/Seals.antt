@@ -1,14 +1,13 @@
 -- Seals: what is read is what was spelled, and what is spelled is read again.
-use Rattle.std.proofs.Common.{◌≡◌, ℕ, zero, suc, ◌+◌, ◌^◌, ◌<◌, Bool, true, false, cond, eqb, List, [], ◌∷◌, ◌++◌, length, replicate, Result, Ok, Err, refl, sym, ap, subst, ◌∙◌, append_assoc, arith, inl, inr, ◌⊎◌}
+use Rattle.std.proofs.Common.{◌≡◌, ℕ, ◌^◌, ◌<◌, false, eqb, List, ◌++◌, replicate, Result, Ok, refl, sym, ap, subst, ◌∙◌, append_assoc, arith, inl, inr}
 use Rattle.std.specs.Int.{w32, to_be_bytes}
 use Rattle.std.proofs.lemmas.Bool.{eqb-true, eqb-false, cases_Bool}
 use Rattle.sha2.proofs.Facts256.{length-sha256}
 use Rattle.vic_dict.specs.Lists.{AreBytes}
-use Rattle.vic_wire.specs.declared.message.Digest32.{Digest32}
 use Rattle.vic_wire.specs.declared.message.Seal.{Seal}
 use Rattle.vic_wire.specs.Texts.{empty_text}
 use Rattle.vic_wire.specs.Hashes.{empty_root}
-use Rattle.vic_wire.specs.Messages.{IsSeal, IsDigest, seal_field}
+use Rattle.vic_wire.specs.Messages.{IsSeal, seal_field}
 use Rattle.vic_wire.specs.Reading.{FieldFault, ◌>>=◌, number_at, digest_at, seal_after, seal_at}
 use Rattle.vic_spellings.specs.Spellings.{HasBytes}
 use Rattle.vic_spellings.proofs.Steps.{bind_ok, chosen, ok_is, Takes, Takes-then}
