@@ -87,10 +87,10 @@ entries_takes least most bytes x fits e =
     let tests = and_parts (leb least a.0.0) (leb a.0.0 most) counted.0 in
     let number = w16_takes bytes a.0 fits a.1 in
     let count : Takes bytes (to_be_bytes w16 b.0.0) b.0.1 × ((least ≤ b.0.0) × (b.0.0 ≤ most)) =
-      subst (λ (y : ℕ × List ℕ). Takes bytes (to_be_bytes w16 y.0) y.1 × ((least ≤ y.0) × (y.0 ≤ most))) counted.1 (number.0, (leb-true least a.0.0 tests.0, leb-true a.0.0 most tests.1)) in
+    subst (λ (y : ℕ × List ℕ). Takes bytes (to_be_bytes w16 y.0) y.1 × ((least ≤ y.0) × (y.0 ≤ most))) counted.1 (number.0, (leb-true least a.0.0 tests.0, leb-true a.0.0 most tests.1)) in
     let items = tagged_list_takes b.0.0 b.0.1 x count.0.rest_fits b.2 in
     let front : Takes bytes (to_be_bytes w16 (length x.0)) b.0.1 × ((least ≤ length x.0) × (length x.0 ≤ most)) =
-      subst (λ (n : ℕ). Takes bytes (to_be_bytes w16 n) b.0.1 × ((least ≤ n) × (n ≤ most))) (sym items.1) count in
+    subst (λ (n : ℕ). Takes bytes (to_be_bytes w16 n) b.0.1 × ((least ≤ n) × (n ≤ most))) (sym items.1) count in
     (Takes-then bytes (to_be_bytes w16 (length x.0)) b.0.1 (flat_map tagged_field x.0) x.1 front.0 items.0, front.1, items.2, items.3)
 
 pub entries_again : (least most : ℕ) (ts : List Tagged) (rest : List ℕ) → most < 2 ^ 16 → least ≤ length ts → length ts ≤ most → AllByRecursion IsTagged ts

@@ -25,7 +25,7 @@ bytes_takes n bytes x fits e =
     let long : n ≤ length bytes = ltb-false _ _ g.0 in
     let len : length (take n bytes) ≡ n = omega (arith, length-take n bytes) in
     subst (λ (y : List ℕ × List ℕ). Takes bytes y.0 y.1 × (length y.0 ≡ n) × AreBytes y.0) g.1
-      (record { parts = sym (take-append-drop n bytes); rest_fits = bytes-drop n bytes fits }, len, bytes-take n bytes fits)
+    (record { parts = sym (take-append-drop n bytes); rest_fits = bytes-drop n bytes fits }, len, bytes-take n bytes fits)
 
 pub bytes_again : (n : ℕ) (text rest : List ℕ) → length text ≡ n → bytes_at n (text ++ rest) ≡ Ok (text, rest)
 bytes_again n text rest len =

@@ -50,7 +50,7 @@ either_bytes false xs ys h k = k
 pub bytes-seal : (s : Seal) → HasBytes s → AreBytes (seal_field s)
 bytes-seal s h =
     either_bytes (eqb s.position 0) (to_be_bytes w32 0) (to_be_bytes w32 s.position ++ (s.root.bytes ++ s.tag.bytes)) (bytes-w32 0)
-      (bytes-append (to_be_bytes w32 s.position) (s.root.bytes ++ s.tag.bytes) (bytes-w32 s.position) (bytes-append s.root.bytes s.tag.bytes h.0 h.1))
+    (bytes-append (to_be_bytes w32 s.position) (s.root.bytes ++ s.tag.bytes) (bytes-w32 s.position) (bytes-append s.root.bytes s.tag.bytes h.0 h.1))
 
 -- a byte alone
 bytes-one : (n : ℕ) → n < 256 → AreBytes (n ∷ [])
@@ -82,15 +82,15 @@ request-bytes (ask.Hello kind client) fits h =
     bytes-cons 0x21 (1 ∷ mode_byte kind ∷ client ∷ []) (omega arith) (bytes-cons 1 (mode_byte kind ∷ client ∷ []) (omega arith) (bytes-cons (mode_byte kind) (client ∷ []) (mode-byte kind) (bytes-one client fits)))
 request-bytes (ask.Invoke known seq o tag) fits h =
     bytes-cons 0x22 (to_be_bytes w32 known ++ (to_be_bytes w32 seq ++ (op_text o ++ tag.bytes))) (omega arith)
-      (bytes-append (to_be_bytes w32 known) (to_be_bytes w32 seq ++ (op_text o ++ tag.bytes)) (bytes-w32 known)
-        (bytes-append (to_be_bytes w32 seq) (op_text o ++ tag.bytes) (bytes-w32 seq) (bytes-append (op_text o) tag.bytes (bytes-op o fits.1.1.0.0 fits.1.1.0.1) h)))
+    (bytes-append (to_be_bytes w32 known) (to_be_bytes w32 seq ++ (op_text o ++ tag.bytes)) (bytes-w32 known)
+    (bytes-append (to_be_bytes w32 seq) (op_text o ++ tag.bytes) (bytes-w32 seq) (bytes-append (op_text o) tag.bytes (bytes-op o fits.1.1.0.0 fits.1.1.0.1) h)))
 request-bytes (ask.Commit position done tag) fits h =
     bytes-cons 0x23 (to_be_bytes w32 position ++ (status_byte done ∷ tag.bytes)) (omega arith)
-      (bytes-append (to_be_bytes w32 position) (status_byte done ∷ tag.bytes) (bytes-w32 position) (bytes-cons (status_byte done) tag.bytes (status-byte done) h))
+    (bytes-append (to_be_bytes w32 position) (status_byte done ∷ tag.bytes) (bytes-w32 position) (bytes-cons (status_byte done) tag.bytes (status-byte done) h))
 request-bytes ask.Poll fits h = bytes-one 0x24 (omega arith)
 request-bytes (ask.Seal position root tag) fits h =
     bytes-cons 0x25 (to_be_bytes w32 position ++ (root.bytes ++ tag.bytes)) (omega arith)
-      (bytes-append (to_be_bytes w32 position) (root.bytes ++ tag.bytes) (bytes-w32 position) (bytes-append root.bytes tag.bytes h.0 h.1))
+    (bytes-append (to_be_bytes w32 position) (root.bytes ++ tag.bytes) (bytes-w32 position) (bytes-append root.bytes tag.bytes h.0 h.1))
 request-bytes (ask.Sync known) fits h = bytes-cons 0x26 (to_be_bytes w32 known) (omega arith) (bytes-w32 known)
 request-bytes (ask.Keep content) fits h = bytes-cons 0x27 content (omega arith) h
 request-bytes (ask.Fetch hash) fits h = bytes-cons 0x28 hash.bytes (omega arith) h

@@ -92,7 +92,7 @@ seal_again s rest fits =
     elim (cases_Bool (eqb s.position 0)) [
       | inl h ↦ subst (λ (t : Seal). seal_at (seal_field t ++ rest) ≡ Ok (t, rest)) (is_first_seal s fits (eqb-true s.position 0 h)) (first_seal_again rest)
       | inr h ↦
-        let regrouped : seal_field s ++ rest ≡ to_be_bytes w32 s.position ++ (s.root.bytes ++ (s.tag.bytes ++ rest)) =
+          let regrouped : seal_field s ++ rest ≡ to_be_bytes w32 s.position ++ (s.root.bytes ++ (s.tag.bytes ++ rest)) =
           ap (λ (t : List ℕ). t ++ rest) (later_field s h) ∙ append_assoc (to_be_bytes w32 s.position) (s.root.bytes ++ s.tag.bytes) rest ∙ ap (λ (t : List ℕ). to_be_bytes w32 s.position ++ t) (append_assoc s.root.bytes s.tag.bytes rest) in
-        ap seal_at regrouped ∙ later_seal_again s rest fits h
+          ap seal_at regrouped ∙ later_seal_again s rest fits h
     ]

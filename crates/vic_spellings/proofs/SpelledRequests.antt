@@ -14,7 +14,7 @@ use Rattle.vic_wire.specs.Texts.{op_text, mode_byte, status_byte}
 use Rattle.vic_wire.specs.Messages.{IsDigest, request_text, HasRequestSpelling}
 use Rattle.vic_wire.specs.Reading.{FieldFault, Value, ◌>>=◌, byte_at, number_at, allowed, digest_at, op_at, ended, mode_of, hello_at, invoke_at, commit_at, seal_request_at, sync_at, fetch_at, request_of_kind, some_read, read_request}
 use Rattle.vic_spellings.specs.Spellings.{RequestHoldsBytes}
-use Rattle.vic_spellings.proofs.Steps.{bind_ok, allowed_ok, by_kind, err_is_none, ended_ok, some_ok, ok_is, Takes, Takes-then}
+use Rattle.vic_spellings.proofs.Steps.{bytes-nil, bind_ok, allowed_ok, by_kind, err_is_none, ended_ok, some_ok, ok_is, Takes, Takes-then}
 use Rattle.vic_spellings.proofs.Fields.{byte_takes, w32_takes, w32_again, positive_takes, digest_takes, digest_again}
 use Rattle.vic_spellings.proofs.Operations.{op_takes, op_again}
 
@@ -31,6 +31,14 @@ bare_found kind bare bytes m is e =
 -- what was taken up to the end
 taken_whole : (bytes text rest : List ℕ) → Takes bytes text rest → rest ≡ [] → bytes ≡ text
 taken_whole bytes text rest t e = t.parts ∙ ap (λ (r : List ℕ). text ++ r) e ∙ append-nil text
+
+-- the same with the byte of the kind before it
+taken_all : (kind : ℕ) (bytes text rest : List ℕ) → Takes bytes text rest → rest ≡ [] → kind ∷ bytes ≡ kind ∷ text
+taken_all kind bytes text rest t e = ap (λ (r : List ℕ). kind ∷ r) (taken_whole bytes text rest t e)
+
+-- a byte and a text up to the end
+byte_and_whole : (bytes : List ℕ) (b : ℕ) (after text rest : List ℕ) → bytes ≡ b ∷ after → Takes after text rest → rest ≡ [] → Takes bytes (b ∷ text) []
+byte_and_whole bytes b after text rest e t f = record { parts = e ∙ ap (λ (r : List ℕ). b ∷ r) (t.parts ∙ ap (λ (r : List ℕ). text ++ r) f); rest_fits = bytes-nil }
 
 mode_takes : (b : ℕ) (m : Mode) → mode_of b ≡ Ok m → b ≡ mode_byte m
 mode_takes b m e =
@@ -61,12 +69,12 @@ hello_found bytes m fits e =
     let kind = byte_takes b.0.1 c.0 version.1 c.1 in
     let client = byte_takes c.0.1 f.0 kind.2 f.1 in
     subst (λ (n : ToServer). SpellsRequest (0x21 ∷ bytes) n) {x = made} g.1 (client.1, hello_spelled bytes b.0.1 c.0.1 f.0.1 c.0.0 d.0 f.0.0 version.0 kind.0 (mode_takes c.0.0 d.0 d.1) client.0 g.0, tt)
-    where
-      version_takes : (bytes : List ℕ) (x y : ℕ × List ℕ) → AreBytes bytes → byte_at bytes ≡ Ok x → allowed (eqb x.0 1) x ≡ Ok y → (bytes ≡ 1 ∷ y.1) × AreBytes y.1
-      version_takes bytes x y fits e f =
-          let a = allowed_ok (eqb x.0 1) x y f in
-          let t = byte_takes bytes x fits e in
-          subst (λ (z : ℕ × List ℕ). (bytes ≡ 1 ∷ z.1) × AreBytes z.1) a.1 (t.0 ∙ ap (λ (n : ℕ). n ∷ x.1) (eqb-true x.0 1 a.0), t.2)
+  where
+    version_takes : (bytes : List ℕ) (x y : ℕ × List ℕ) → AreBytes bytes → byte_at bytes ≡ Ok x → allowed (eqb x.0 1) x ≡ Ok y → (bytes ≡ 1 ∷ y.1) × AreBytes y.1
+    version_takes bytes x y fits e f =
+        let a = allowed_ok (eqb x.0 1) x y f in
+        let t = byte_takes bytes x fits e in
+        subst (λ (z : ℕ × List ℕ). (bytes ≡ 1 ∷ z.1) × AreBytes z.1) a.1 (t.0 ∙ ap (λ (n : ℕ). n ∷ x.1) (eqb-true x.0 1 a.0), t.2)
 
 invoke_found : (bytes : List ℕ) (m : ToServer) → AreBytes bytes → invoke_at bytes ≡ Ok m → SpellsRequest (0x22 ∷ bytes) m
 unfolding invoke_at
@@ -85,8 +93,8 @@ invoke_found bytes m fits e =
     let t1 = Takes-then c.0.1 (op_text d.0.0) d.0.1 f.0.0.bytes f.0.1 o.0 tag.0 in
     let t2 = Takes-then a.0.1 (to_be_bytes w32 c.0.0) c.0.1 (op_text d.0.0 ++ f.0.0.bytes) f.0.1 seq.0 t1 in
     let t3 = Takes-then bytes (to_be_bytes w32 a.0.0) a.0.1 (to_be_bytes w32 c.0.0 ++ (op_text d.0.0 ++ f.0.0.bytes)) f.0.1 known.0 t2 in
-    let whole = taken_whole bytes (to_be_bytes w32 a.0.0 ++ (to_be_bytes w32 c.0.0 ++ (op_text d.0.0 ++ f.0.0.bytes))) f.0.1 t3 g.0 in
-    subst (λ (n : ToServer). SpellsRequest (0x22 ∷ bytes) n) {x = made} g.1 ((known.1, (seq.1, ((o.1, o.2), tag.1))), ap (λ (r : List ℕ). 0x22 ∷ r) whole, tag.2)
+    let whole = taken_all 0x22 bytes (to_be_bytes w32 a.0.0 ++ (to_be_bytes w32 c.0.0 ++ (op_text d.0.0 ++ f.0.0.bytes))) f.0.1 t3 g.0 in
+    subst (λ (n : ToServer). SpellsRequest (0x22 ∷ bytes) n) {x = made} g.1 ((known.1, (seq.1, ((o.1, o.2), tag.1))), whole, tag.2)
 
 -- the status byte, which is read as whether it is 0
 status_takes : (bytes : List ℕ) (x y : ℕ × List ℕ) → AreBytes bytes → byte_at bytes ≡ Ok x → allowed (leb x.0 1) x ≡ Ok y → (bytes ≡ status_byte (eqb y.0 0) ∷ y.1) × AreBytes y.1
@@ -95,11 +103,11 @@ status_takes bytes x y fits e f =
     let t = byte_takes bytes x fits e in
     let low : x.0 ≤ 1 = leb-true x.0 1 a.0 in
     subst (λ (z : ℕ × List ℕ). (bytes ≡ status_byte (eqb z.0 0) ∷ z.1) × AreBytes z.1) a.1 (t.0 ∙ ap (λ (n : ℕ). n ∷ x.1) (status_is x.0 low), t.2)
-    where
-      status_is : (n : ℕ) → n ≤ 1 → n ≡ status_byte (eqb n 0)
-      status_is zero le = refl
-      status_is (suc zero) le = refl
-      status_is (suc (suc n)) le = absurd (omega arith)
+  where
+    status_is : (n : ℕ) → n ≤ 1 → n ≡ status_byte (eqb n 0)
+    status_is zero le = refl
+    status_is (suc zero) le = refl
+    status_is (suc (suc n)) le = absurd (omega arith)
 
 commit_found : (bytes : List ℕ) (m : ToServer) → AreBytes bytes → commit_at bytes ≡ Ok m → SpellsRequest (0x23 ∷ bytes) m
 unfolding commit_at
@@ -114,9 +122,10 @@ commit_found bytes m fits e =
     let position = positive_takes bytes a.0 b.0 fits a.1 b.1 in
     let status = status_takes b.0.1 c.0 d.0 position.0.rest_fits c.1 d.1 in
     let tag = digest_takes d.0.1 f.0 status.1 f.1 in
-    let last : b.0.1 ≡ status_byte (eqb d.0.0 0) ∷ f.0.0.bytes = status.0 ∙ ap (λ (r : List ℕ). status_byte (eqb d.0.0 0) ∷ r) (taken_whole d.0.1 f.0.0.bytes f.0.1 tag.0 g.0) in
-    let whole : bytes ≡ to_be_bytes w32 b.0.0 ++ (status_byte (eqb d.0.0 0) ∷ f.0.0.bytes) = position.0.parts ∙ ap (λ (r : List ℕ). to_be_bytes w32 b.0.0 ++ r) last in
-    subst (λ (n : ToServer). SpellsRequest (0x23 ∷ bytes) n) {x = made} g.1 ((position.1, tag.1), ap (λ (r : List ℕ). 0x23 ∷ r) whole, tag.2)
+    let last = byte_and_whole b.0.1 (status_byte (eqb d.0.0 0)) d.0.1 f.0.0.bytes f.0.1 status.0 tag.0 g.0 in
+    let all = Takes-then bytes (to_be_bytes w32 b.0.0) b.0.1 (status_byte (eqb d.0.0 0) ∷ f.0.0.bytes) [] position.0 last in
+    let whole = taken_all 0x23 bytes (to_be_bytes w32 b.0.0 ++ (status_byte (eqb d.0.0 0) ∷ f.0.0.bytes)) [] all refl in
+    subst (λ (n : ToServer). SpellsRequest (0x23 ∷ bytes) n) {x = made} g.1 ((position.1, tag.1), whole, tag.2)
 
 seal_found : (bytes : List ℕ) (m : ToServer) → AreBytes bytes → seal_request_at bytes ≡ Ok m → SpellsRequest (0x25 ∷ bytes) m
 unfolding seal_request_at
@@ -132,8 +141,8 @@ seal_found bytes m fits e =
     let tag = digest_takes c.0.1 d.0 root.0.rest_fits d.1 in
     let t1 = Takes-then b.0.1 c.0.0.bytes c.0.1 d.0.0.bytes d.0.1 root.0 tag.0 in
     let t2 = Takes-then bytes (to_be_bytes w32 b.0.0) b.0.1 (c.0.0.bytes ++ d.0.0.bytes) d.0.1 position.0 t1 in
-    let whole = taken_whole bytes (to_be_bytes w32 b.0.0 ++ (c.0.0.bytes ++ d.0.0.bytes)) d.0.1 t2 g.0 in
-    subst (λ (n : ToServer). SpellsRequest (0x25 ∷ bytes) n) {x = made} g.1 ((position.1, (root.1, tag.1)), ap (λ (r : List ℕ). 0x25 ∷ r) whole, (root.2, tag.2))
+    let whole = taken_all 0x25 bytes (to_be_bytes w32 b.0.0 ++ (c.0.0.bytes ++ d.0.0.bytes)) d.0.1 t2 g.0 in
+    subst (λ (n : ToServer). SpellsRequest (0x25 ∷ bytes) n) {x = made} g.1 ((position.1, (root.1, tag.1)), whole, (root.2, tag.2))
 
 sync_found : (bytes : List ℕ) (m : ToServer) → AreBytes bytes → sync_at bytes ≡ Ok m → SpellsRequest (0x26 ∷ bytes) m
 unfolding sync_at
@@ -142,8 +151,8 @@ sync_found bytes m fits e =
     let made : ToServer = ask.Sync a.0.0 in
     let g = ended_ok (made, a.0.1) m a.2 in
     let known = w32_takes bytes a.0 fits a.1 in
-    let whole = taken_whole bytes (to_be_bytes w32 a.0.0) a.0.1 known.0 g.0 in
-    subst (λ (n : ToServer). SpellsRequest (0x26 ∷ bytes) n) {x = made} g.1 (known.1, ap (λ (r : List ℕ). 0x26 ∷ r) whole, tt)
+    let whole = taken_all 0x26 bytes (to_be_bytes w32 a.0.0) a.0.1 known.0 g.0 in
+    subst (λ (n : ToServer). SpellsRequest (0x26 ∷ bytes) n) {x = made} g.1 (known.1, whole, tt)
 
 keep_found : (bytes : List ℕ) (m : ToServer) → AreBytes bytes → allowed (leb (length bytes) 8388608) (ask.Keep bytes) ≡ Ok m → SpellsRequest (0x27 ∷ bytes) m
 keep_found bytes m fits e =
@@ -157,8 +166,8 @@ fetch_found bytes m fits e =
     let made : ToServer = ask.Fetch a.0.0 in
     let g = ended_ok (made, a.0.1) m a.2 in
     let hash = digest_takes bytes a.0 fits a.1 in
-    let whole = taken_whole bytes a.0.0.bytes a.0.1 hash.0 g.0 in
-    subst (λ (n : ToServer). SpellsRequest (0x28 ∷ bytes) n) {x = made} g.1 (hash.1, ap (λ (r : List ℕ). 0x28 ∷ r) whole, hash.2)
+    let whole = taken_all 0x28 bytes a.0.0.bytes a.0.1 hash.0 g.0 in
+    subst (λ (n : ToServer). SpellsRequest (0x28 ∷ bytes) n) {x = made} g.1 (hash.1, whole, hash.2)
 
 kind_found : (kind : ℕ) (bytes : List ℕ) (m : ToServer) → AreBytes bytes → request_of_kind kind bytes ≡ Ok m → SpellsRequest (kind ∷ bytes) m
 unfolding request_of_kind

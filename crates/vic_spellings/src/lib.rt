@@ -10,11 +10,9 @@ ghost use Rattle.vic_spellings.specs.Spellings.{AnswersAreSpelled, RequestsAreSp
 /// An answer is read of a payload of bytes exactly where the payload is the answer's spelling, and no two answers share one.
 pub fn answers()
     ensures { AnswersAreSpelled }
-{
-}
+{}
 
 /// A request is read of a payload of bytes exactly where the payload is the request's spelling, and no two requests share one.
 pub fn requests()
     ensures { RequestsAreSpelled }
-{
-}
+{}
