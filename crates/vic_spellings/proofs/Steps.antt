@@ -1,9 +1,9 @@
 -- The steps of a reader, and what it took from the front of the bytes.
-use Rattle.std.proofs.Common.{◌≡◌, ℕ, suc, ◌+◌, ◌<◌, Bool, true, false, cond, List, [], ◌∷◌, ◌++◌, length, get_or, take, drop, Result, Ok, Err, refl, sym, ap, ◌∙◌, append_assoc, arith, inl, inr, ◌⊎◌}
-use Rattle.std.proofs.lemmas.Bool.{cases_lt}
-use Rattle.std.proofs.lemmas.List.{length-take, get_or-drop, get_or-take, get_or_past, get_or_append_left, get_or-append_right}
+use Rattle.std.proofs.Common.{◌≡◌, ℕ, suc, ◌+◌, Bool, true, false, cond, eqb, List, [], ◌∷◌, ◌++◌, length, take, drop, Some, Result, Ok, Err, refl, sym, ap, subst, ◌∙◌, append_assoc, arith, inl, inr, ◌⊎◌}
+use Rattle.std.proofs.lemmas.Bool.{cases_lt, eqb-true}
+use Rattle.std.proofs.lemmas.List.{nil_from_length, length-take, get_or-drop, get_or-take, get_or_past}
 use Rattle.vic_dict.specs.Lists.{AreBytes}
-use Rattle.vic_wire.specs.Reading.{FieldFault, Value, ◌>>=◌, allowed}
+use Rattle.vic_wire.specs.Reading.{FieldFault, ◌>>=◌, allowed, ended, some_read}
 
 -- ---- lists of bytes
 
@@ -48,8 +48,30 @@ chosen false x y z e = inr (refl, e)
 abbrev done : {A : Type 0} → A → Result A FieldFault
 done x = Ok x
 
+abbrev fails : {A : Type 0} → FieldFault → Result A FieldFault
+fails d = Err d
+
 pub ok_is : {A : Type 0} (x y : A) → done x ≡ done y → x ≡ y
 ok_is x y e = cc
+
+-- a choice by the number of a kind
+pub by_kind : {A : Type 0} (P : ℕ → Type 0) (kind n : ℕ) (x y z : A) → cond (eqb kind n) x y ≡ z → (x ≡ z → P n) → (y ≡ z → P kind) → P kind
+by_kind P kind n x y z e f g =
+    elim (chosen (eqb kind n) x y z e) [
+      | inl h ↦ subst P (sym (eqb-true kind n h.0)) (f h.1)
+      | inr h ↦ g h.1
+    ]
+
+pub err_is_none : {A : Type 0} (d : FieldFault) (x : A) → fails d ≡ done x → ⊥
+err_is_none d x e = absurd cc
+
+-- a value after which nothing followed
+pub ended_ok : {A : Type 0} (x : A × List ℕ) (y : A) → ended x ≡ Ok y → (x.1 ≡ []) × (x.0 ≡ y)
+ended_ok x y e = let a = allowed_ok (eqb (length x.1) 0) x.0 y e in (nil_from_length x.1 (eqb-true (length x.1) 0 a.0), a.1)
+
+pub some_ok : {A : Type 0} (r : Result A FieldFault) (x : A) → some_read r ≡ Some x → r ≡ Ok x
+some_ok (Ok y) x e = cc
+some_ok (Err d) x e = absurd cc
 
 -- ---- what a reader took from the front
 
