@@ -9,3 +9,4 @@ pub mod Splits
 pub mod Leaves
 pub mod NodeTexts
 pub mod Roots
+pub mod Again
