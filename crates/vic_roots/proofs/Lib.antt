@@ -10,3 +10,4 @@ pub mod Leaves
 pub mod NodeTexts
 pub mod Roots
 pub mod Again
+pub mod Shape
