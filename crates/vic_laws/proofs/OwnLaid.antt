@@ -4,12 +4,13 @@ use Rattle.std.specs.List.{AllByRecursion, filter, fold}
 use Rattle.std.proofs.Common.{refl, ap, subst, sym, ◌∙◌, inl, inr, arith, length-append, le-ltb, lt-ltb, eq-eqb, ne_eqb, le_refl, le_trans}
 use Rattle.std.proofs.lemmas.Bool.{cases_eq, cases_lt, cases_Bool}
 use Rattle.vic_dict.specs.declared.op.Entry.{Entry}
+use Rattle.vic_dict.specs.declared.op.Outcome.{Outcome}
 use Rattle.vic_dict.specs.Lists.{IsIn}
 use Rattle.vic_dict.specs.Dictionary.{Dictionary, after}
 use Rattle.vic_wire.specs.Hashes.{Group}
 use Rattle.vic_rules.specs.declared.state.Own.{Own}
 use Rattle.vic_rules.specs.declared.trace.TraceStep.{TraceStep}
-use Rattle.vic_rules.specs.Client.{Standing, Move, is_done, done_op, laid}
+use Rattle.vic_rules.specs.Client.{Standing, Move, is_done, done_op, laid, decision}
 use Rattle.vic_rules.specs.History.{standing, path, move_of, AreSteps, IsStep, Completion, completions}
 use Rattle.vic_rules.specs.Views.{confirmed}
 use Rattle.vic_laws.proofs.Steps.{Kind, is_quiet, is_called, is_replied, is_updated, is_listed, call_of, IsOther}
@@ -126,3 +127,94 @@ own_ones g (x ∷ past) steps me = now (cases_eq x.client me) (own_ones g past s
           (own_ones_kept g x past steps more.0 more.1 mine (kind_of g past x steps.1)))
     now (inr e) mine other = subst (λ s. OwnOnes (completions g (x ∷ past)) me s.path) (sym (standing_kept g me x past e))
         (subst (λ c. OwnOnes c me (path g me past)) (sym more.1) (own_ones_stay more.0 (completions g past) me (path g me past) other))
+
+-- ---- the own calls as a client keeps them
+
+fold_one : (b : Bool) (d : Dictionary) (o : Own) → fold done_op d (if b then o ∷ [] else []) ≡ (if b then done_op d o else d)
+fold_one true d o = refl
+fold_one false d o = refl
+
+fold_more : (b : Bool) (d : Dictionary) (x o : Own) (c : Bool) (longer shorter : List Own) → ((w : Dictionary) → fold done_op w longer ≡ (if c then done_op (fold done_op w shorter) o else fold done_op w shorter))
+    → fold done_op d (if b then x ∷ longer else longer) ≡ (if c then done_op (fold done_op d (if b then x ∷ shorter else shorter)) o else fold done_op d (if b then x ∷ shorter else shorter))
+fold_more true d x o c longer shorter f = f (done_op d x)
+fold_more false d x o c longer shorter f = f d
+
+-- the last own call is laid last, if it stands above the base
+laid_last : (own : List Own) (o : Own) (base : ℕ) (d : Dictionary) → laid (own ++ o ∷ []) base d ≡ (if nat_lt base o.position then done_op (laid own base d) o else laid own base d)
+laid_last [] o base d = fold_one (nat_lt base o.position) d o
+laid_last (x ∷ own) o base d =
+    fold_more (nat_lt base x.position) d x o (nat_lt base o.position) (filter (λ w. nat_lt base w.position) (own ++ o ∷ [])) (filter (λ w. nat_lt base w.position) own) (λ w. laid_last own o base w)
+
+-- an own call that isn't above the base isn't laid
+laid_first : (first : Own) (rest : List Own) (base : ℕ) (d : Dictionary) → first.position ≤ base → laid (first ∷ rest) base d ≡ laid rest base d
+laid_first first rest base d le = ap (λ b. fold done_op d (if b then first ∷ filter (λ w. nat_lt base w.position) rest else filter (λ w. nat_lt base w.position) rest)) (le-ltb base first.position le)
+
+-- over what is sealed, a client lays the own done calls of its path
+abbrev pub Lays : List Completion → ℕ → Standing → Type 0
+Lays cs me s = (base : ℕ) (d : Dictionary) → s.sealed ≤ base → laid s.own base d ≡ own_laid cs me base d s.path
+
+done_same : (a b : Dictionary) (o : Own) (e : Entry) (c : Completion) → a ≡ b → o.op ≡ e.op → is_done c.outcome ≡ o.done → done_op a o ≡ own_op b e (Some c)
+done_same a b o e c same op status =
+    ap (λ w. if o.done then after w o.op else w) same ∙ (ap (λ q. if o.done then after b q else b) op ∙ ap (λ t. if t then after b e.op else b) (sym status))
+
+module _ (g : Group) (x : TraceStep) (past : List TraceStep) (steps : AreSteps g (x ∷ past)) where
+  -- what stood before lies as before among more completions
+  lays_stay : (me : ℕ) → Lays (completions g past) me (standing g me past) → Lays (completions g (x ∷ past)) me (standing g me past)
+  lays_stay me before base d le =
+      let more = completions_grow g (x ∷ []) past in
+      before base d le ∙ (sym (laid_stays more.0 (completions g past) me base d (path g me past) (own_ones g past steps.0 me)) ∙ ap (λ cs. own_laid cs me base d (path g me past)) (sym more.1))
+
+  lays_kept : Lays (completions g (x ∷ past)) x.client (standing g x.client past) → Kind g x.client (standing g x.client past) x.input (move_of g past x)
+      → Lays (completions g (x ∷ past)) x.client (move_of g past x).next
+  lays_kept before (is_quiet k) = λ base d le.
+      ap (λ own. laid own base d) k.own ∙ (before base d (subst (λ n. n ≤ base) k.sealed le) ∙ ap (own_laid (completions g (x ∷ past)) x.client base d) (sym k.path))
+  lays_kept before (is_called k) = subst (λ v. Lays (completions g (x ∷ past)) x.client v.next) (sym k.moved) before
+  lays_kept before (is_replied k) = subst (λ v. Lays (completions g (x ∷ past)) x.client v.next) (sym k.moved) (λ base d le. now base d le (cases_lt base (length p)))
+    where
+      s : Standing
+      s = standing g x.client past
+      cs : List Completion
+      cs = completions g (x ∷ past)
+      call : Entry
+      call = call_of x.client k.seq k.op
+      below : List Entry
+      below = k.others ++ (standing g x.client past).path
+      p : List Entry
+      p = call_of x.client k.seq k.op ∷ (k.others ++ (standing g x.client past).path)
+      ends : Outcome
+      ends = decision x.client (standing g x.client past) (k.others ++ (standing g x.client past).path) k.seal.position k.part k.op
+      new : Own
+      new = record { position = length (call_of x.client k.seq k.op ∷ (k.others ++ (standing g x.client past).path)); op = k.op; done = is_done ends }
+      same : (base : ℕ) (d : Dictionary) → k.seal.position ≤ base → laid (standing g x.client past).own base d ≡ own_laid (completions g (x ∷ past)) x.client base d (k.others ++ (standing g x.client past).path)
+      same base d le = before base d (le_trans k.sealing.goes le) ∙ sym (laid_others (completions g (x ∷ past)) g.count x.client base d k.others (standing g x.client past).path k.from_others)
+      found : confirmed (completions g (x ∷ past)) p ≡ Some (completed_by k)
+      found = confirmed_by g (x ∷ past) steps p (completed_by k) (completion_joins g past x steps.1 k) refl
+      now : (base : ℕ) (d : Dictionary) → k.seal.position ≤ base → (base < length p) ⊎ (length p ≤ base) → laid ((standing g x.client past).own ++ new ∷ []) base d ≡ own_laid (completions g (x ∷ past)) x.client base d p
+      now base d le (inl above) =
+          laid_last (standing g x.client past).own new base d
+          ∙ (if_true (nat_lt base new.position) _ _ (lt-ltb base (length p) above)
+            ∙ (done_same (laid (standing g x.client past).own base d) (own_laid (completions g (x ∷ past)) x.client base d below) new call (completed_by k) (same base d le) refl refl
+              ∙ (ap (own_op (own_laid (completions g (x ∷ past)) x.client base d below) call) (sym found)
+                ∙ sym (laid_own (completions g (x ∷ past)) x.client base d call below above refl))))
+      now base d le (inr up) =
+          laid_last (standing g x.client past).own new base d
+          ∙ (if_false (nat_lt base new.position) _ _ (le-ltb base (length p) up)
+            ∙ (same base d le
+              ∙ (laid_below (completions g (x ∷ past)) x.client base d below (omega arith) ∙ sym (laid_below (completions g (x ∷ past)) x.client base d p up))))
+  lays_kept before (is_updated k) = subst (λ v. Lays (completions g (x ∷ past)) x.client v.next) (sym k.moved) (λ base d le.
+      sym (laid_first k.first k.rest base d (subst (λ n. n ≤ base) (sym k.next_is) le))
+      ∙ (ap (λ own. laid own base d) (sym k.own_is) ∙ before base d (omega (arith, le, k.sealing.goes))))
+  lays_kept before (is_listed k) = subst (λ v. Lays (completions g (x ∷ past)) x.client v.next) (sym k.moved) (λ base d le.
+      before base d (le_trans k.sealing.goes le) ∙ sym (laid_others (completions g (x ∷ past)) g.count x.client base d k.others (standing g x.client past).path k.from_others))
+
+-- each client lays its own done calls
+pub lays : (g : Group) (h : List TraceStep) → AreSteps g h → (me : ℕ) → Lays (completions g h) me (standing g me h)
+unfolding standing own_laid
+lays g [] steps me = λ base d le. refl
+lays g (x ∷ past) steps me = now (cases_eq x.client me) (lays g past steps.0 x.client) (lays g past steps.0 me)
+  where
+    now : (x.client ≡ me) ⊎ (x.client ≡ me → ⊥) → Lays (completions g past) x.client (standing g x.client past) → Lays (completions g past) me (standing g me past) → Lays (completions g (x ∷ past)) me (standing g me (x ∷ past))
+    now (inl e) mine other = subst (λ j. Lays (completions g (x ∷ past)) j (standing g j (x ∷ past))) e
+        (subst (Lays (completions g (x ∷ past)) x.client) (sym (standing_moved g x.client x past refl))
+          (lays_kept g x past steps (lays_stay g x past steps x.client mine) (kind_of g past x steps.1)))
+    now (inr e) mine other = subst (Lays (completions g (x ∷ past)) me) (sym (standing_kept g me x past e)) (lays_stay g x past steps me other)
