@@ -87,7 +87,7 @@ only_updates_seal : (g : Group) (me : ℕ) (s : Standing) (i : Input) (v : Move)
 only_updates_seal g me s i v k e = subst (λ o. IsIn (text_sent g me v.next o) (seal_text_on g v.next.path v.next.sealed v.next.root)) (sym e) (inl refl)
 
 -- what is taken at a step, by its move
-taken_at : (g : Group) (past : List TraceStep) (x : TraceStep) (m : ToClient) → taken_by (move_of g past x).next x.input ≡ Some m → took g past x ≡ Some m
+pub taken_at : (g : Group) (past : List TraceStep) (x : TraceStep) (m : ToClient) → taken_by (move_of g past x).next x.input ≡ Some m → took g past x ≡ Some m
 unfolding took
 taken_at g past x m e = e
 
