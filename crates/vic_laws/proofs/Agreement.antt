@@ -12,7 +12,7 @@ use Rattle.vic_rules.specs.History.{IsLawful, AreSteps, Completion, completions}
 use Rattle.vic_rules.specs.Views.{or_else, confirmed, shown_as, confirmed_calls, last_prefix, view_of, IsSameCall, Agree, IsAnswered, ShowsOnlyCalls}
 use Rattle.vic_laws.specs.OrderClaims.{ConfirmedIs, ConfirmedByOwner, ViewsAgree, ViewsShowOnlyCalls}
 use Rattle.vic_laws.proofs.SameOp.{same_entry-Decides}
-use Rattle.vic_laws.proofs.Calls.{Numbered, numbered, number_of, one_completion, completion_answers}
+use Rattle.vic_laws.proofs.Calls.{Numbered, numbered, number_of, one_completion, newest_entry, completion_answers}
 
 -- ---- what confirms a path
 
@@ -55,15 +55,12 @@ confirmed_found (b ∷ cs) p c (inr h) e =
     let older : (d : Completion) × (confirmed cs p ≡ Some d) = confirmed_found cs p c h e in
     (older.0, ap (λ (o : Option Completion). or_else o (if pointwise same_entry b.prefix p then Some b else None)) older.1)
 
-newest_is : (a b : Entry) (p q : List Entry) → a ∷ p ≡ b ∷ q → a ≡ b
-newest_is a b p q e = cc
-
 -- a completion is of its path's newest entry's client and number
 pub completion_owner : (g : Group) (h : List TraceStep) → AreSteps g h → (c : Completion) → IsIn (completions g h) c → (e : Entry) (below : List Entry) → c.prefix ≡ e ∷ below
     → c.client ≡ e.client
 completion_owner g h steps c w e below is =
     let n : Numbered c = numbered g h steps c w in
-    n.owner ∙ ap (λ (a : Entry). a.client) (newest_is n.entry e n.below below (sym n.is ∙ is))
+    n.owner ∙ ap (λ (a : Entry). a.client) (newest_entry n.entry e n.below below (sym n.is ∙ is))
 
 -- two completions whose newest entries are of one call are one
 pub same_completion : (g : Group) (h : List TraceStep) → AreSteps g h → (c d : Completion) → IsIn (completions g h) c → IsIn (completions g h) d
@@ -176,7 +173,7 @@ shown_list cs p x older s =
     ∙ ap (λ (v : List Shown). record { entry = s.entry; outcome = s.by.outcome } ∷ v) s.rest
     ∙ sym (confirmed_more cs s.entry s.below s.by s.confirms)
 
-shown_entry : (cs : List Completion) (p : List Entry) (x : Shown) (older : List Shown) (s : ShownAt cs p x older) → x.entry ≡ s.entry
+pub shown_entry : (cs : List Completion) (p : List Entry) (x : Shown) (older : List Shown) (s : ShownAt cs p x older) → x.entry ≡ s.entry
 shown_entry cs p x older s = ap (λ (y : Shown). y.entry) s.shown
 
 -- ---- views agree

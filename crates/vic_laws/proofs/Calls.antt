@@ -15,24 +15,20 @@ use Rattle.vic_rules.specs.declared.trace.TraceStep.{TraceStep}
 use Rattle.vic_rules.specs.Client.{Standing, at_start, Move, step, decision, decided}
 use Rattle.vic_rules.specs.History.{standing, path, move_of, IsStep, AreSteps, Completion, completion, completions}
 use Rattle.vic_rules.specs.Views.{IsCall, MakesCall, NoStepOf, IsAnswered}
-use Rattle.vic_laws.proofs.Steps.{Quiet, Called, Replied, Updated, Listed, Kind, is_quiet, is_called, is_replied, is_updated, is_listed, call_of, step_kind}
+use Rattle.vic_spellings.proofs.Answers.{answer_fits, answer_spelled}
+use Rattle.vic_laws.proofs.Words.{in_left, in_right, in_either}
+use Rattle.vic_laws.proofs.Steps.{Quiet, Called, Replied, Updated, Listed, Kind, is_quiet, is_called, is_replied, is_updated, is_listed, call_of}
+use Rattle.vic_laws.proofs.StepKinds.{AnswerFits, step_kind}
+use Rattle.vic_laws.proofs.Standings.{standing_moved, standing_kept}
 
--- ---- where a client stands after one more step
+-- ---- what kind a step is
 
--- another client's step leaves a client where it stands
-pub stands_other : (g : Group) (me : ℕ) (x : TraceStep) (past : List TraceStep) → (x.client ≡ me → ⊥) → standing g me (x ∷ past) ≡ standing g me past
-unfolding standing
-stands_other g me x past differ =
-    ap (λ (b : Bool). if b then (step g me (standing g me past) x.input).next else standing g me past) (ne_eqb x.client me differ)
-
--- after its own step a client stands where its move leads
-pub stands_own : (g : Group) (x : TraceStep) (past : List TraceStep) → standing g x.client (x ∷ past) ≡ (move_of g past x).next
-unfolding standing
-stands_own g x past =
-    ap (λ (b : Bool). if b then (step g x.client (standing g x.client past) x.input).next else standing g x.client past) (eq-eqb x.client x.client refl)
+-- what a client reads in a payload has a spelling, which is the payload
+fits : AnswerFits
+fits b m bytes e = (answer_fits b m bytes e, answer_spelled b m bytes e)
 
 pub kind_of : (g : Group) (past : List TraceStep) (x : TraceStep) → IsStep g past x → Kind g x.client (standing g x.client past) x.input (move_of g past x)
-kind_of g past x is = step_kind g x.client (standing g x.client past) x.input is.may
+kind_of g past x is = step_kind fits g x.client (standing g x.client past) x.input is.may
 
 -- ---- paths grow
 
@@ -54,8 +50,8 @@ path_grows g me x past is =
     elim (cases_eq x.client me) as Goal [
         inl e ↦ subst (λ (m : ℕ). Grows (path g m past) (path g m (x ∷ past))) e
             (let grown = grows_by g x.client (standing g x.client past) x.input (move_of g past x) (kind_of g past x is) in
-            (grown.0, ap (λ (s : Standing). s.path) (stands_own g x past) ∙ grown.1))
-        | inr differ ↦ ([], ap (λ (s : Standing). s.path) (stands_other g me x past differ))
+            (grown.0, ap (λ (s : Standing). s.path) (standing_moved g x.client x past refl) ∙ grown.1))
+        | inr differ ↦ ([], ap (λ (s : Standing). s.path) (standing_kept g me x past differ))
     ]
 
 -- ---- completions
@@ -80,22 +76,6 @@ completes_one {g} {me} {s} {i} {v} r =
     ap (λ (m : Move). completion me m.next.path m.returns) r.moved
     ∙ completion_decided me (call_of me r.seq r.op ∷ (r.others ++ s.path)) _ _ r.op
 
-pub in_append : {X : Type 0} (xs ys : List X) (x : X) → IsIn (xs ++ ys) x → IsIn xs x ⊎ IsIn ys x
-in_append [] ys x h = inr h
-in_append (z ∷ xs) ys x (inl e) = inl (inl e)
-in_append (z ∷ xs) ys x (inr h) =
-    let Goal : IsIn xs x ⊎ IsIn ys x → Type 0 = λ c. IsIn (z ∷ xs) x ⊎ IsIn ys x in
-    elim (in_append xs ys x h) as Goal [ inl a ↦ inl (inr a) | inr b ↦ inr b ]
-
-pub in_left : {X : Type 0} (xs ys : List X) (x : X) → IsIn xs x → IsIn (xs ++ ys) x
-in_left [] ys x h = absurd h
-in_left (z ∷ xs) ys x (inl e) = inl e
-in_left (z ∷ xs) ys x (inr h) = inr (in_left xs ys x h)
-
-pub in_right : {X : Type 0} (xs ys : List X) (x : X) → IsIn ys x → IsIn (xs ++ ys) x
-in_right [] ys x h = h
-in_right (z ∷ xs) ys x h = inr (in_right xs ys x h)
-
 -- what a step completes, if it does: the call that the Reply was for
 completed_at : (g : Group) (me : ℕ) (s : Standing) (i : Input) (v : Move) → Kind g me s i v → (c : Completion) → IsIn (completion me v.next.path v.returns) c
     → (r : Replied g me s i v) × (completed_by r ≡ c)
@@ -117,7 +97,7 @@ pub completions_after : (g : Group) (past : List TraceStep) (x : TraceStep) → 
     → completions g (x ∷ past) ≡ completion x.client (move_of g past x).next.path (move_of g past x).returns ++ completions g past
 unfolding completions
 completions_after g past x is =
-    ap (λ (s : Standing). completion x.client s.path x.returned ++ completions g past) (stands_own g x past)
+    ap (λ (s : Standing). completion x.client s.path x.returned ++ completions g past) (standing_moved g x.client x past refl)
     ∙ ap (λ (o : Option Outcome). completion x.client (move_of g past x).next.path o ++ completions g past) is.returned
 
 -- a completion after one more step is an older one, or that of the Reply taken at the step
@@ -126,7 +106,7 @@ pub completion_after : (g : Group) (past : List TraceStep) (x : TraceStep) → I
 completion_after g past x is c h =
     let new : List Completion = completion x.client (move_of g past x).next.path (move_of g past x).returns in
     let apart : IsIn new c ⊎ IsIn (completions g past) c =
-        in_append new (completions g past) c (subst (λ (cs : List Completion). IsIn cs c) (completions_after g past x is) h) in
+        in_either new (completions g past) c (subst (λ (cs : List Completion). IsIn cs c) (completions_after g past x is) h) in
     let Goal : IsIn new c ⊎ IsIn (completions g past) c → Type 0 = λ w. IsIn (completions g past) c ⊎ ((r : RepliedAt g past x) × (completed_by r ≡ c)) in
     elim apart as Goal [
         inl a ↦ inr (completed_at g x.client (standing g x.client past) x.input (move_of g past x) (kind_of g past x is) c a)
@@ -176,10 +156,11 @@ pub record Counts (me : ℕ) (s : Standing) (cs : List Completion) : Type 0 wher
   pub awaited : (n : ℕ) (o : Op) (load : Bool) → s.halted ≡ None → s.awaiting ≡ awaits.Reply n o load → n ≡ s.calls
   pub newer : (n : ℕ) (o : Op) (load : Bool) → s.halted ≡ None → s.awaiting ≡ awaits.Reply n o load → (c : Completion) → IsIn cs c → c.client ≡ me → number_of c.prefix < n
 
-same_number : (n k : ℕ) (o p : Op) (load loads : Bool) → awaits.Reply n o load ≡ awaits.Reply k p loads → n ≡ k
+-- the number and the operation of an awaited Reply
+pub same_number : (n k : ℕ) (o p : Op) (load loads : Bool) → awaits.Reply n o load ≡ awaits.Reply k p loads → n ≡ k
 same_number n k o p load loads e = cc
 
-same_asked : (n k : ℕ) (o p : Op) (load loads : Bool) → awaits.Reply n o load ≡ awaits.Reply k p loads → o ≡ p
+pub same_asked : (n k : ℕ) (o p : Op) (load loads : Bool) → awaits.Reply n o load ≡ awaits.Reply k p loads → o ≡ p
 same_asked n k o p load loads e = cc
 
 not_turn : (n : ℕ) (o : Op) (load : Bool) → awaits.Turn ≡ awaits.Reply n o load → ⊥
@@ -256,7 +237,7 @@ counts_at_own : (g : Group) (past : List TraceStep) (x : TraceStep) → IsStep g
 counts_at_own g past x is h =
     let new : Counts x.client (move_of g past x).next (completion x.client (move_of g past x).next.path (move_of g past x).returns ++ completions g past) =
         counts_own g x.client (standing g x.client past) x.input (move_of g past x) (kind_of g past x is) (completions g past) h in
-    subst (λ (s : Standing). Counts x.client s (completions g (x ∷ past))) (sym (stands_own g x past))
+    subst (λ (s : Standing). Counts x.client s (completions g (x ∷ past))) (sym (standing_moved g x.client x past refl))
     (subst (λ (cs : List Completion). Counts x.client (move_of g past x).next cs) (sym (completions_after g past x is)) new)
 
 pub counts : (g : Group) (h : List TraceStep) → AreSteps g h → (me : ℕ) → Counts me (standing g me h) (completions g h)
@@ -271,7 +252,7 @@ counts g (x ∷ past) steps me =
     elim (cases_eq x.client me) as Goal [
         inl e ↦ subst (λ (m : ℕ). Counts m (standing g m (x ∷ past)) (completions g (x ∷ past))) e
             (counts_at_own g past x steps.1 (counts g past steps.0 x.client))
-        | inr differ ↦ subst (λ (s : Standing). Counts me s (completions g (x ∷ past))) (sym (stands_other g me x past differ))
+        | inr differ ↦ subst (λ (s : Standing). Counts me s (completions g (x ∷ past))) (sym (standing_kept g me x past differ))
             (counts_other g past x steps.1 me differ (counts g past steps.0 me))
     ]
 
@@ -370,11 +351,11 @@ asked_since g (x ∷ past) steps me n o load alive e =
     let Goal : (x.client ≡ me) ⊎ (x.client ≡ me → ⊥) → Type 0 = λ c. Asked g (x ∷ past) me n o in
     elim (cases_eq x.client me) as Goal [
         inl same ↦ subst (λ (m : ℕ). Asked g (x ∷ past) m n o) same
-            (let leads : standing g me (x ∷ past) ≡ (move_of g past x).next = subst (λ (m : ℕ). standing g m (x ∷ past) ≡ (move_of g past x).next) same (stands_own g x past) in
+            (let leads : standing g me (x ∷ past) ≡ (move_of g past x).next = subst (λ (m : ℕ). standing g m (x ∷ past) ≡ (move_of g past x).next) same (standing_moved g x.client x past refl) in
             asked_own g x past (kind_of g past x steps.1) n o load
                 (sym (ap (λ (s : Standing). s.halted) leads) ∙ alive) (sym (ap (λ (s : Standing). s.awaiting) leads) ∙ e))
         | inr differ ↦
-            (let keeps : standing g me (x ∷ past) ≡ standing g me past = stands_other g me x past differ in
+            (let keeps : standing g me (x ∷ past) ≡ standing g me past = standing_kept g me x past differ in
             asked_other g x past me n o differ
                 (asked_since g past steps.0 me n o load (sym (ap (λ (s : Standing). s.halted) keeps) ∙ alive) (sym (ap (λ (s : Standing). s.awaiting) keeps) ∙ e)))
     ]
@@ -414,7 +395,7 @@ answered_now g x past steps is r =
         returned = is.returned ∙ ap (λ (m : Move). m.returns) r.moved;
     }
 
-newest_entry : (a b : Entry) (p q : List Entry) → a ∷ p ≡ b ∷ q → a ≡ b
+pub newest_entry : (a b : Entry) (p q : List Entry) → a ∷ p ≡ b ∷ q → a ≡ b
 newest_entry a b p q e = cc
 
 -- each completion is the answer to a call that its client was asked for

@@ -8,24 +8,11 @@ use Rattle.vic_dict.specs.declared.op.Op.TheVariants as op
 use Rattle.vic_dict.specs.declared.op.Entry.{Entry}
 use Rattle.vic_dict.specs.Lists.{front, newest}
 use Rattle.vic_rules.specs.Client.{same_op, same_entry, least_above, or_this}
+use Rattle.vic_laws.proofs.Words.{op_same, entry_same}
 use Rattle.vic_laws.specs.OrderClaims.{SameOpIs, SameEntryIs, PassesAt, IsLeastAbove, LeastAboveIs, NoneAboveIs}
-
--- two texts that pass the test are equal
-same_bytes : (k q : List ℕ) → bytes_eq k q ≡ true → k ≡ q
-same_bytes k q e = (bytes_eq-Decides k q).0 e
 
 itself : (k : List ℕ) → bytes_eq k k ≡ true
 itself k = (bytes_eq-Decides k k).1 refl
-
--- operations that pass the test are equal
-pub op_from_same : (a b : Op) → same_op a b ≡ true → a ≡ b
-op_from_same (op.Put k v) (op.Put q w) e =
-    let both = and_parts (bytes_eq k q) (bytes_eq v w) e in
-    ap₂ op.Put (same_bytes k q both.0) (same_bytes v w both.1)
-op_from_same (op.Get k) (op.Get q) e = ap op.Get (same_bytes k q e)
-op_from_same (op.Del k) (op.Del q) e = ap op.Del (same_bytes k q e)
-op_from_same (op.List k) (op.List q) e = ap op.List (same_bytes k q e)
-op_from_same _ _ e = cc
 
 -- an operation passes the test with itself
 pub op_same_itself : (a : Op) → same_op a a ≡ true
@@ -35,17 +22,7 @@ op_same_itself (op.Del k) = itself k
 op_same_itself (op.List k) = itself k
 
 pub same_op_tells : SameOpIs
-same_op_tells a b = (op_from_same a b, λ e. subst (λ (x : Op). same_op a x ≡ true) e (op_same_itself a))
-
--- entries that pass the test are equal
-pub entry_from_same : (a b : Entry) → same_entry a b ≡ true → a ≡ b
-entry_from_same a b e =
-    let outer = and_parts (nat_eq a.client b.client) (nat_eq a.seq b.seq && same_op a.op b.op) e in
-    let inner = and_parts (nat_eq a.seq b.seq) (same_op a.op b.op) outer.1 in
-    let client = (Decides-eqb a.client b.client).0 outer.0 in
-    let seq = (Decides-eqb a.seq b.seq).0 inner.0 in
-    let o = op_from_same a.op b.op inner.1 in
-    λ i. record { client = client i; seq = seq i; op = o i }
+same_op_tells a b = (op_same a b, λ e. subst (λ (x : Op). same_op a x ≡ true) e (op_same_itself a))
 
 -- an entry passes the test with itself
 pub entry_same_itself : (a : Entry) → same_entry a a ≡ true
@@ -54,7 +31,7 @@ entry_same_itself a =
     (and_from (nat_eq a.seq a.seq) (same_op a.op a.op) ((Decides-eqb a.seq a.seq).1 refl) (op_same_itself a.op))
 
 pub same_entry_tells : SameEntryIs
-same_entry_tells a b = (entry_from_same a b, λ e. subst (λ (x : Entry). same_entry a x ≡ true) e (entry_same_itself a))
+same_entry_tells a b = (entry_same a b, λ e. subst (λ (x : Entry). same_entry a x ≡ true) e (entry_same_itself a))
 
 -- the test decides whether two entries are equal
 pub same_entry-Decides : (a b : Entry) → Decides (same_entry a b) (a ≡ b)

@@ -1,6 +1,6 @@
 //! The laws on the order of calls.
 
-ghost use Rattle.vic_laws.specs.OrderClaims.{SameOpIs, SameEntryIs, LeastAboveIs, NoneAboveIs, ConfirmedIs, ConfirmedByOwner, ViewsAgree, ViewsShowOnlyCalls};
+ghost use Rattle.vic_laws.specs.OrderClaims.{SameOpIs, SameEntryIs, LeastAboveIs, NoneAboveIs, ConfirmedIs, ConfirmedByOwner, ViewsAgree, ViewsComplete, ViewsInRealTime, ViewsShowOnlyCalls};
 
 /// The tests of equality of operations and of entries find what is equal.
 pub fn same_op_is()
@@ -32,5 +32,17 @@ pub fn agreement()
 /// Each view shows only calls that were asked for and answered so.
 pub fn only_calls()
     ensures { ViewsShowOnlyCalls }
+{
+}
+
+/// Each view has all that its client completed, and each such call once.
+pub fn complete()
+    ensures { ViewsComplete }
+{
+}
+
+/// Unless a tag was forged, each view keeps real-time order.
+pub fn real_time()
+    ensures { ViewsInRealTime }
 {
 }
