@@ -15,20 +15,16 @@ use Rattle.vic_rules.specs.declared.trace.TraceStep.{TraceStep}
 use Rattle.vic_rules.specs.Client.{Standing, at_start, Move, step, decision, decided}
 use Rattle.vic_rules.specs.History.{standing, path, move_of, IsStep, AreSteps, Completion, completion, completions}
 use Rattle.vic_rules.specs.Views.{IsCall, MakesCall, NoStepOf, IsAnswered}
-use Rattle.vic_spellings.proofs.Answers.{answer_fits, answer_spelled}
 use Rattle.vic_laws.proofs.Words.{in_left, in_right, in_either}
 use Rattle.vic_laws.proofs.Steps.{Quiet, Called, Replied, Updated, Listed, Kind, is_quiet, is_called, is_replied, is_updated, is_listed, call_of}
-use Rattle.vic_laws.proofs.StepKinds.{AnswerFits, step_kind}
+use Rattle.vic_laws.proofs.StepKinds.{step_kind}
 use Rattle.vic_laws.proofs.Standings.{standing_moved, standing_kept}
 
 -- ---- what kind a step is
 
--- what a client reads in a payload has a spelling, which is the payload
-fits : AnswerFits
-fits b m bytes e = (answer_fits b m bytes e, answer_spelled b m bytes e)
-
+-- each step of a lawful history is of one kind
 pub kind_of : (g : Group) (past : List TraceStep) (x : TraceStep) → IsStep g past x → Kind g x.client (standing g x.client past) x.input (move_of g past x)
-kind_of g past x is = step_kind fits g x.client (standing g x.client past) x.input is.may
+kind_of g past x is = step_kind g x.client (standing g x.client past) x.input is.may
 
 -- ---- paths grow
 

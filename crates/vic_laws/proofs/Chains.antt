@@ -1,17 +1,16 @@
 -- One hash tells one path, or two different texts have one hash.
-use Rattle.std.specs.Prelude.{◌≡◌, ◌≢◌, ℕ, ◌⊎◌, Bool, true, false, List, [], ◌∷◌, ◌++◌, length, suc, zero, ◌-◌, drop}
+use Rattle.std.specs.Prelude.{◌≡◌, ◌≢◌, ℕ, ◌⊎◌, List, [], ◌∷◌, ◌++◌, length}
 use Rattle.std.specs.List.{AllByRecursion}
 use Rattle.std.specs.Str.{bytes_eq}
-use Rattle.std.proofs.Common.{refl, ap, subst, sym, ◌∙◌, inl, inr, Ok, true≢false, arith}
+use Rattle.std.proofs.Common.{refl, ap, sym, ◌∙◌, inl, inr, true≢false, arith}
 use Rattle.std.proofs.lemmas.Bool.{cases_Bool}
 use Rattle.std.proofs.lemmas.Slice.Eq.{bytes_eq-Decides}
 use Rattle.sha2.proofs.Facts256.{length-sha256}
 use Rattle.vic_dict.specs.declared.op.Entry.{Entry}
-use Rattle.vic_dict.specs.Lists.{IsIn, front}
 use Rattle.vic_wire.specs.Texts.{chain_text, genesis_text, entry_text}
 use Rattle.vic_wire.specs.Hashes.{Group, chain, hash}
 use Rattle.vic_wire.specs.Messages.{IsEntry}
-use Rattle.vic_wire.specs.Reading.{entry_at, FieldFault}
+use Rattle.vic_wire.specs.Reading.{entry_at}
 use Rattle.vic_rules.specs.Trust.{chain_texts}
 use Rattle.vic_spellings.proofs.Entries.{entry_again}
 use Rattle.vic_spellings.proofs.Steps.{ok_is}
@@ -23,8 +22,9 @@ TwoTexts IsOne = (one : List ℕ) × (other : List ℕ) × IsOne one × IsOne ot
 -- two texts of one hash are equal, or they are such
 pub told_by_hash : (IsOne : List ℕ → Type 0) (t u : List ℕ) → IsOne t → IsOne u → hash t ≡ hash u → (t ≡ u) ⊎ TwoTexts IsOne
 told_by_hash IsOne t u a b e = elim (cases_Bool (bytes_eq t u)) [
-    inl same ↦ inl ((bytes_eq-Decides t u).0 same)
-  | inr differ ↦ inr (t, u, a, b, (λ same. true≢false (sym ((bytes_eq-Decides t u).1 same) ∙ differ)), e) ]
+  | inl same ↦ inl ((bytes_eq-Decides t u).0 same)
+  | inr differ ↦ inr (t, u, a, b, (λ same. true≢false (sym ((bytes_eq-Decides t u).1 same) ∙ differ)), e)
+]
 
 -- fronts of one length tell the rests
 pub append_same : (a b x y : List ℕ) → length a ≡ length b → a ++ x ≡ b ++ y → (a ≡ b) × (x ≡ y)
@@ -62,8 +62,9 @@ module _ (g : Group) (IsOne : List ℕ → Type 0) (genesis : IsOne (genesis_tex
   -- the hash of the empty path is that of no other
   empty_told : (e : Entry) (q : List Entry) → IsOne (chain_text (chain g q) e) → hash (genesis_text g.mode g.count) ≡ hash (chain_text (chain g q) e) → TwoTexts IsOne
   empty_told e q a s = elim (told_by_hash IsOne (genesis_text g.mode g.count) (chain_text (chain g q) e) genesis a s) [
-      inl same ↦ absurd (genesis_apart _ _ same)
-    | inr two ↦ two ]
+    | inl same ↦ absurd (genesis_apart _ _ same)
+    | inr two ↦ two
+  ]
 
   -- one hash of two paths whose texts are of a kind, and whose entries have spellings: one path, or two such texts
   pub told_by_chain : (p q : List Entry) → AllByRecursion IsEntry p → AllByRecursion IsEntry q → AllByRecursion IsOne (chain_texts g p) → AllByRecursion IsOne (chain_texts g q)
@@ -76,11 +77,14 @@ module _ (g : Group) (IsOne : List ℕ → Type 0) (genesis : IsOne (genesis_tex
     where
       joined : (e ≡ f) → (p ≡ q) → e ∷ p ≡ f ∷ q
       joined x y = cc
+
       both : chain_text (chain g p) e ≡ chain_text (chain g q) f → (chain g p ≡ chain g q) × (entry_text e ≡ entry_text f)
       both t = append_same (chain g p) (chain g q) (entry_text e) (entry_text f) (length-chain g p ∙ sym (length-chain g q)) (tail_same 1 1 (chain g p ++ entry_text e) (chain g q ++ entry_text f) t)
+
       after : e ≡ f → (p ≡ q) ⊎ TwoTexts IsOne → (e ∷ p ≡ f ∷ q) ⊎ TwoTexts IsOne
       after x (inl y) = inl (joined x y)
       after x (inr two) = inr two
+
       step : (chain_text (chain g p) e ≡ chain_text (chain g q) f) ⊎ TwoTexts IsOne → (chain g p ≡ chain g q → (p ≡ q) ⊎ TwoTexts IsOne) → (e ∷ p ≡ f ∷ q) ⊎ TwoTexts IsOne
       step (inl t) go = after (same_entry_text e f sp.0 sq.0 (both t).1) (go (both t).0)
       step (inr two) go = inr two

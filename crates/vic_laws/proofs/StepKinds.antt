@@ -27,6 +27,7 @@ use Rattle.vic_rules.specs.Client.{Standing, Move, Sending, Polls, Syncs, moves,
 use Rattle.vic_rules.specs.Trust.{taken_by, checked_texts, seal_texts, parts_in, text_sent}
 use Rattle.vic_rules.specs.Views.{IsCall}
 use Rattle.vic_rules.specs.History.{completion}
+use Rattle.vic_spellings.proofs.Answers.{answer_fits, answer_spelled}
 use Rattle.vic_laws.proofs.Words.{some_same, some_of, none_of, none_is_some, all_true, all_weaker, in_right, are_bytes_after, bytes_same, entry_same}
 use Rattle.vic_laws.proofs.Steps.{Passes, IsOther, call_of, StandsAbove, Sealing, Arrived, Quiet, Kind, is_quiet, is_called, is_replied, is_updated, is_listed}
 
@@ -319,75 +320,70 @@ halts_kind g me k s b alive = is_quiet (quiet_halt g me k s b (λ j e. absurd cc
 part_bytes : (b before part : List ℕ) → AreBytes b → b ≡ before ++ part → AreBytes part
 part_bytes b before part h e = are_bytes_after before part (subst AreBytes e h)
 
--- what is read in a payload has a spelling, which the payload is
-abbrev pub AnswerFits : Type 0
-AnswerFits = (b : List ℕ) (m : ToClient) → AreBytes b → read_answer b ≡ Some m → HasSpelling m × (b ≡ answer_text m)
+taken_kind : (g : Group) (me : ℕ) (s : Standing) (b : List ℕ) (m : ToClient) → s.halted ≡ None → AreBytes b → read_answer b ≡ Some m → Passes g me s m
+    → b ≡ answer_text m → Kind g me s (input.Payload b) (taken me s m)
+taken_kind g me s b say.Hi alive h read passes text = halts_kind g me 1 s b alive
+taken_kind g me s b (say.Reply seal entries bytes) alive h read passes text =
+    reply_kind g me s b seal entries bytes alive (part_bytes b (0x42 ∷ seal_field seal ++ entries_field entries) bytes h text) read passes
+taken_kind g me s b say.Wait alive h read passes text =
+    is_quiet (quiet_answer g me s b say.Wait None alive read refl refl refl (λ p. refl) (λ c p. refl))
+taken_kind g me s b (say.Update seal bytes) alive h read passes text =
+    update_kind g me s b seal bytes alive (part_bytes b (0x44 ∷ seal_field seal) bytes h text) read passes
+taken_kind g me s b (say.Entries seal entries) alive h read passes text = entries_kind g me s b seal entries alive read passes
+taken_kind g me s b (say.Refused r) alive h read passes text =
+    is_quiet (quiet_answer g me s b (say.Refused r) (Some (outcome.Refused r)) alive read refl refl refl (λ p. refl) (λ c p. refl))
+taken_kind g me s b say.Kept alive h read passes text = halts_kind g me 1 s b alive
+taken_kind g me s b (say.Content c) alive h read passes text = halts_kind g me 1 s b alive
+taken_kind g me s b say.Gone alive h read passes text = halts_kind g me 1 s b alive
+taken_kind g me s b say.Absent alive h read passes text = halts_kind g me 1 s b alive
 
-module _ (answer_fits : AnswerFits) where
-  taken_kind : (g : Group) (me : ℕ) (s : Standing) (b : List ℕ) (m : ToClient) → s.halted ≡ None → AreBytes b → read_answer b ≡ Some m → Passes g me s m
-      → b ≡ answer_text m → Kind g me s (input.Payload b) (taken me s m)
-  taken_kind g me s b say.Hi alive h read passes text = halts_kind g me 1 s b alive
-  taken_kind g me s b (say.Reply seal entries bytes) alive h read passes text =
-      reply_kind g me s b seal entries bytes alive (part_bytes b (0x42 ∷ seal_field seal ++ entries_field entries) bytes h text) read passes
-  taken_kind g me s b say.Wait alive h read passes text =
-      is_quiet (quiet_answer g me s b say.Wait None alive read refl refl refl (λ p. refl) (λ c p. refl))
-  taken_kind g me s b (say.Update seal bytes) alive h read passes text =
-      update_kind g me s b seal bytes alive (part_bytes b (0x44 ∷ seal_field seal) bytes h text) read passes
-  taken_kind g me s b (say.Entries seal entries) alive h read passes text = entries_kind g me s b seal entries alive read passes
-  taken_kind g me s b (say.Refused r) alive h read passes text =
-      is_quiet (quiet_answer g me s b (say.Refused r) (Some (outcome.Refused r)) alive read refl refl refl (λ p. refl) (λ c p. refl))
-  taken_kind g me s b say.Kept alive h read passes text = halts_kind g me 1 s b alive
-  taken_kind g me s b (say.Content c) alive h read passes text = halts_kind g me 1 s b alive
-  taken_kind g me s b say.Gone alive h read passes text = halts_kind g me 1 s b alive
-  taken_kind g me s b say.Absent alive h read passes text = halts_kind g me 1 s b alive
+read_kind : (g : Group) (me : ℕ) (s : Standing) (b : List ℕ) (m : Option ToClient) (k : Option ℕ) → s.halted ≡ None → AreBytes b → read_answer b ≡ m
+    → verdict_on g me s m ≡ k → Kind g me s (input.Payload b) (taken_or_halts me s m k)
+read_kind g me s b m (Some k) alive h read e = halts_kind g me k s b alive
+read_kind g me s b (Some m) None alive h read e =
+    taken_kind g me s b m alive h read (all_passed g me s m (answer_fits b m h read) e) (answer_spelled b m h read)
+read_kind g me s b None None alive h read e = halts_kind g me 1 s b alive
 
-  read_kind : (g : Group) (me : ℕ) (s : Standing) (b : List ℕ) (m : Option ToClient) (k : Option ℕ) → s.halted ≡ None → AreBytes b → read_answer b ≡ m
-      → verdict_on g me s m ≡ k → Kind g me s (input.Payload b) (taken_or_halts me s m k)
-  read_kind g me s b m (Some k) alive h read e = halts_kind g me k s b alive
-  read_kind g me s b (Some m) None alive h read e =
-      let fits = answer_fits b m h read in taken_kind g me s b m alive h read (all_passed g me s m fits.0 e) fits.1
-  read_kind g me s b None None alive h read e = halts_kind g me 1 s b alive
+payload_kind : (g : Group) (me : ℕ) (s : Standing) (b : List ℕ) (halted : Option ℕ) → s.halted ≡ halted → AreBytes b → Kind g me s (input.Payload b) (on_payload g me s halted b)
+unfolding verdict
+payload_kind g me s b (Some k) e h = is_quiet (quiet_halt g me k s b (λ j f. some_same (sym e ∙ f)))
+payload_kind g me s b None e h = read_kind g me s b (read_answer b) (verdict_on g me s (read_answer b)) e h refl refl
 
-  payload_kind : (g : Group) (me : ℕ) (s : Standing) (b : List ℕ) (halted : Option ℕ) → s.halted ≡ halted → AreBytes b → Kind g me s (input.Payload b) (on_payload g me s halted b)
-  unfolding verdict
-  payload_kind g me s b (Some k) e h = is_quiet (quiet_halt g me k s b (λ j f. some_same (sym e ∙ f)))
-  payload_kind g me s b None e h = read_kind g me s b (read_answer b) (verdict_on g me s (read_answer b)) e h refl refl
+idle_alive : (s : Standing) → IsIdle s → s.halted ≡ None
+idle_alive s idle = none_of s.halted (and_parts (awaits_nothing s.awaiting) (is_none s.halted) idle).1
 
-  idle_alive : (s : Standing) → IsIdle s → s.halted ≡ None
-  idle_alive s idle = none_of s.halted (and_parts (awaits_nothing s.awaiting) (is_none s.halted) idle).1
+quiet_ask : (g : Group) (me : ℕ) (s : Standing) (i : Input) (v : Move) (a : Awaiting) (sends : Sending) → IsIdle s → (IsCall i → ⊥) → ((after : Standing) → taken_by after i ≡ None)
+    → ((n : ℕ) (o : Op) (load : Bool) → a ≡ awaits.Reply n o load → ⊥) → ((x : Standing) → text_sent g me x (Some sends) ≡ [])
+    → v ≡ moves (record s { awaiting = a }) (Some sends) None → Quiet g me s i v
+quiet_ask g me s i v a sends idle asks takes waits silent e = subst (λ w. Quiet g me s i w) (sym e) (record {
+  path = refl;
+  sealed = refl;
+  root = refl;
+  own = refl;
+  calls = refl;
+  stays = λ j f. f;
+  rests = λ n o load f w. waits n o load w;
+  calls_nothing = asks;
+  sends_nothing = silent (record s { awaiting = a });
+  completes_nothing = λ c p. refl;
+  checks_nothing = λ p. ap (checked_texts g p) (takes (record s { awaiting = a }));
+  seals_nothing = λ m f. absurd (none_is_some (sym (takes (record s { awaiting = a })) ∙ f));
+  shows_nothing = ap parts_in (takes (record s { awaiting = a }));
+})
 
-  quiet_ask : (g : Group) (me : ℕ) (s : Standing) (i : Input) (v : Move) (a : Awaiting) (sends : Sending) → IsIdle s → (IsCall i → ⊥) → ((after : Standing) → taken_by after i ≡ None)
-      → ((n : ℕ) (o : Op) (load : Bool) → a ≡ awaits.Reply n o load → ⊥) → ((x : Standing) → text_sent g me x (Some sends) ≡ [])
-      → v ≡ moves (record s { awaiting = a }) (Some sends) None → Quiet g me s i v
-  quiet_ask g me s i v a sends idle asks takes waits silent e = subst (λ w. Quiet g me s i w) (sym e) (record {
-    path = refl;
-    sealed = refl;
-    root = refl;
-    own = refl;
-    calls = refl;
-    stays = λ j f. f;
-    rests = λ n o load f w. waits n o load w;
-    calls_nothing = asks;
-    sends_nothing = silent (record s { awaiting = a });
-    completes_nothing = λ c p. refl;
-    checks_nothing = λ p. ap (checked_texts g p) (takes (record s { awaiting = a }));
-    seals_nothing = λ m f. absurd (none_is_some (sym (takes (record s { awaiting = a })) ∙ f));
-    shows_nothing = ap parts_in (takes (record s { awaiting = a }));
-  })
-
-  -- what a client may do where it stands is of one of the five kinds
-  pub step_kind : (g : Group) (me : ℕ) (s : Standing) (i : Input) → MayStep g s i → Kind g me s i (step g me s i)
-  unfolding step
-  step_kind g me s (input.Call o) may = is_called (record {
-    op = o;
-    asked = refl;
-    idle = may.0;
-    alive = idle_alive s may.0;
-    plain = may.1.0;
-    fits = (may.1.1.0, may.1.1.1.0);
-    few = may.1.1.1.1;
-    moved = refl;
-  })
-  step_kind g me s input.Poll may = is_quiet (quiet_ask g me s input.Poll _ awaits.Turn Polls may (λ c. c) (λ a. refl) (λ n o load e. absurd cc) (λ x. refl) refl)
-  step_kind g me s input.Sync may = is_quiet (quiet_ask g me s input.Sync _ awaits.Entries Syncs may (λ c. c) (λ a. refl) (λ n o load e. absurd cc) (λ x. refl) refl)
-  step_kind g me s (input.Payload b) may = payload_kind g me s b s.halted refl may
+-- what a client may do where it stands is of one of the five kinds
+pub step_kind : (g : Group) (me : ℕ) (s : Standing) (i : Input) → MayStep g s i → Kind g me s i (step g me s i)
+unfolding step
+step_kind g me s (input.Call o) may = is_called (record {
+  op = o;
+  asked = refl;
+  idle = may.0;
+  alive = idle_alive s may.0;
+  plain = may.1.0;
+  fits = (may.1.1.0, may.1.1.1.0);
+  few = may.1.1.1.1;
+  moved = refl;
+})
+step_kind g me s input.Poll may = is_quiet (quiet_ask g me s input.Poll _ awaits.Turn Polls may (λ c. c) (λ a. refl) (λ n o load e. absurd cc) (λ x. refl) refl)
+step_kind g me s input.Sync may = is_quiet (quiet_ask g me s input.Sync _ awaits.Entries Syncs may (λ c. c) (λ a. refl) (λ n o load e. absurd cc) (λ x. refl) refl)
+step_kind g me s (input.Payload b) may = payload_kind g me s b s.halted refl may

@@ -1,5 +1,5 @@
 -- The laws of histories, one by one. Each holds of every lawful history, whatever the payloads hold.
-use Rattle.std.specs.Prelude.{◌≡◌, ◌≢◌, ℕ, ◌≤◌, ◌⊎◌, List, [], ◌∷◌, ◌++◌, Option, Some, None}
+use Rattle.std.specs.Prelude.{◌≡◌, ◌≢◌, ℕ, ◌⊎◌, List, [], ◌∷◌, ◌++◌, Some}
 use Rattle.vic_dict.specs.declared.op.Entry.{Entry}
 use Rattle.vic_dict.specs.Lists.{IsIn, front}
 use Rattle.vic_wire.specs.declared.message.Seal.{Seal}
@@ -9,7 +9,7 @@ use Rattle.vic_wire.specs.Texts.{invoke_text}
 use Rattle.vic_wire.specs.Hashes.{Group, chain, tag_of}
 use Rattle.vic_wire.specs.Trees.{dictionary_root}
 use Rattle.vic_rules.specs.declared.trace.TraceStep.{TraceStep}
-use Rattle.vic_rules.specs.Client.{Sending, Seals, entries_of, seal_of, seal_text_on}
+use Rattle.vic_rules.specs.Client.{Seals, entries_of, seal_of, seal_text_on}
 use Rattle.vic_rules.specs.History.{IsLawful, path, move_of, Completion, completions}
 use Rattle.vic_rules.specs.Views.{confirmed, confirmed_calls, left_by}
 use Rattle.vic_rules.specs.Trust.{IsForged, Collides, took}
