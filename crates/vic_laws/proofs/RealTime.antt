@@ -1,35 +1,30 @@
 -- Unless a tag was forged, each view keeps real-time order: no call stands on a path before it was made.
-use Rattle.std.proofs.Common.{◌≡◌, ℕ, zero, suc, ◌+◌, ◌<◌, ◌≤◌, ◌^◌, ◌⊎◌, inl, inr, Bool, true, false, List, [], ◌∷◌, ◌++◌, length, take, Option, Some, None, refl, sym, ◌∙◌, ap, subst, arith, append_assoc, bytes_eq}
+use Rattle.std.proofs.Common.{◌≡◌, ℕ, ◌+◌, ◌<◌, ◌≤◌, ◌^◌, ◌⊎◌, inl, inr, Bool, true, false, List, [], ◌∷◌, ◌++◌, length, take, Option, refl, sym, ◌∙◌, ap, subst, arith, bytes_eq}
 use Rattle.std.specs.Int.{w32, to_be_bytes, from_be_bytes}
-use Rattle.std.specs.Option.{option_to_list}
 use Rattle.std.proofs.lemmas.Bool.{cases_eq, cases_Bool}
 use Rattle.std.proofs.lemmas.Bool.Decides.{not_from_Decides}
 use Rattle.std.proofs.lemmas.List.{take_at}
 use Rattle.std.proofs.lemmas.Nat.{from_be_bytes-to_be_bytes_4}
 use Rattle.std.proofs.lemmas.Slice.Eq.{bytes_eq-Decides}
-use Rattle.vic_dict.specs.declared.op.Op.{Op}
-use Rattle.vic_dict.specs.declared.op.Outcome.{Outcome}
 use Rattle.vic_dict.specs.declared.op.Entry.{Entry}
-use Rattle.vic_dict.specs.Dictionary.{Dictionary}
 use Rattle.vic_dict.specs.Lists.{IsIn}
 use Rattle.vic_wire.specs.Texts.{invoke_text, op_text}
 use Rattle.vic_wire.specs.Hashes.{Group}
 use Rattle.vic_rules.specs.declared.trace.Input.{Input}
 use Rattle.vic_rules.specs.declared.trace.TraceStep.{TraceStep}
 use Rattle.vic_rules.specs.declared.trace.Shown.{Shown}
-use Rattle.vic_wire.specs.Parts.{Part}
 use Rattle.vic_rules.specs.declared.trace.Input.TheVariants as input
-use Rattle.vic_rules.specs.Client.{Standing, Move, MayStep, decision, decided, commit_text_on, seal_text_on}
-use Rattle.vic_rules.specs.History.{standing, path, move_of, IsLawful, IsStep, AreSteps, Completion, completions}
-use Rattle.vic_rules.specs.Views.{confirmed_calls, last_prefix, view_of, IsCall, IsSameCall, IsCompleted, ReturnedBefore, Earlier, IsInRealTime}
+use Rattle.vic_rules.specs.Client.{Standing, Move, MayStep, commit_text_on, seal_text_on}
+use Rattle.vic_rules.specs.History.{standing, path, move_of, IsStep, AreSteps, Completion, completions}
+use Rattle.vic_rules.specs.Views.{confirmed_calls, last_prefix, view_of, IsCall, IsCompleted, ReturnedBefore, Earlier, IsInRealTime}
 use Rattle.vic_rules.specs.Trust.{took, taken_by, checked_texts, texts_taken, text_sent, texts_made, IsForged}
-use Rattle.vic_laws.specs.OrderClaims.{ViewsInRealTime}
-use Rattle.vic_laws.proofs.Words.{in_left, in_right, in_either}
-use Rattle.vic_laws.proofs.Steps.{Quiet, Called, Replied, Updated, Listed, Kind, is_quiet, is_called, is_replied, is_updated, is_listed, call_of}
+use Rattle.vic_laws.specs.OrderClaims.{CompletedAs, ViewsInRealTime}
+use Rattle.vic_laws.proofs.Words.{in_right, in_either}
+use Rattle.vic_laws.proofs.Steps.{Kind, is_quiet, is_called, is_replied, is_updated, is_listed, call_of}
 use Rattle.vic_laws.proofs.Standings.{standing_moved, standing_kept, earlier_steps}
-use Rattle.vic_laws.proofs.Calls.{kind_of, Grows, completed_by, RepliedAt, completion_after, completion_stays, newest_entry}
+use Rattle.vic_laws.proofs.Calls.{kind_of, Grows, completion_stays, newest_entry}
 use Rattle.vic_laws.proofs.Agreement.{confirmed_tells, same_completion, ShownAt, shown_in, shown_entry, shown_list}
-use Rattle.vic_laws.proofs.Complete.{CompletedAs, answered_completion, completions_stay, path_has, confirmed_below}
+use Rattle.vic_laws.proofs.Complete.{answered_completion, is_completed, completions_stay, path_has, confirmed_below}
 
 -- ---- texts of calls
 
@@ -54,20 +49,20 @@ length-w32 n = refl
 same_w32 : (n k : ℕ) (s t : List ℕ) → n < 2 ^ 32 → k < 2 ^ 32 → to_be_bytes w32 n ++ s ≡ to_be_bytes w32 k ++ t → n ≡ k
 same_w32 n k s t fn fk e =
     let bytes : to_be_bytes w32 n ≡ to_be_bytes w32 k =
-        sym (take_at (to_be_bytes w32 n) s 4 (length-w32 n)) ∙ ap (take 4) e ∙ take_at (to_be_bytes w32 k) t 4 (length-w32 k) in
+    sym (take_at (to_be_bytes w32 n) s 4 (length-w32 n)) ∙ ap (take 4) e ∙ take_at (to_be_bytes w32 k) t 4 (length-w32 k) in
     sym (from_be_bytes-to_be_bytes_4 n fn) ∙ ap (from_be_bytes w32) bytes ∙ from_be_bytes-to_be_bytes_4 k fk
 
 -- the text of a call tells its client and its number
 text_client : (a b : Entry) → invoke_text a ≡ invoke_text b → a.client ≡ b.client
 text_client a b e =
     first_of_list a.client b.client (to_be_bytes w32 a.seq ++ op_text a.op) (to_be_bytes w32 b.seq ++ op_text b.op)
-        (rest_of 17 17 (a.client ∷ to_be_bytes w32 a.seq ++ op_text a.op) (b.client ∷ to_be_bytes w32 b.seq ++ op_text b.op) e)
+    (rest_of 17 17 (a.client ∷ to_be_bytes w32 a.seq ++ op_text a.op) (b.client ∷ to_be_bytes w32 b.seq ++ op_text b.op) e)
 
 text_number : (a b : Entry) → a.seq < 2 ^ 32 → b.seq < 2 ^ 32 → invoke_text a ≡ invoke_text b → a.seq ≡ b.seq
 text_number a b fa fb e =
     same_w32 a.seq b.seq (op_text a.op) (op_text b.op) fa fb
-        (rest_of a.client b.client (to_be_bytes w32 a.seq ++ op_text a.op) (to_be_bytes w32 b.seq ++ op_text b.op)
-            (rest_of 17 17 (a.client ∷ to_be_bytes w32 a.seq ++ op_text a.op) (b.client ∷ to_be_bytes w32 b.seq ++ op_text b.op) e))
+    (rest_of a.client b.client (to_be_bytes w32 a.seq ++ op_text a.op) (to_be_bytes w32 b.seq ++ op_text b.op)
+    (rest_of 17 17 (a.client ∷ to_be_bytes w32 a.seq ++ op_text a.op) (b.client ∷ to_be_bytes w32 b.seq ++ op_text b.op) e))
 
 commit_is_no_call : (g : Group) (p : List Entry) (done : Bool) (e : Entry) → commit_text_on g p done ≡ invoke_text e → ⊥
 unfolding commit_text_on
@@ -99,11 +94,11 @@ pub calls_grow : (g : Group) (me : ℕ) (x : TraceStep) (past : List TraceStep) 
 calls_grow g me x past is =
     let Goal : (x.client ≡ me) ⊎ (x.client ≡ me → ⊥) → Type 0 = λ c. (standing g me past).calls ≤ (standing g me (x ∷ past)).calls in
     elim (cases_eq x.client me) as Goal [
-        inl same ↦ subst (λ (m : ℕ). (standing g m past).calls ≤ (standing g m (x ∷ past)).calls) same
-            (subst (λ (s : Standing). (standing g x.client past).calls ≤ s.calls) (sym (standing_moved g x.client x past refl))
-                (calls_move g x.client (standing g x.client past) x.input (move_of g past x) (kind_of g past x is)))
-        | inr differ ↦ subst (λ (s : Standing). (standing g me past).calls ≤ s.calls) (sym (standing_kept g me x past differ))
-            (let n : ℕ = (standing g me past).calls in omega arith)
+      | inl same ↦ subst (λ (m : ℕ). (standing g m past).calls ≤ (standing g m (x ∷ past)).calls) same
+          (subst (λ (s : Standing). (standing g x.client past).calls ≤ s.calls) (sym (standing_moved g x.client x past refl))
+          (calls_move g x.client (standing g x.client past) x.input (move_of g past x) (kind_of g past x is)))
+      | inr differ ↦ subst (λ (s : Standing). (standing g me past).calls ≤ s.calls) (sym (standing_kept g me x past differ))
+          (let n : ℕ = (standing g me past).calls in omega arith)
     ]
 
 -- a call's text that a client sends is that of its newest call
@@ -116,10 +111,10 @@ sent_number g me s i v (is_called a) e few w =
     let calls : v.next.calls ≡ s.calls + 1 = ap (λ (m : Move). m.next.calls) a.moved in
     let Goal : IsIn (invoke_text call ∷ []) (invoke_text e) → Type 0 = λ k. (me ≡ e.client) × (e.seq ≤ v.next.calls) in
     elim sent as Goal [
-        inl same ↦
-            (let number : s.calls + 1 ≡ e.seq = text_number call e a.few few same in
-            (text_client call e same, omega arith))
-        | inr none ↦ absurd none
+      | inl same ↦
+          (let number : s.calls + 1 ≡ e.seq = text_number call e a.few few same in
+          (text_client call e same, omega arith))
+      | inr none ↦ absurd none
     ]
 sent_number g me s i v (is_replied r) e few w = absurd (commit_not_sent g _ _ e (subst (λ (m : Move). IsIn (text_sent g me m.next m.sends) (invoke_text e)) r.moved w))
 sent_number g me s i v (is_updated u) e few w = absurd (seal_not_sent g _ _ _ e (subst (λ (m : Move). IsIn (text_sent g me m.next m.sends) (invoke_text e)) u.moved w))
@@ -134,13 +129,13 @@ made_number g (x ∷ past) steps e few w =
     let new : List (List ℕ) = text_sent g x.client v.next v.sends in
     let Goal : IsIn new (invoke_text e) ⊎ IsIn (texts_made g past) (invoke_text e) → Type 0 = λ k. e.seq ≤ (standing g e.client (x ∷ past)).calls in
     elim (in_either new (texts_made g past) (invoke_text e) w) as Goal [
-        inl now ↦
-            (let sent : (x.client ≡ e.client) × (e.seq ≤ v.next.calls) = sent_number g x.client (standing g x.client past) x.input v (kind_of g past x steps.1) e few now in
-            subst (λ (s : Standing). e.seq ≤ s.calls) (sym (standing_moved g e.client x past sent.0)) sent.1)
-        | inr old ↦
-            (let before : e.seq ≤ (standing g e.client past).calls = made_number g past steps.0 e few old in
-            let grow : (standing g e.client past).calls ≤ (standing g e.client (x ∷ past)).calls = calls_grow g e.client x past steps.1 in
-            omega arith)
+      | inl now ↦
+          (let sent : (x.client ≡ e.client) × (e.seq ≤ v.next.calls) = sent_number g x.client (standing g x.client past) x.input v (kind_of g past x steps.1) e few now in
+          subst (λ (s : Standing). e.seq ≤ s.calls) (sym (standing_moved g e.client x past sent.0)) sent.1)
+      | inr old ↦
+          (let before : e.seq ≤ (standing g e.client past).calls = made_number g past steps.0 e few old in
+          let grow : (standing g e.client past).calls ≤ (standing g e.client (x ∷ past)).calls = calls_grow g e.client x past steps.1 in
+          omega arith)
     ]
 
 -- ---- each entry of a path was called
@@ -163,8 +158,8 @@ pub taken_was_made_before : (g : Group) (past : List TraceStep) (x : TraceStep) 
 taken_was_made_before g past x honest t w =
     let Goal : IsIn (texts_made g past) t ⊎ (IsIn (texts_made g past) t → ⊥) → Type 0 = λ k. IsIn (texts_made g past) t in
     elim (in_or_not (texts_made g past) t) as Goal [
-        inl made ↦ made
-        | inr none ↦ absurd (honest (inr (t, w, none)))
+      | inl made ↦ made
+      | inr none ↦ absurd (honest (inr (t, w, none)))
     ]
 
 -- a new entry of a path came with a text that was checked
@@ -177,16 +172,16 @@ new_entry_checked g me s i v (is_replied r) e w =
     let there : IsIn ((call ∷ r.others) ++ s.path) e = subst (λ (m : Move). IsIn m.next.path e) r.moved w in
     let Goal : IsIn (call ∷ r.others) e ⊎ IsIn s.path e → Type 0 = λ k. IsIn s.path e ⊎ IsIn (checked_texts g v.next.path (taken_by v.next i)) (invoke_text e) in
     elim (in_either (call ∷ r.others) s.path e there) as Goal [
-        inl new ↦ inr (r.arrived.checked e new)
-        | inr old ↦ inl old
+      | inl new ↦ inr (r.arrived.checked e new)
+      | inr old ↦ inl old
     ]
 new_entry_checked g me s i v (is_updated u) e w = inl (subst (λ (m : Move). IsIn m.next.path e) u.moved w)
 new_entry_checked g me s i v (is_listed l) e w =
     let there : IsIn (l.others ++ s.path) e = subst (λ (m : Move). IsIn m.next.path e) l.moved w in
     let Goal : IsIn l.others e ⊎ IsIn s.path e → Type 0 = λ k. IsIn s.path e ⊎ IsIn (checked_texts g v.next.path (taken_by v.next i)) (invoke_text e) in
     elim (in_either l.others s.path e there) as Goal [
-        inl new ↦ inr (l.arrived.checked e new)
-        | inr old ↦ inl old
+      | inl new ↦ inr (l.arrived.checked e new)
+      | inr old ↦ inl old
     ]
 
 took_is : (g : Group) (past : List TraceStep) (x : TraceStep) → took g past x ≡ taken_by (move_of g past x).next x.input
@@ -203,18 +198,18 @@ path_made g (x ∷ past) steps honest me e w =
     let older : (m : ℕ) → IsIn (path g m past) e → IsIn (texts_made g past) (invoke_text e) = λ m k. path_made g past steps.0 (λ f. honest (inl f)) m e k in
     let Goal : (x.client ≡ me) ⊎ (x.client ≡ me → ⊥) → Type 0 = λ k. IsIn (new ++ texts_made g past) (invoke_text e) in
     elim (cases_eq x.client me) as Goal [
-        inl same ↦
-            (let there : IsIn v.next.path e = subst (λ (s : Standing). IsIn s.path e) (standing_moved g me x past same) w in
-            let Arrives : IsIn (path g x.client past) e ⊎ IsIn (checked_texts g v.next.path (taken_by v.next x.input)) (invoke_text e) → Type 0 = λ k. IsIn (texts_made g past) (invoke_text e) in
-            in_right new (texts_made g past) (invoke_text e)
-                (elim (new_entry_checked g x.client (standing g x.client past) x.input v (kind_of g past x steps.1) e there) as Arrives [
-                    inl old ↦ older x.client old
-                    | inr checked ↦ taken_was_made_before g past x honest (invoke_text e)
-                        (subst (λ (o : Option _). IsIn (checked_texts g v.next.path o) (invoke_text e)) (sym (took_is g past x)) checked)
-                ]))
-        | inr differ ↦
-            in_right new (texts_made g past) (invoke_text e)
-                (older me (subst (λ (s : Standing). IsIn s.path e) (standing_kept g me x past differ) w))
+      | inl same ↦
+          (let there : IsIn v.next.path e = subst (λ (s : Standing). IsIn s.path e) (standing_moved g me x past same) w in
+          let Arrives : IsIn (path g x.client past) e ⊎ IsIn (checked_texts g v.next.path (taken_by v.next x.input)) (invoke_text e) → Type 0 = λ k. IsIn (texts_made g past) (invoke_text e) in
+          in_right new (texts_made g past) (invoke_text e)
+          (elim (new_entry_checked g x.client (standing g x.client past) x.input v (kind_of g past x steps.1) e there) as Arrives [
+            | inl old ↦ older x.client old
+            | inr checked ↦ taken_was_made_before g past x honest (invoke_text e)
+                (subst (λ (o : Option _). IsIn (checked_texts g v.next.path o) (invoke_text e)) (sym (took_is g past x)) checked)
+          ]))
+      | inr differ ↦
+          in_right new (texts_made g past) (invoke_text e)
+          (older me (subst (λ (s : Standing). IsIn s.path e) (standing_kept g me x past differ) w))
     ]
 
 -- what is forged earlier is forged
@@ -245,28 +240,6 @@ call_few g s input.Poll c may = absurd c
 call_few g s input.Sync c may = absurd c
 call_few g s (input.Payload payload) c may = absurd c
 
-decided_completed : (u : Option ℕ) (d : Dictionary) (o : Op) → IsCompleted (decided u d o)
-decided_completed None d o = tt
-decided_completed (Some u) d o = tt
-
-decision_completed : (me : ℕ) (s : Standing) (below : List Entry) (base : ℕ) (part : Part) (o : Op) → IsCompleted (decision me s below base part o)
-unfolding decision
-decision_completed me s below base part o = decided_completed _ _ o
-
--- each completion is done or aborted
-pub is_completed : (g : Group) (h : List TraceStep) → AreSteps g h → (c : Completion) → IsIn (completions g h) c → IsCompleted c.outcome
-unfolding completions
-is_completed g [] steps c w = absurd w
-is_completed g (x ∷ past) steps c w =
-    let Goal : IsIn (completions g past) c ⊎ ((r : RepliedAt g past x) × (completed_by r ≡ c)) → Type 0 = λ k. IsCompleted c.outcome in
-    elim (completion_after g past x steps.1 c w) as Goal [
-        inl old ↦ is_completed g past steps.0 c old
-        | inr new ↦
-            (let r : RepliedAt g past x = new.0 in
-            let s : Standing = standing g x.client past in
-            subst (λ (d : Completion). IsCompleted d.outcome) new.1 (decision_completed x.client s (r.others ++ s.path) r.seal.position r.part r.op))
-    ]
-
 -- a call that was made after another had returned doesn't stand on that one's path
 never_below : (g : Group) (h : List TraceStep) → AreSteps g h → (IsForged g h → ⊥) → (p : List Entry) (a b : Shown) (older : List Shown)
     → (s : ShownAt (completions g h) p a older) → ReturnedBefore g h a b → IsIn (s.entry ∷ s.below) b.entry → ⊥
@@ -278,14 +251,14 @@ never_below g h steps honest p a b older s r w =
     let done : IsCompleted a.outcome = subst (λ (y : Shown). IsCompleted y.outcome) (sym s.shown) (is_completed g h steps s.by tells.0) in
     let c : CompletedAs g r.past a.entry a.outcome = answered_completion g r.past now.0 a.entry a.outcome done r.returned in
     let there : IsIn cs c.by = subst (λ (k : List TraceStep). IsIn (completions g k) c.by) (sym r.is)
-        (completions_stay g r.later (r.x ∷ r.past) c.by (completion_stays g r.past r.x c.by c.there)) in
+    (completions_stay g r.later (r.x ∷ r.past) c.by (completion_stays g r.past r.x c.by c.there)) in
     let entry : a.entry ≡ s.entry = shown_entry cs p a older s in
     let same : s.by ≡ c.by = same_completion g h steps s.by c.by tells.0 there s.entry a.entry s.below c.below tells.1 c.is
-        (sym (ap (λ (e : Entry). e.client) entry), sym (ap (λ (e : Entry). e.seq) entry)) in
+    (sym (ap (λ (e : Entry). e.client) entry), sym (ap (λ (e : Entry). e.seq) entry)) in
     let place : ◌≡◌ {A = List Entry} (s.entry ∷ s.below) c.by.prefix = sym tells.1 ∙ ap (λ (d : Completion). d.prefix) same in
     let grown : Grows c.by.prefix (path g c.by.client r.past) = path_has g r.past now.0 c.by c.there in
     let on_path : IsIn (path g c.by.client r.past) b.entry =
-        subst (λ (q : List Entry). IsIn q b.entry) (sym grown.1) (in_right grown.0 c.by.prefix b.entry (subst (λ (q : List Entry). IsIn q b.entry) place w)) in
+    subst (λ (q : List Entry). IsIn q b.entry) (sym grown.1) (in_right grown.0 c.by.prefix b.entry (subst (λ (q : List Entry). IsIn q b.entry) place w)) in
     let few : (standing g r.x.client r.past).calls + 1 < 2 ^ 32 = call_few g (standing g r.x.client r.past) r.x.input r.makes.call now.1.may in
     let number : (standing g r.x.client r.past).calls + 1 ≡ b.entry.seq = r.makes.seq in
     let here : (standing g r.x.client r.past).calls ≡ (standing g b.entry.client r.past).calls = ap (λ (m : ℕ). (standing g m r.past).calls) r.makes.client in
@@ -296,18 +269,18 @@ shown_in_order : (cs : List Completion) (p : List Entry) (a b : Shown) (older_a 
     (mid : List Entry) → t.below ≡ mid ++ s.entry ∷ s.below → Earlier (confirmed_calls cs p) a b
 shown_in_order cs p a b older_a older_b s t mid e =
     let outer : (newer : List Shown) × (confirmed_calls cs (t.above ++ t.entry ∷ t.below) ≡ newer ++ confirmed_calls cs (t.entry ∷ t.below)) =
-        confirmed_below cs t.above (t.entry ∷ t.below) in
+    confirmed_below cs t.above (t.entry ∷ t.below) in
     let inner : (newer : List Shown) × (confirmed_calls cs (mid ++ s.entry ∷ s.below) ≡ newer ++ confirmed_calls cs (s.entry ∷ s.below)) =
-        confirmed_below cs mid (s.entry ∷ s.below) in
+    confirmed_below cs mid (s.entry ∷ s.below) in
     let below : older_b ≡ inner.0 ++ a ∷ older_a =
-        t.rest ∙ ap (confirmed_calls cs) e ∙ inner.1 ∙ ap (λ (v : List Shown). inner.0 ++ v) (sym (shown_list cs p a older_a s)) in
+    t.rest ∙ ap (confirmed_calls cs) e ∙ inner.1 ∙ ap (λ (v : List Shown). inner.0 ++ v) (sym (shown_list cs p a older_a s)) in
     let top : confirmed_calls cs (t.entry ∷ t.below) ≡ b ∷ (inner.0 ++ a ∷ older_a) =
-        sym (shown_list cs p b older_b t) ∙ ap (λ (v : List Shown). b ∷ v) below in
+    sym (shown_list cs p b older_b t) ∙ ap (λ (v : List Shown). b ∷ v) below in
     record {
-        newer = outer.0;
-        between = inner.0;
-        older = older_a;
-        is = ap (confirmed_calls cs) t.is ∙ outer.1 ∙ ap (λ (v : List Shown). outer.0 ++ v) top;
+      newer = outer.0;
+      between = inner.0;
+      older = older_a;
+      is = ap (confirmed_calls cs) t.is ∙ outer.1 ∙ ap (λ (v : List Shown). outer.0 ++ v) top;
     }
 
 in_order_if : (cs : List Completion) (p : List Entry) (a b : Shown) (older_a older_b : List Shown) (s : ShownAt cs p a older_a) (t : ShownAt cs p b older_b)
@@ -332,11 +305,12 @@ in_order_at g h steps honest p a b wa wb r =
     let never : IsIn (s.entry ∷ s.below) b.entry → ⊥ = never_below g h steps honest p a b fa.0 s r in
     let Goal : ((mid : List Entry) × (lower ≡ mid ++ upper)) ⊎ ((mid : List Entry) × (upper ≡ mid ++ lower)) → Type 0 = λ k. Earlier (confirmed_calls cs p) a b in
     elim (ends_compare s.above t.above upper lower (sym s.is ∙ t.is)) as Goal [
-        inl above ↦ in_order_if cs p a b fa.0 fb.0 s t never above.0 above.1
-        | inr below ↦ absurd (never (subst (λ (q : List Entry). IsIn q b.entry) (sym below.1)
-            (in_right below.0 lower b.entry (inl (sym (shown_entry cs p b fb.0 t))))))
+      | inl above ↦ in_order_if cs p a b fa.0 fb.0 s t never above.0 above.1
+      | inr below ↦ absurd (never (subst (λ (q : List Entry). IsIn q b.entry) (sym below.1)
+          (in_right below.0 lower b.entry (inl (sym (shown_entry cs p b fb.0 t))))))
     ]
 
+-- unless a tag was forged, each view keeps real-time order
 pub views_in_order : ViewsInRealTime
 unfolding view_of
 views_in_order g h lawful honest me = in_order_at g h lawful.steps honest (last_prefix me (completions g h))
