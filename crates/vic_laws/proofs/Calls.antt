@@ -1,5 +1,5 @@
 -- Calls and completions along a history: each completion is that of a call, and a call has one.
-use Rattle.std.proofs.Common.{◌≡◌, ℕ, zero, suc, ◌+◌, ◌-◌, ◌<◌, ◌≤◌, ◌⊎◌, inl, inr, Bool, true, false, List, [], ◌∷◌, ◌++◌, length, Option, Some, None, nat_eq, refl, sym, ◌∙◌, ap, subst, arith, eq-eqb, ne_eqb, if◌then◌else◌, cond}
+use Rattle.std.proofs.Common.{◌≡◌, ℕ, ◌+◌, ◌<◌, ◌≤◌, ◌⊎◌, inl, inr, Bool, false, List, [], ◌∷◌, ◌++◌, Option, Some, None, refl, sym, ◌∙◌, ap, subst, arith}
 use Rattle.std.proofs.lemmas.Bool.{cases_eq}
 use Rattle.vic_dict.specs.declared.op.Op.{Op}
 use Rattle.vic_dict.specs.declared.op.Entry.{Entry}
@@ -7,31 +7,21 @@ use Rattle.vic_dict.specs.declared.op.Outcome.{Outcome}
 use Rattle.vic_dict.specs.Dictionary.{Dictionary}
 use Rattle.vic_dict.specs.Lists.{IsIn}
 use Rattle.vic_wire.specs.Hashes.{Group}
-use Rattle.vic_rules.specs.declared.state.Awaiting.{Awaiting}
 use Rattle.vic_rules.specs.declared.state.Awaiting.TheVariants as awaits
 use Rattle.vic_rules.specs.declared.trace.Input.{Input}
 use Rattle.vic_rules.specs.declared.trace.Input.TheVariants as input
 use Rattle.vic_rules.specs.declared.trace.TraceStep.{TraceStep}
-use Rattle.vic_rules.specs.Client.{Standing, at_start, Move, step, decision, decided}
+use Rattle.vic_rules.specs.Client.{Standing, Move, decision, decided}
 use Rattle.vic_rules.specs.History.{standing, path, move_of, IsStep, AreSteps, Completion, completion, completions}
 use Rattle.vic_rules.specs.Views.{IsCall, MakesCall, NoStepOf, IsAnswered}
-use Rattle.vic_laws.proofs.Steps.{Quiet, Called, Replied, Updated, Listed, Kind, is_quiet, is_called, is_replied, is_updated, is_listed, call_of}
+use Rattle.vic_laws.proofs.Words.{in_left, in_right, in_either}
+use Rattle.vic_laws.proofs.Steps.{Called, Replied, Kind, is_quiet, is_called, is_replied, is_updated, is_listed, call_of}
 use Rattle.vic_laws.proofs.StepKinds.{step_kind}
+use Rattle.vic_laws.proofs.Standings.{standing_moved, standing_kept}
 
--- ---- where a client stands after one more step
+-- ---- what kind a step is
 
--- another client's step leaves a client where it stands
-pub stands_other : (g : Group) (me : ℕ) (x : TraceStep) (past : List TraceStep) → (x.client ≡ me → ⊥) → standing g me (x ∷ past) ≡ standing g me past
-unfolding standing
-stands_other g me x past differ =
-    ap (λ (b : Bool). if b then (step g me (standing g me past) x.input).next else standing g me past) (ne_eqb x.client me differ)
-
--- after its own step a client stands where its move leads
-pub stands_own : (g : Group) (x : TraceStep) (past : List TraceStep) → standing g x.client (x ∷ past) ≡ (move_of g past x).next
-unfolding standing
-stands_own g x past =
-    ap (λ (b : Bool). if b then (step g x.client (standing g x.client past) x.input).next else standing g x.client past) (eq-eqb x.client x.client refl)
-
+-- each step of a lawful history is of one kind
 pub kind_of : (g : Group) (past : List TraceStep) (x : TraceStep) → IsStep g past x → Kind g x.client (standing g x.client past) x.input (move_of g past x)
 kind_of g past x is = step_kind g x.client (standing g x.client past) x.input is.may
 
@@ -41,6 +31,7 @@ kind_of g past x is = step_kind g x.client (standing g x.client past) x.input is
 abbrev pub Grows : List Entry → List Entry → Type 0
 Grows older now = (new : List Entry) × (now ≡ new ++ older)
 
+-- each kind of step leaves the path, with new entries on it or without
 pub grows_by : (g : Group) (me : ℕ) (s : Standing) (i : Input) (v : Move) → Kind g me s i v → Grows s.path v.next.path
 grows_by g me s i v (is_quiet q) = ([], q.path)
 grows_by g me s i v (is_called c) = ([], ap (λ (m : Move). m.next.path) c.moved)
@@ -55,8 +46,8 @@ path_grows g me x past is =
     elim (cases_eq x.client me) as Goal [
       | inl e ↦ subst (λ (m : ℕ). Grows (path g m past) (path g m (x ∷ past))) e
           (let grown = grows_by g x.client (standing g x.client past) x.input (move_of g past x) (kind_of g past x is) in
-          (grown.0, ap (λ (s : Standing). s.path) (stands_own g x past) ∙ grown.1))
-      | inr differ ↦ ([], ap (λ (s : Standing). s.path) (stands_other g me x past differ))
+          (grown.0, ap (λ (s : Standing). s.path) (standing_moved g x.client x past refl) ∙ grown.1))
+      | inr differ ↦ ([], ap (λ (s : Standing). s.path) (standing_kept g me x past differ))
     ]
 
 -- ---- completions
@@ -81,22 +72,6 @@ completes_one {g} {me} {s} {i} {v} r =
     ap (λ (m : Move). completion me m.next.path m.returns) r.moved
     ∙ completion_decided me (call_of me r.seq r.op ∷ (r.others ++ s.path)) _ _ r.op
 
-pub in_append : {X : Type 0} (xs ys : List X) (x : X) → IsIn (xs ++ ys) x → IsIn xs x ⊎ IsIn ys x
-in_append [] ys x h = inr h
-in_append (z ∷ xs) ys x (inl e) = inl (inl e)
-in_append (z ∷ xs) ys x (inr h) =
-    let Goal : IsIn xs x ⊎ IsIn ys x → Type 0 = λ c. IsIn (z ∷ xs) x ⊎ IsIn ys x in
-    elim (in_append xs ys x h) as Goal [ inl a ↦ inl (inr a) | inr b ↦ inr b ]
-
-pub in_left : {X : Type 0} (xs ys : List X) (x : X) → IsIn xs x → IsIn (xs ++ ys) x
-in_left [] ys x h = absurd h
-in_left (z ∷ xs) ys x (inl e) = inl e
-in_left (z ∷ xs) ys x (inr h) = inr (in_left xs ys x h)
-
-pub in_right : {X : Type 0} (xs ys : List X) (x : X) → IsIn ys x → IsIn (xs ++ ys) x
-in_right [] ys x h = h
-in_right (z ∷ xs) ys x h = inr (in_right xs ys x h)
-
 -- what a step completes, if it does: the call that the Reply was for
 completed_at : (g : Group) (me : ℕ) (s : Standing) (i : Input) (v : Move) → Kind g me s i v → (c : Completion) → IsIn (completion me v.next.path v.returns) c
     → (r : Replied g me s i v) × (completed_by r ≡ c)
@@ -118,7 +93,7 @@ pub completions_after : (g : Group) (past : List TraceStep) (x : TraceStep) → 
     → completions g (x ∷ past) ≡ completion x.client (move_of g past x).next.path (move_of g past x).returns ++ completions g past
 unfolding completions
 completions_after g past x is =
-    ap (λ (s : Standing). completion x.client s.path x.returned ++ completions g past) (stands_own g x past)
+    ap (λ (s : Standing). completion x.client s.path x.returned ++ completions g past) (standing_moved g x.client x past refl)
     ∙ ap (λ (o : Option Outcome). completion x.client (move_of g past x).next.path o ++ completions g past) is.returned
 
 -- a completion after one more step is an older one, or that of the Reply taken at the step
@@ -127,7 +102,7 @@ pub completion_after : (g : Group) (past : List TraceStep) (x : TraceStep) → I
 completion_after g past x is c h =
     let new : List Completion = completion x.client (move_of g past x).next.path (move_of g past x).returns in
     let apart : IsIn new c ⊎ IsIn (completions g past) c =
-    in_append new (completions g past) c (subst (λ (cs : List Completion). IsIn cs c) (completions_after g past x is) h) in
+    in_either new (completions g past) c (subst (λ (cs : List Completion). IsIn cs c) (completions_after g past x is) h) in
     let Goal : IsIn new c ⊎ IsIn (completions g past) c → Type 0 = λ w. IsIn (completions g past) c ⊎ ((r : RepliedAt g past x) × (completed_by r ≡ c)) in
     elim apart as Goal [
       | inl a ↦ inr (completed_at g x.client (standing g x.client past) x.input (move_of g past x) (kind_of g past x is) c a)
@@ -156,6 +131,7 @@ pub record Numbered (c : Completion) : Type 0 where
 numbered_reply : {g : Group} {me : ℕ} {s : Standing} {i : Input} {v : Move} (r : Replied g me s i v) → Numbered (completed_by r)
 numbered_reply {g} {me} {s} {i} {v} r = record { entry = call_of me r.seq r.op; below = r.others ++ s.path; is = refl; owner = refl }
 
+-- each completion of a lawful history is so
 pub numbered : (g : Group) (h : List TraceStep) → AreSteps g h → (c : Completion) → IsIn (completions g h) c → Numbered c
 unfolding completions
 numbered g [] steps c h = absurd h
@@ -177,10 +153,11 @@ pub record Counts (me : ℕ) (s : Standing) (cs : List Completion) : Type 0 wher
   pub awaited : (n : ℕ) (o : Op) (load : Bool) → s.halted ≡ None → s.awaiting ≡ awaits.Reply n o load → n ≡ s.calls
   pub newer : (n : ℕ) (o : Op) (load : Bool) → s.halted ≡ None → s.awaiting ≡ awaits.Reply n o load → (c : Completion) → IsIn cs c → c.client ≡ me → number_of c.prefix < n
 
-same_number : (n k : ℕ) (o p : Op) (load loads : Bool) → awaits.Reply n o load ≡ awaits.Reply k p loads → n ≡ k
+-- the number and the operation of an awaited Reply
+pub same_number : (n k : ℕ) (o p : Op) (load loads : Bool) → awaits.Reply n o load ≡ awaits.Reply k p loads → n ≡ k
 same_number n k o p load loads e = cc
 
-same_asked : (n k : ℕ) (o p : Op) (load loads : Bool) → awaits.Reply n o load ≡ awaits.Reply k p loads → o ≡ p
+pub same_asked : (n k : ℕ) (o p : Op) (load loads : Bool) → awaits.Reply n o load ≡ awaits.Reply k p loads → o ≡ p
 same_asked n k o p load loads e = cc
 
 not_turn : (n : ℕ) (o : Op) (load : Bool) → awaits.Turn ≡ awaits.Reply n o load → ⊥
@@ -257,9 +234,10 @@ counts_at_own : (g : Group) (past : List TraceStep) (x : TraceStep) → IsStep g
 counts_at_own g past x is h =
     let new : Counts x.client (move_of g past x).next (completion x.client (move_of g past x).next.path (move_of g past x).returns ++ completions g past) =
     counts_own g x.client (standing g x.client past) x.input (move_of g past x) (kind_of g past x is) (completions g past) h in
-    subst (λ (s : Standing). Counts x.client s (completions g (x ∷ past))) (sym (stands_own g x past))
+    subst (λ (s : Standing). Counts x.client s (completions g (x ∷ past))) (sym (standing_moved g x.client x past refl))
     (subst (λ (cs : List Completion). Counts x.client (move_of g past x).next cs) (sym (completions_after g past x is)) new)
 
+-- the counts of each client hold along a history
 pub counts : (g : Group) (h : List TraceStep) → AreSteps g h → (me : ℕ) → Counts me (standing g me h) (completions g h)
 unfolding standing completions
 counts g [] steps me = record {
@@ -272,7 +250,7 @@ counts g (x ∷ past) steps me =
     elim (cases_eq x.client me) as Goal [
       | inl e ↦ subst (λ (m : ℕ). Counts m (standing g m (x ∷ past)) (completions g (x ∷ past))) e
           (counts_at_own g past x steps.1 (counts g past steps.0 x.client))
-      | inr differ ↦ subst (λ (s : Standing). Counts me s (completions g (x ∷ past))) (sym (stands_other g me x past differ))
+      | inr differ ↦ subst (λ (s : Standing). Counts me s (completions g (x ∷ past))) (sym (standing_kept g me x past differ))
           (counts_other g past x steps.1 me differ (counts g past steps.0 me))
     ]
 
@@ -363,6 +341,7 @@ asked_own g x past (is_replied r) n o load alive e = absurd (not_turn n o load (
 asked_own g x past (is_updated u) n o load alive e = absurd (not_turn n o load (sym (ap (λ (m : Move). m.next.awaiting) u.moved) ∙ e))
 asked_own g x past (is_listed l) n o load alive e = absurd (not_nothing n o load (sym (ap (λ (m : Move). m.next.awaiting) l.moved) ∙ e))
 
+-- whenever a client awaits a Reply, the call was asked for so
 pub asked_since : (g : Group) (h : List TraceStep) → AreSteps g h → (me n : ℕ) (o : Op) (load : Bool)
     → (standing g me h).halted ≡ None → (standing g me h).awaiting ≡ awaits.Reply n o load → Asked g h me n o
 unfolding standing
@@ -371,11 +350,11 @@ asked_since g (x ∷ past) steps me n o load alive e =
     let Goal : (x.client ≡ me) ⊎ (x.client ≡ me → ⊥) → Type 0 = λ c. Asked g (x ∷ past) me n o in
     elim (cases_eq x.client me) as Goal [
       | inl same ↦ subst (λ (m : ℕ). Asked g (x ∷ past) m n o) same
-          (let leads : standing g me (x ∷ past) ≡ (move_of g past x).next = subst (λ (m : ℕ). standing g m (x ∷ past) ≡ (move_of g past x).next) same (stands_own g x past) in
+          (let leads : standing g me (x ∷ past) ≡ (move_of g past x).next = subst (λ (m : ℕ). standing g m (x ∷ past) ≡ (move_of g past x).next) same (standing_moved g x.client x past refl) in
           asked_own g x past (kind_of g past x steps.1) n o load
           (sym (ap (λ (s : Standing). s.halted) leads) ∙ alive) (sym (ap (λ (s : Standing). s.awaiting) leads) ∙ e))
       | inr differ ↦
-          (let keeps : standing g me (x ∷ past) ≡ standing g me past = stands_other g me x past differ in
+          (let keeps : standing g me (x ∷ past) ≡ standing g me past = standing_kept g me x past differ in
           asked_other g x past me n o differ
           (asked_since g past steps.0 me n o load (sym (ap (λ (s : Standing). s.halted) keeps) ∙ alive) (sym (ap (λ (s : Standing). s.awaiting) keeps) ∙ e)))
     ]
@@ -415,7 +394,8 @@ answered_now g x past steps is r =
       returned = is.returned ∙ ap (λ (m : Move). m.returns) r.moved;
     }
 
-newest_entry : (a b : Entry) (p q : List Entry) → a ∷ p ≡ b ∷ q → a ≡ b
+-- equal paths have one newest entry
+pub newest_entry : (a b : Entry) (p q : List Entry) → a ∷ p ≡ b ∷ q → a ≡ b
 newest_entry a b p q e = cc
 
 -- each completion is the answer to a call that its client was asked for

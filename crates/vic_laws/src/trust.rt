@@ -1,6 +1,6 @@
-//! The laws on tags, hashes and seals.
+//! The laws on tags, hashes and seals, and on what views answer.
 
-ghost use Rattle.vic_laws.specs.Claims.{HashesTellPaths, SealsHold, TagsHold};
+ghost use Rattle.vic_laws.specs.Claims.{HashesTellPaths, SealsHold, TagsHold, ViewsAreLegal};
 
 /// One hash tells one path.
 pub fn prefixes()
@@ -15,4 +15,9 @@ pub fn tags()
 /// What a seal says holds.
 pub fn seals()
     ensures { SealsHold }
+{}
+
+/// Each answer in a view is that of a dictionary after the calls before it.
+pub fn legal()
+    ensures { ViewsAreLegal }
 {}
