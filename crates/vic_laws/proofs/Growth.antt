@@ -1,5 +1,5 @@
 -- What stays as a history grows: fronts of paths, what is confirmed on them, and what was taken and made.
-use Rattle.std.specs.Prelude.{◌≡◌, ℕ, zero, suc, ◌+◌, ◌-◌, ◌<◌, ◌≤◌, ◌⊎◌, Bool, true, false, List, [], ◌∷◌, ◌++◌, length, drop, Option, Some, None, if◌then◌else◌}
+use Rattle.std.specs.Prelude.{◌≡◌, ℕ, zero, suc, ◌+◌, ◌-◌, ◌<◌, ◌≤◌, ◌⊎◌, List, [], ◌∷◌, ◌++◌, length, drop, Some, None, if◌then◌else◌}
 use Rattle.std.specs.List.{AllByRecursion}
 use Rattle.std.specs.Cmp.Lexicographic.{pointwise}
 use Rattle.std.proofs.Common.{refl, ap, subst, sym, ◌∙◌, inl, inr, arith, append_assoc, length-append, length-drop, le_refl, le_trans}
@@ -11,14 +11,13 @@ use Rattle.vic_wire.specs.Hashes.{Group}
 use Rattle.vic_rules.specs.declared.state.Own.{Own}
 use Rattle.vic_rules.specs.declared.trace.Input.{Input}
 use Rattle.vic_rules.specs.declared.trace.TraceStep.{TraceStep}
-use Rattle.vic_rules.specs.declared.trace.Shown.{Shown}
-use Rattle.vic_rules.specs.Client.{Standing, Move, at_start, step, same_entry}
-use Rattle.vic_rules.specs.History.{standing, path, move_of, AreSteps, IsStep, Completion, completion, completions}
+use Rattle.vic_rules.specs.Client.{Standing, Move, step, same_entry}
+use Rattle.vic_rules.specs.History.{standing, path, move_of, AreSteps, Completion, completion, completions}
 use Rattle.vic_rules.specs.Views.{or_else, confirmed, confirmed_calls, shown_as, left_by}
 use Rattle.vic_rules.specs.Trust.{IsForged, parts_taken, chain_texts, parts_in, took}
 use Rattle.vic_laws.specs.Claims.{AllConfirmed, SealHolds}
 use Rattle.vic_laws.proofs.Words.{in_right, all_weaker, all_append}
-use Rattle.vic_laws.proofs.Steps.{StandsAbove, Kind, is_quiet, is_called, is_replied, is_updated, is_listed}
+use Rattle.vic_laws.proofs.Steps.{Kind, is_quiet, is_called, is_replied, is_updated, is_listed}
 use Rattle.vic_laws.proofs.StepKinds.{step_kind}
 use Rattle.vic_laws.proofs.Standings.{standing_moved, standing_kept}
 use Rattle.vic_laws.proofs.Paths.{at_each_standing}

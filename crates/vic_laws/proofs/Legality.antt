@@ -1,7 +1,6 @@
 -- Each answer in a view is that of a dictionary after the calls before it.
-use Rattle.std.specs.Prelude.{◌≡◌, ℕ, suc, ◌+◌, ◌<◌, ◌≤◌, ◌⊎◌, Bool, true, false, not, ◌&&◌, List, [], ◌∷◌, ◌++◌, length, Option, Some, None, nat_lt, nat_eq, if◌then◌else◌}
-use Rattle.std.specs.List.{AllByRecursion}
-use Rattle.std.proofs.Common.{refl, ap, subst, sym, ◌∙◌, inl, inr, arith, add-one, append_assoc, length-append, lt-ltb, ne_eqb, le_refl, le_trans, le_of_suc-le-suc}
+use Rattle.std.specs.Prelude.{◌≡◌, ℕ, ◌<◌, ◌≤◌, ◌⊎◌, Bool, true, false, not, ◌&&◌, List, [], ◌∷◌, ◌++◌, length, Option, Some, None, nat_lt, if◌then◌else◌}
+use Rattle.std.proofs.Common.{refl, ap, subst, sym, ◌∙◌, inl, inr, arith, append_assoc, lt-ltb, ne_eqb, le_refl, le_of_suc-le-suc}
 use Rattle.std.proofs.lemmas.Bool.{cases_eq, cases_lt}
 use Rattle.vic_dict.specs.declared.op.Op.{Op}
 use Rattle.vic_dict.specs.declared.op.Outcome.{Outcome}
@@ -11,20 +10,19 @@ use Rattle.vic_dict.specs.Lists.{IsIn, front}
 use Rattle.vic_dict.specs.Dictionary.{Dictionary, reply, after}
 use Rattle.vic_wire.specs.Hashes.{Group}
 use Rattle.vic_wire.specs.Conflict.{conflicts}
-use Rattle.vic_wire.specs.Parts.{Part}
 use Rattle.vic_rules.specs.declared.trace.TraceStep.{TraceStep}
 use Rattle.vic_rules.specs.declared.trace.Shown.{Shown}
-use Rattle.vic_rules.specs.Client.{Standing, Move, or_this, least_above, is_in_the_way, in_the_way, is_done, decided, decision, laid}
-use Rattle.vic_rules.specs.History.{standing, path, move_of, AreSteps, IsStep, Completion, completions}
+use Rattle.vic_rules.specs.Client.{Standing, or_this, least_above, is_in_the_way, in_the_way, is_done, decided, decision, laid}
+use Rattle.vic_rules.specs.History.{standing, path, move_of, AreSteps, Completion, completions}
 use Rattle.vic_rules.specs.Views.{confirmed, confirmed_calls, shown_as, left_by, outcome_leaves, last_prefix, view_of, Explains, IsLegal}
 use Rattle.vic_rules.specs.Trust.{IsForged, Collides, parts_in}
 use Rattle.vic_commute.proofs.Commuting.{Alike, after_same, other_after, alike_itself, reply_alike}
-use Rattle.vic_laws.specs.Claims.{AllConfirmed, SealHolds, ViewsAreLegal}
-use Rattle.vic_laws.proofs.Steps.{Replied, call_of}
+use Rattle.vic_laws.specs.Claims.{SealHolds, ViewsAreLegal}
+use Rattle.vic_laws.proofs.Steps.{call_of}
 use Rattle.vic_laws.proofs.Standings.{standing_moved, earlier_steps}
 use Rattle.vic_laws.proofs.Calls.{RepliedAt, completed_by, completion_after}
 use Rattle.vic_laws.proofs.Agreement.{confirmed_tells}
-use Rattle.vic_laws.proofs.Growth.{front_grows, front_whole, confirmed_calls_stay, completions_grow, all_confirmed_stays}
+use Rattle.vic_laws.proofs.Growth.{front_grows, front_whole, confirmed_calls_stay, completions_grow}
 use Rattle.vic_laws.proofs.SealsHeld.{all_hold, part_is_left, taken_at}
 use Rattle.vic_laws.proofs.OwnLaid.{own_op, own_laid, laid_own, laid_other, laid_below, laid_others, laid_stays, own_ones, lays}
 
@@ -91,12 +89,13 @@ walk o me base cs d (e ∷ p) none is = now (cases_lt base (length (e ∷ p))) (
     own : base < length (e ∷ p) → (e.client ≡ me) ⊎ (e.client ≡ me → ⊥) → Alike o (own_laid cs me base d p) (left_by (confirmed_calls cs p)) → Alike o (own_laid cs me base d (e ∷ p)) (left_by (confirmed_calls cs (e ∷ p)))
     own above (inl mine) alike =
         subst (λ w. Alike o w (left_by (confirmed_calls cs (e ∷ p)))) (sym (laid_own cs me base d e p above mine))
-          (subst (Alike o (own_op (own_laid cs me base d p) e (confirmed cs (e ∷ p)))) (sym (left_more cs e p))
-            (both_more o (own_laid cs me base d p) (left_by (confirmed_calls cs p)) e (confirmed cs (e ∷ p)) alike))
+        (subst (Alike o (own_op (own_laid cs me base d p) e (confirmed cs (e ∷ p)))) (sym (left_more cs e p))
+        (both_more o (own_laid cs me base d p) (left_by (confirmed_calls cs p)) e (confirmed cs (e ∷ p)) alike))
     own above (inr other) alike =
         subst (λ w. Alike o w (left_by (confirmed_calls cs (e ∷ p)))) (sym (laid_other cs me base d e p other))
-          (subst (Alike o (own_laid cs me base d p)) (sym (left_more cs e p))
-            (one_more o (own_laid cs me base d p) (left_by (confirmed_calls cs p)) e (confirmed cs (e ∷ p)) (not_in_the_way me o e other ((none_above base (is_in_the_way me o) e p none).1 above)) alike))
+        (subst (Alike o (own_laid cs me base d p)) (sym (left_more cs e p))
+        (one_more o (own_laid cs me base d p) (left_by (confirmed_calls cs p)) e (confirmed cs (e ∷ p)) (not_in_the_way me o e other ((none_above base (is_in_the_way me o) e p none).1 above)) alike))
+
     now : (base < length (e ∷ p)) ⊎ (length (e ∷ p) ≤ base) → (d ≡ left_by (confirmed_calls cs (front base p)) → Alike o (own_laid cs me base d p) (left_by (confirmed_calls cs p)))
         → Alike o (own_laid cs me base d (e ∷ p)) (left_by (confirmed_calls cs (e ∷ p)))
     now (inl above) before = own above (cases_eq e.client me) (before (is ∙ ap (λ q. left_by (confirmed_calls cs q)) (front_grows (e ∷ []) p base (le_of_suc-le-suc above))))
@@ -140,48 +139,61 @@ module _ (g : Group) (whole : List TraceStep) (lawful : AreSteps g whole) (hones
     where
       s : Standing
       s = standing g x.client past
+
       below : List Entry
       below = r.others ++ path g x.client past
+
       p : List Entry
       p = call_of x.client r.seq r.op ∷ (r.others ++ path g x.client past)
+
       steps : AreSteps g (x ∷ past)
       steps = earlier_steps g later (x ∷ past) (subst (AreSteps g) e lawful)
+
       here : standing g x.client (x ∷ past) ≡ (move_of g past x).next
       here = standing_moved g x.client x past refl
+
       path_is : path g x.client (x ∷ past) ≡ p
       path_is = ap (λ w. w.path) here ∙ ap (λ v. v.next.path) r.moved
+
       sealed_is : (standing g x.client (x ∷ past)).sealed ≡ r.seal.position
       sealed_is = ap (λ w. w.sealed) here ∙ ap (λ v. v.next.sealed) r.moved
+
       root_is : (standing g x.client (x ∷ past)).root ≡ r.seal.root.bytes
       root_is = ap (λ w. w.root) here ∙ ap (λ v. v.next.root) r.moved
+
       holds : SealHolds (completions g (x ∷ past)) p r.seal.position r.seal.root.bytes
       holds = subst (λ q. SealHolds (completions g (x ∷ past)) q r.seal.position r.seal.root.bytes) path_is
           (subst (λ n. SealHolds (completions g (x ∷ past)) (path g x.client (x ∷ past)) n r.seal.root.bytes) sealed_is
-            (subst (SealHolds (completions g (x ∷ past)) (path g x.client (x ∷ past)) (standing g x.client (x ∷ past)).sealed) root_is
-              ((all_hold g whole lawful honest apart later (x ∷ past) e).1 x.client)))
+          (subst (SealHolds (completions g (x ∷ past)) (path g x.client (x ∷ past)) (standing g x.client (x ∷ past)).sealed) root_is
+          ((all_hold g whole lawful honest apart later (x ∷ past) e).1 x.client)))
+
       more : (ds : List Completion) × (completions g (later ++ x ∷ past) ≡ ds ++ completions g (x ∷ past))
       more = completions_grow g later (x ∷ past)
+
       past_more : (ds : List Completion) × (completions g ((later ++ x ∷ []) ++ past) ≡ ds ++ completions g past)
       past_more = completions_grow g (later ++ x ∷ []) past
+
       -- the part is what the calls up to the seal leave, in the whole history
       told : r.part ≡ left_by (confirmed_calls (completions g whole) (front r.seal.position below))
       told = part_is_left g whole lawful honest apart later x past e r.bytes r.part r.seal.position r.seal.root.bytes
-            (subst (λ o. IsIn (parts_in o) r.bytes) (sym (taken_at g past x _ r.takes)) (inl refl)) r.are_bytes r.is_part r.root_is (subst (λ n. r.seal.position ≤ n) (sym sealed_is) (le_refl r.seal.position)) p path_is holds
+          (subst (λ o. IsIn (parts_in o) r.bytes) (sym (taken_at g past x _ r.takes)) (inl refl)) r.are_bytes r.is_part r.root_is (subst (λ n. r.seal.position ≤ n) (sym sealed_is) (le_refl r.seal.position)) p path_is holds
           ∙ ap left_by (sym (confirmed_calls_stay more.0 (completions g (x ∷ past)) (front r.seal.position p) holds.all)
-            ∙ (ap (λ cs. confirmed_calls cs (front r.seal.position p)) (sym more.1 ∙ ap (completions g) (sym e))
-              ∙ ap (confirmed_calls (completions g whole)) (front_grows (call_of x.client r.seq r.op ∷ []) below r.seal.position (le_of_suc-le-suc r.below))))
+          ∙ (ap (λ cs. confirmed_calls cs (front r.seal.position p)) (sym more.1 ∙ ap (completions g) (sym e))
+          ∙ ap (confirmed_calls (completions g whole)) (front_grows (call_of x.client r.seq r.op ∷ []) below r.seal.position (le_of_suc-le-suc r.below))))
+
       -- what is laid over it is laid by the path
       laid_is : laid s.own r.seal.position r.part ≡ own_laid (completions g whole) x.client r.seal.position r.part below
       laid_is =
           lays g past steps.0 x.client r.seal.position r.part r.sealing.goes
           ∙ (sym (laid_stays past_more.0 (completions g past) x.client r.seal.position r.part s.path (own_ones g past steps.0 x.client))
-            ∙ (ap (λ cs. own_laid cs x.client r.seal.position r.part s.path) (sym past_more.1 ∙ ap (completions g) (append_assoc later (x ∷ []) past ∙ sym e))
-              ∙ sym (laid_others (completions g whole) g.count x.client r.seal.position r.part r.others s.path r.from_others)))
+          ∙ (ap (λ cs. own_laid cs x.client r.seal.position r.part s.path) (sym past_more.1 ∙ ap (completions g) (append_assoc later (x ∷ []) past ∙ sym e))
+          ∙ sym (laid_others (completions g whole) g.count x.client r.seal.position r.part r.others s.path r.from_others)))
+
       alike : in_the_way x.client r.op r.seal.position below ≡ None → reply (laid s.own r.seal.position r.part) r.op ≡ reply (left_by (confirmed_calls (completions g whole) below)) r.op
       alike none =
           ap (λ d. reply d r.op) laid_is
           ∙ reply_alike r.op (own_laid (completions g whole) x.client r.seal.position r.part below) (left_by (confirmed_calls (completions g whole) below))
-            (walk r.op x.client r.seal.position (completions g whole) r.part below none told)
+          (walk r.op x.client r.seal.position (completions g whole) r.part below none told)
 
   -- each confirmed call is explained by the confirmed calls below it
   confirmed_explains : (e : Entry) (p : List Entry) (c : Completion) → confirmed (completions g whole) (e ∷ p) ≡ Some c
@@ -193,8 +205,8 @@ module _ (g : Group) (whole : List TraceStep) (lawful : AreSteps g whole) (hones
       let newest_is : call_of m.x.client m.replied.seq m.replied.op ≡ e = cc in
       let rest_is : m.replied.others ++ path g m.x.client m.past ≡ p = cc in
       subst (λ w. Explains (left_by (confirmed_calls (completions g whole) p)) (record { entry = e; outcome = c.outcome }) w) (ap (λ w. w.outcome) m.made)
-        (subst (λ q. Explains (left_by (confirmed_calls (completions g whole) q)) (record { entry = e; outcome = c.outcome }) (completed_by m.replied).outcome) rest_is
-          (reply_explains m.later m.x m.past m.is m.replied (record { entry = e; outcome = c.outcome }) (ap (λ w. w.op) (sym newest_is))))
+      (subst (λ q. Explains (left_by (confirmed_calls (completions g whole) q)) (record { entry = e; outcome = c.outcome }) (completed_by m.replied).outcome) rest_is
+      (reply_explains m.later m.x m.past m.is m.replied (record { entry = e; outcome = c.outcome }) (ap (λ w. w.op) (sym newest_is))))
 
   legal_more : (e : Entry) (p : List Entry) (o : Option Completion) → confirmed (completions g whole) (e ∷ p) ≡ o → IsLegal (confirmed_calls (completions g whole) p)
       → IsLegal (shown_as e o ++ confirmed_calls (completions g whole) p)

@@ -1,5 +1,5 @@
 -- Which texts were made where a text was taken, and what a made seal says.
-use Rattle.std.specs.Prelude.{◌≡◌, ◌≢◌, ℕ, ◌+◌, ◌<◌, ◌≤◌, ◌^◌, ◌⊎◌, Bool, true, false, List, [], ◌∷◌, ◌++◌, length, map, Option, Some, None, nat_eq, if◌then◌else◌}
+use Rattle.std.specs.Prelude.{◌≡◌, ◌≢◌, ℕ, ◌<◌, ◌^◌, ◌⊎◌, true, false, List, [], ◌∷◌, ◌++◌, length, Some, if◌then◌else◌}
 use Rattle.std.specs.List.{AllByRecursion}
 use Rattle.std.specs.Str.{bytes_eq}
 use Rattle.std.specs.Int.{w32, to_be_bytes, from_be_bytes}
@@ -8,19 +8,19 @@ use Rattle.std.proofs.lemmas.Bool.{cases_Bool}
 use Rattle.std.proofs.lemmas.Nat.{from_be_bytes-to_be_bytes_4}
 use Rattle.std.proofs.lemmas.Slice.Eq.{bytes_eq-Decides}
 use Rattle.vic_dict.specs.declared.op.Entry.{Entry}
-use Rattle.vic_dict.specs.Lists.{IsIn, front}
+use Rattle.vic_dict.specs.Lists.{IsIn}
 use Rattle.vic_wire.specs.declared.message.Seal.{Seal}
 use Rattle.vic_wire.specs.declared.message.ToClient.{ToClient}
-use Rattle.vic_wire.specs.Texts.{seal_text, invoke_text, genesis_text}
+use Rattle.vic_wire.specs.Texts.{seal_text, genesis_text}
 use Rattle.vic_wire.specs.Hashes.{Group, chain}
 use Rattle.vic_wire.specs.Trees.{dictionary_root}
 use Rattle.vic_wire.specs.Messages.{IsEntry}
 use Rattle.vic_rules.specs.declared.trace.TraceStep.{TraceStep}
-use Rattle.vic_rules.specs.Client.{seal_of, entries_of, seal_text_on}
-use Rattle.vic_rules.specs.History.{Completion, move_of}
+use Rattle.vic_rules.specs.Client.{seal_of, seal_text_on}
+use Rattle.vic_rules.specs.History.{Completion}
 use Rattle.vic_rules.specs.Views.{confirmed_calls, left_by}
 use Rattle.vic_rules.specs.Trust.{IsForged, texts_made, texts_taken, checked_texts, seal_texts, chain_texts}
-use Rattle.vic_laws.specs.Claims.{AllConfirmed, SealHolds}
+use Rattle.vic_laws.specs.Claims.{AllConfirmed}
 use Rattle.vic_laws.proofs.Words.{in_left}
 use Rattle.vic_laws.proofs.Chains.{TwoTexts, append_same, told_by_chain, length-chain}
 use Rattle.vic_laws.proofs.Growth.{all_confirmed_stays, confirmed_calls_stay}

@@ -1,15 +1,15 @@
 -- A client's own calls that aren't sealed are completed, each at its place of the path and with its status.
-use Rattle.std.specs.Prelude.{◌≡◌, ℕ, zero, suc, ◌+◌, ◌-◌, ◌<◌, ◌≤◌, ◌⊎◌, Bool, true, false, List, [], ◌∷◌, ◌++◌, length, Option, Some, None}
+use Rattle.std.specs.Prelude.{◌≡◌, ℕ, ◌≤◌, ◌⊎◌, List, [], ◌∷◌, ◌++◌, length, Some}
 use Rattle.std.specs.List.{AllByRecursion}
-use Rattle.std.proofs.Common.{refl, ap, subst, sym, ◌∙◌, inl, inr, arith, le_refl}
+use Rattle.std.proofs.Common.{refl, subst, sym, ◌∙◌, inl, inr, le_refl}
 use Rattle.std.proofs.lemmas.Bool.{cases_eq}
 use Rattle.vic_dict.specs.declared.op.Entry.{Entry}
-use Rattle.vic_dict.specs.Lists.{IsIn, front}
+use Rattle.vic_dict.specs.Lists.{front}
 use Rattle.vic_wire.specs.Hashes.{Group}
 use Rattle.vic_rules.specs.declared.state.Own.{Own}
 use Rattle.vic_rules.specs.declared.trace.TraceStep.{TraceStep}
-use Rattle.vic_rules.specs.Client.{Standing, Move, is_done}
-use Rattle.vic_rules.specs.History.{standing, path, move_of, AreSteps, IsStep, Completion, completions}
+use Rattle.vic_rules.specs.Client.{Standing, is_done}
+use Rattle.vic_rules.specs.History.{standing, move_of, AreSteps, Completion, completions}
 use Rattle.vic_rules.specs.Views.{confirmed}
 use Rattle.vic_laws.proofs.Words.{all_append}
 use Rattle.vic_laws.proofs.Steps.{Kind, is_quiet, is_called, is_replied, is_updated, is_listed, call_of}

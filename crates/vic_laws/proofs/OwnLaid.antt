@@ -1,23 +1,22 @@
 -- The own calls that a client lays over a part are the own done calls of its path.
-use Rattle.std.specs.Prelude.{◌≡◌, ℕ, suc, ◌+◌, ◌<◌, ◌≤◌, ◌⊎◌, Bool, true, false, ◌&&◌, List, [], ◌∷◌, ◌++◌, length, Option, Some, None, nat_lt, nat_eq, if◌then◌else◌}
+use Rattle.std.specs.Prelude.{◌≡◌, ℕ, ◌<◌, ◌≤◌, ◌⊎◌, Bool, true, false, ◌&&◌, List, [], ◌∷◌, ◌++◌, length, Option, Some, None, nat_lt, nat_eq, if◌then◌else◌}
 use Rattle.std.specs.List.{AllByRecursion, filter, fold}
-use Rattle.std.proofs.Common.{refl, ap, subst, sym, ◌∙◌, inl, inr, arith, length-append, le-ltb, lt-ltb, eq-eqb, ne_eqb, le_refl, le_trans}
-use Rattle.std.proofs.lemmas.Bool.{cases_eq, cases_lt, cases_Bool}
+use Rattle.std.proofs.Common.{refl, ap, subst, sym, ◌∙◌, inl, inr, arith, le-ltb, lt-ltb, eq-eqb, ne_eqb, le_trans}
+use Rattle.std.proofs.lemmas.Bool.{cases_eq, cases_lt}
 use Rattle.vic_dict.specs.declared.op.Entry.{Entry}
 use Rattle.vic_dict.specs.declared.op.Outcome.{Outcome}
-use Rattle.vic_dict.specs.Lists.{IsIn}
 use Rattle.vic_dict.specs.Dictionary.{Dictionary, after}
 use Rattle.vic_wire.specs.Hashes.{Group}
 use Rattle.vic_rules.specs.declared.state.Own.{Own}
 use Rattle.vic_rules.specs.declared.trace.TraceStep.{TraceStep}
-use Rattle.vic_rules.specs.Client.{Standing, Move, is_done, done_op, laid, decision}
-use Rattle.vic_rules.specs.History.{standing, path, move_of, AreSteps, IsStep, Completion, completions}
+use Rattle.vic_rules.specs.Client.{Standing, is_done, done_op, laid, decision}
+use Rattle.vic_rules.specs.History.{standing, path, move_of, AreSteps, Completion, completions}
 use Rattle.vic_rules.specs.Views.{confirmed}
 use Rattle.vic_laws.proofs.Steps.{Kind, is_quiet, is_called, is_replied, is_updated, is_listed, call_of, IsOther}
 use Rattle.vic_laws.proofs.Standings.{standing_moved, standing_kept}
 use Rattle.vic_laws.proofs.Calls.{kind_of, completed_by, completion_joins}
 use Rattle.vic_laws.proofs.Agreement.{confirmed_by}
-use Rattle.vic_laws.proofs.Growth.{confirmed_stays, completions_grow, stands_within}
+use Rattle.vic_laws.proofs.Growth.{confirmed_stays, completions_grow}
 
 -- what a call of a path leaves, if it is confirmed and done
 abbrev pub own_op : Dictionary → Entry → Option Completion → Dictionary
@@ -88,7 +87,7 @@ laid_stays ds cs me base d (e ∷ p) a = now (cases_eq e.client me) (laid_stays 
     now : (e.client ≡ me) ⊎ (e.client ≡ me → ⊥) → own_laid (ds ++ cs) me base d p ≡ own_laid cs me base d p → own_laid (ds ++ cs) me base d (e ∷ p) ≡ own_laid cs me base d (e ∷ p)
     now (inl mine) ih =
         ap (λ c. if nat_lt base (length (e ∷ p)) && nat_eq e.client me then own_op (own_laid (ds ++ cs) me base d p) e c else own_laid (ds ++ cs) me base d p)
-          (confirmed_stays ds cs (e ∷ p) (a.0 mine).0 (a.0 mine).1 ∙ sym (a.0 mine).1)
+        (confirmed_stays ds cs (e ∷ p) (a.0 mine).0 (a.0 mine).1 ∙ sym (a.0 mine).1)
         ∙ ap (λ w. if nat_lt base (length (e ∷ p)) && nat_eq e.client me then own_op w e (confirmed cs (e ∷ p)) else w) ih
     now (inr other) ih = laid_other (ds ++ cs) me base d e p other ∙ (ih ∙ sym (laid_other cs me base d e p other))
 
@@ -99,16 +98,20 @@ own_ones_kept g x past steps ds more a k = now k
   where
     s : Standing
     s = standing g x.client past
+
     cs : List Completion
     cs = completions g (x ∷ past)
+
     b : OwnOnes (completions g (x ∷ past)) x.client (standing g x.client past).path
     b = subst (λ c. OwnOnes c x.client (standing g x.client past).path) (sym more) (own_ones_stay ds (completions g past) x.client (standing g x.client past).path a)
+
     now : Kind g x.client (standing g x.client past) x.input (move_of g past x) → OwnOnes (completions g (x ∷ past)) x.client (move_of g past x).next.path
     now (is_quiet q) = subst (OwnOnes (completions g (x ∷ past)) x.client) (sym q.path) b
     now (is_called c) = subst (λ v. OwnOnes (completions g (x ∷ past)) x.client v.next.path) (sym c.moved) b
-    now (is_replied r) = subst (λ v. OwnOnes (completions g (x ∷ past)) x.client v.next.path) (sym r.moved)
-        ((λ mine. (completed_by r, confirmed_by g (x ∷ past) steps (call_of x.client r.seq r.op ∷ (r.others ++ (standing g x.client past).path)) (completed_by r) (completion_joins g past x steps.1 r) refl)),
-          own_ones_others (completions g (x ∷ past)) g.count x.client r.others (standing g x.client past).path r.from_others b)
+    now (is_replied r) = subst (λ v. OwnOnes (completions g (x ∷ past)) x.client v.next.path) (sym r.moved) (
+      (λ mine. (completed_by r, confirmed_by g (x ∷ past) steps (call_of x.client r.seq r.op ∷ (r.others ++ (standing g x.client past).path)) (completed_by r) (completion_joins g past x steps.1 r) refl)),
+      own_ones_others (completions g (x ∷ past)) g.count x.client r.others (standing g x.client past).path r.from_others b,
+    )
     now (is_updated u) = subst (λ v. OwnOnes (completions g (x ∷ past)) x.client v.next.path) (sym u.moved) b
     now (is_listed l) = subst (λ v. OwnOnes (completions g (x ∷ past)) x.client v.next.path) (sym l.moved)
         (own_ones_others (completions g (x ∷ past)) g.count x.client l.others (standing g x.client past).path l.from_others b)
@@ -121,10 +124,11 @@ own_ones g (x ∷ past) steps me = now (cases_eq x.client me) (own_ones g past s
   where
     more : (ds : List Completion) × (completions g (x ∷ past) ≡ ds ++ completions g past)
     more = completions_grow g (x ∷ []) past
+
     now : (x.client ≡ me) ⊎ (x.client ≡ me → ⊥) → OwnOnes (completions g past) x.client (path g x.client past) → OwnOnes (completions g past) me (path g me past) → OwnOnes (completions g (x ∷ past)) me (path g me (x ∷ past))
     now (inl e) mine other = subst (λ j. OwnOnes (completions g (x ∷ past)) j (path g j (x ∷ past))) e
         (subst (λ s. OwnOnes (completions g (x ∷ past)) x.client s.path) (sym (standing_moved g x.client x past refl))
-          (own_ones_kept g x past steps more.0 more.1 mine (kind_of g past x steps.1)))
+        (own_ones_kept g x past steps more.0 more.1 mine (kind_of g past x steps.1)))
     now (inr e) mine other = subst (λ s. OwnOnes (completions g (x ∷ past)) me s.path) (sym (standing_kept g me x past e))
         (subst (λ c. OwnOnes c me (path g me past)) (sym more.1) (own_ones_stay more.0 (completions g past) me (path g me past) other))
 
@@ -173,34 +177,43 @@ module _ (g : Group) (x : TraceStep) (past : List TraceStep) (steps : AreSteps g
     where
       s : Standing
       s = standing g x.client past
+
       cs : List Completion
       cs = completions g (x ∷ past)
+
       call : Entry
       call = call_of x.client k.seq k.op
+
       below : List Entry
       below = k.others ++ (standing g x.client past).path
+
       p : List Entry
       p = call_of x.client k.seq k.op ∷ (k.others ++ (standing g x.client past).path)
+
       ends : Outcome
       ends = decision x.client (standing g x.client past) (k.others ++ (standing g x.client past).path) k.seal.position k.part k.op
+
       new : Own
       new = record { position = length (call_of x.client k.seq k.op ∷ (k.others ++ (standing g x.client past).path)); op = k.op; done = is_done ends }
+
       same : (base : ℕ) (d : Dictionary) → k.seal.position ≤ base → laid (standing g x.client past).own base d ≡ own_laid (completions g (x ∷ past)) x.client base d (k.others ++ (standing g x.client past).path)
       same base d le = before base d (le_trans k.sealing.goes le) ∙ sym (laid_others (completions g (x ∷ past)) g.count x.client base d k.others (standing g x.client past).path k.from_others)
+
       found : confirmed (completions g (x ∷ past)) p ≡ Some (completed_by k)
       found = confirmed_by g (x ∷ past) steps p (completed_by k) (completion_joins g past x steps.1 k) refl
+
       now : (base : ℕ) (d : Dictionary) → k.seal.position ≤ base → (base < length p) ⊎ (length p ≤ base) → laid ((standing g x.client past).own ++ new ∷ []) base d ≡ own_laid (completions g (x ∷ past)) x.client base d p
       now base d le (inl above) =
           laid_last (standing g x.client past).own new base d
           ∙ (if_true (nat_lt base new.position) _ _ (lt-ltb base (length p) above)
-            ∙ (done_same (laid (standing g x.client past).own base d) (own_laid (completions g (x ∷ past)) x.client base d below) new call (completed_by k) (same base d le) refl refl
-              ∙ (ap (own_op (own_laid (completions g (x ∷ past)) x.client base d below) call) (sym found)
-                ∙ sym (laid_own (completions g (x ∷ past)) x.client base d call below above refl))))
+          ∙ (done_same (laid (standing g x.client past).own base d) (own_laid (completions g (x ∷ past)) x.client base d below) new call (completed_by k) (same base d le) refl refl
+          ∙ (ap (own_op (own_laid (completions g (x ∷ past)) x.client base d below) call) (sym found)
+          ∙ sym (laid_own (completions g (x ∷ past)) x.client base d call below above refl))))
       now base d le (inr up) =
           laid_last (standing g x.client past).own new base d
           ∙ (if_false (nat_lt base new.position) _ _ (le-ltb base (length p) up)
-            ∙ (same base d le
-              ∙ (laid_below (completions g (x ∷ past)) x.client base d below (omega arith) ∙ sym (laid_below (completions g (x ∷ past)) x.client base d p up))))
+          ∙ (same base d le
+          ∙ (laid_below (completions g (x ∷ past)) x.client base d below (omega arith) ∙ sym (laid_below (completions g (x ∷ past)) x.client base d p up))))
   lays_kept before (is_updated k) = subst (λ v. Lays (completions g (x ∷ past)) x.client v.next) (sym k.moved) (λ base d le.
       sym (laid_first k.first k.rest base d (subst (λ n. n ≤ base) (sym k.next_is) le))
       ∙ (ap (λ own. laid own base d) (sym k.own_is) ∙ before base d (omega (arith, le, k.sealing.goes))))
@@ -216,5 +229,5 @@ lays g (x ∷ past) steps me = now (cases_eq x.client me) (lays g past steps.0 x
     now : (x.client ≡ me) ⊎ (x.client ≡ me → ⊥) → Lays (completions g past) x.client (standing g x.client past) → Lays (completions g past) me (standing g me past) → Lays (completions g (x ∷ past)) me (standing g me (x ∷ past))
     now (inl e) mine other = subst (λ j. Lays (completions g (x ∷ past)) j (standing g j (x ∷ past))) e
         (subst (Lays (completions g (x ∷ past)) x.client) (sym (standing_moved g x.client x past refl))
-          (lays_kept g x past steps (lays_stay g x past steps x.client mine) (kind_of g past x steps.1)))
+        (lays_kept g x past steps (lays_stay g x past steps x.client mine) (kind_of g past x steps.1)))
     now (inr e) mine other = subst (Lays (completions g (x ∷ past)) me) (sym (standing_kept g me x past e)) (lays_stay g x past steps me other)

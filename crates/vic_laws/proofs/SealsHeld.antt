@@ -1,14 +1,14 @@
 -- Each seal that a client takes or makes holds of its path, unless a tag was forged or two texts collide.
-use Rattle.std.specs.Prelude.{◌≡◌, ◌≢◌, ℕ, suc, ◌+◌, ◌<◌, ◌≤◌, ◌^◌, ◌⊎◌, Bool, true, false, List, [], ◌∷◌, ◌++◌, length, Option, Some, None}
+use Rattle.std.specs.Prelude.{◌≡◌, ◌≢◌, ℕ, ◌+◌, ◌<◌, ◌≤◌, ◌⊎◌, List, [], ◌∷◌, ◌++◌, length, Some}
 use Rattle.std.specs.List.{AllByRecursion}
-use Rattle.std.proofs.Common.{refl, ap, subst, sym, ◌∙◌, inl, inr, arith, add-one, append_assoc, le_refl, le_trans}
+use Rattle.std.proofs.Common.{refl, ap, subst, sym, ◌∙◌, inl, inr, arith, add-one, append_assoc, le_trans}
 use Rattle.std.proofs.lemmas.Bool.{cases_eq}
 use Rattle.vic_dict.specs.declared.op.Entry.{Entry}
 use Rattle.vic_dict.specs.Lists.{IsIn, AreBytes, front}
 use Rattle.vic_wire.specs.declared.message.Seal.{Seal}
 use Rattle.vic_wire.specs.declared.message.ToClient.{ToClient}
 use Rattle.vic_wire.specs.declared.message.ToClient.TheVariants as say
-use Rattle.vic_wire.specs.Texts.{seal_text, genesis_text}
+use Rattle.vic_wire.specs.Texts.{seal_text}
 use Rattle.vic_wire.specs.Hashes.{Group, chain}
 use Rattle.vic_wire.specs.Trees.{dictionary_root, tree_of, node_texts}
 use Rattle.vic_wire.specs.Messages.{IsEntry}
@@ -17,7 +17,7 @@ use Rattle.vic_rules.specs.declared.state.Own.{Own}
 use Rattle.vic_rules.specs.declared.trace.Input.{Input}
 use Rattle.vic_rules.specs.declared.trace.TraceStep.{TraceStep}
 use Rattle.vic_rules.specs.Client.{Standing, Move, Seals, is_done, new_root, seal_of, seal_text_on, commit_text_on}
-use Rattle.vic_rules.specs.History.{standing, path, move_of, AreSteps, IsStep, Completion, completions}
+use Rattle.vic_rules.specs.History.{standing, path, move_of, AreSteps, Completion, completions}
 use Rattle.vic_rules.specs.Views.{confirmed, confirmed_calls, left_by, outcome_leaves}
 use Rattle.vic_rules.specs.Trust.{IsForged, Collides, IsListed, of_genesis, of_part, of_sealed, texts_made, texts_taken, text_sent, taken_by, took, checked_texts, chain_texts, parts_in, parts_taken, applied}
 use Rattle.vic_laws.specs.Claims.{AllConfirmed, SealHolds, SealsHold, SealAt, of_answer, of_its_own}
@@ -27,7 +27,7 @@ use Rattle.vic_laws.proofs.Standings.{standing_moved, standing_kept, earlier_ste
 use Rattle.vic_laws.proofs.Chains.{TwoTexts}
 use Rattle.vic_laws.proofs.Paths.{all_drop, texts_drop, path_listed, path_spelled, collides_from}
 use Rattle.vic_laws.proofs.Calls.{kind_of}
-use Rattle.vic_laws.proofs.Growth.{front_grows, front_none, front_next, confirmed_stays, confirmed_calls_stay, all_confirmed_stays, seal_stays, completions_grow, path_later, sealed_later, parts_later, forged_later, texts_below, StandsWithin, stands_within}
+use Rattle.vic_laws.proofs.Growth.{front_grows, front_none, front_next, confirmed_stays, confirmed_calls_stay, seal_stays, completions_grow, path_later, sealed_later, parts_later, forged_later, texts_below, StandsWithin, stands_within}
 use Rattle.vic_laws.proofs.OwnCalls.{OwnConfirmed, own_confirmed}
 use Rattle.vic_laws.proofs.Dictionaries.{left_proper, root_at_start, part_told, root_written, left_next}
 use Rattle.vic_laws.proofs.MadeSeals.{taken_was_made, seal_checked, MadeSeal, made_stays, made_holds}

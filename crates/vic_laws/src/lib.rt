@@ -4,5 +4,13 @@
 //! `vic_rules`, and each is the contract of a function without parameters and with an empty body.
 #![tactic(auto)]
 
+ghost use Rattle.vic_rules.specs.Headline.{EveryHistoryHolds};
+
 pub mod order;
 pub mod trust;
+
+/// The claim on a group's views, of every lawful history. The laws in [`order`] and [`trust`] are its parts, some of them with
+/// fewer premises.
+pub fn headline()
+    ensures { EveryHistoryHolds }
+{}
