@@ -80,7 +80,8 @@ written true (op.Del k) d root e = refl
 written true (op.List p) d root e = e
 written false o d root e = e
 
-leaves_done : (d : Dictionary) (x : Shown) (o : Outcome) → outcome_leaves d x o ≡ (if is_done o then after d x.entry.op else d)
+-- a call leaves what its operation does, if it was done
+pub leaves_done : (d : Dictionary) (x : Shown) (o : Outcome) → outcome_leaves d x o ≡ (if is_done o then after d x.entry.op else d)
 leaves_done d x (outcome.Done a) = refl
 leaves_done d x (outcome.Aborted u) = refl
 leaves_done d x (outcome.Refused r) = refl

@@ -22,6 +22,7 @@ use Rattle.vic_laws.proofs.Steps.{call_of}
 use Rattle.vic_laws.proofs.Standings.{standing_moved, earlier_steps}
 use Rattle.vic_laws.proofs.Calls.{RepliedAt, completed_by, completion_after}
 use Rattle.vic_laws.proofs.Agreement.{confirmed_tells}
+use Rattle.vic_laws.proofs.Dictionaries.{leaves_done}
 use Rattle.vic_laws.proofs.Growth.{front_grows, front_whole, confirmed_calls_stay, completions_grow}
 use Rattle.vic_laws.proofs.SealsHeld.{all_hold, part_is_left, taken_at}
 use Rattle.vic_laws.proofs.OwnLaid.{own_op, own_laid, laid_own, laid_other, laid_below, laid_others, laid_stays, own_ones, lays}
@@ -49,16 +50,10 @@ not_in_the_way me o e other none = ap (λ b. not b && conflicts e.op o) (sym (ne
 
 -- ---- the walk along a path
 
-leaves_done : (d : Dictionary) (e : Entry) (shown out : Outcome) → outcome_leaves d (record { entry = e; outcome = shown }) out ≡ (if is_done out then after d e.op else d)
-leaves_done d e shown (outcome.Done a) = refl
-leaves_done d e shown (outcome.Aborted u) = refl
-leaves_done d e shown (outcome.Refused r) = refl
-leaves_done d e shown (outcome.Halted k) = refl
-
 shown_leaves : (e : Entry) (c : Option Completion) (v : List Shown) → left_by (shown_as e c ++ v) ≡ own_op (left_by v) e c
 unfolding left_by
 shown_leaves e None v = refl
-shown_leaves e (Some c) v = leaves_done (left_by v) e c.outcome c.outcome
+shown_leaves e (Some c) v = leaves_done (left_by v) (record { entry = e; outcome = c.outcome }) c.outcome
 
 left_more : (cs : List Completion) (e : Entry) (p : List Entry) → left_by (confirmed_calls cs (e ∷ p)) ≡ own_op (left_by (confirmed_calls cs p)) e (confirmed cs (e ∷ p))
 unfolding confirmed_calls

@@ -21,7 +21,7 @@ use Rattle.vic_rules.specs.History.{Completion}
 use Rattle.vic_rules.specs.Views.{confirmed_calls, left_by}
 use Rattle.vic_rules.specs.Trust.{IsForged, texts_made, texts_taken, checked_texts, seal_texts, chain_texts}
 use Rattle.vic_laws.specs.Claims.{AllConfirmed}
-use Rattle.vic_laws.proofs.Words.{in_left}
+use Rattle.vic_laws.proofs.Words.{tail_same, in_left}
 use Rattle.vic_laws.proofs.Chains.{TwoTexts, append_same, told_by_chain, length-chain}
 use Rattle.vic_laws.proofs.Growth.{all_confirmed_stays, confirmed_calls_stay}
 
@@ -53,14 +53,11 @@ seal_checked g p m s e away = in_left (seal_texts g p (seal_of m)) _ _ (subst (�
 
 -- ---- one text, one seal
 
-after_first : (a : ℕ) (x y : List ℕ) → a ∷ x ≡ a ∷ y → x ≡ y
-after_first a x y e = cc
-
 pub seal_text_told : (n m : ℕ) (a b r q : List ℕ) → n < 2 ^ 32 → m < 2 ^ 32 → length a ≡ length b → seal_text n a r ≡ seal_text m b q → (n ≡ m) × (a ≡ b) × (r ≡ q)
 seal_text_told n m a b r q small few l e =
     let outer = append_same (to_be_bytes w32 n ++ a) (to_be_bytes w32 m ++ b) r q
     (omega (arith, length-append (to_be_bytes w32 n) a, length-append (to_be_bytes w32 m) b))
-    (after_first 19 (to_be_bytes w32 n ++ a ++ r) (to_be_bytes w32 m ++ b ++ q) e) in
+    (tail_same 19 19 (to_be_bytes w32 n ++ a ++ r) (to_be_bytes w32 m ++ b ++ q) e) in
     let inner = append_same (to_be_bytes w32 n) (to_be_bytes w32 m) a b refl outer.0 in
     (sym (from_be_bytes-to_be_bytes_4 n small) ∙ (ap (from_be_bytes w32) inner.0 ∙ from_be_bytes-to_be_bytes_4 m few), inner.1, outer.1)
 

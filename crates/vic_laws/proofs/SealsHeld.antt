@@ -21,7 +21,7 @@ use Rattle.vic_rules.specs.History.{standing, path, move_of, AreSteps, Completio
 use Rattle.vic_rules.specs.Views.{confirmed, confirmed_calls, left_by, outcome_leaves}
 use Rattle.vic_rules.specs.Trust.{IsForged, Collides, IsListed, of_genesis, of_part, of_sealed, texts_made, texts_taken, text_sent, taken_by, took, checked_texts, chain_texts, parts_in, parts_taken, applied}
 use Rattle.vic_laws.specs.Claims.{AllConfirmed, SealHolds, SealsHold, SealAt, of_answer, of_its_own}
-use Rattle.vic_laws.proofs.Words.{some_same, none_is_some, in_left, in_either}
+use Rattle.vic_laws.proofs.Words.{some_same, tail_same, none_is_some, in_left, in_either}
 use Rattle.vic_laws.proofs.Steps.{Sealing, Kind, is_quiet, is_called, is_replied, is_updated, is_listed, call_of}
 use Rattle.vic_laws.proofs.Standings.{standing_moved, standing_kept, earlier_steps}
 use Rattle.vic_laws.proofs.Chains.{TwoTexts}
@@ -33,9 +33,6 @@ use Rattle.vic_laws.proofs.Dictionaries.{left_proper, root_at_start, part_told, 
 use Rattle.vic_laws.proofs.MadeSeals.{taken_was_made, seal_checked, MadeSeal, made_stays, made_holds}
 
 -- ---- over plain values
-
-tail_same : (a b : Entry) (p q : List Entry) → a ∷ p ≡ b ∷ q → p ≡ q
-tail_same a b p q e = cc
 
 -- the seal of an own call that stands above a seal that holds
 seal_next : (cs : List Completion) (p below : List Entry) (e : Entry) (by : Completion) (first : Own) (part : Part) (root : List ℕ) (n : ℕ)
