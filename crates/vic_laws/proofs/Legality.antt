@@ -3,8 +3,6 @@ use Rattle.std.specs.Prelude.{◌≡◌, ℕ, ◌<◌, ◌≤◌, ◌⊎◌, Boo
 use Rattle.std.proofs.Common.{refl, ap, subst, sym, ◌∙◌, inl, inr, arith, append_assoc, lt-ltb, ne_eqb, le_refl, le_of_suc-le-suc}
 use Rattle.std.proofs.lemmas.Bool.{cases_eq, cases_lt}
 use Rattle.vic_dict.specs.declared.op.Op.{Op}
-use Rattle.vic_dict.specs.declared.op.Outcome.{Outcome}
-use Rattle.vic_dict.specs.declared.op.Outcome.TheVariants as outcome
 use Rattle.vic_dict.specs.declared.op.Entry.{Entry}
 use Rattle.vic_dict.specs.Lists.{IsIn, front}
 use Rattle.vic_dict.specs.Dictionary.{Dictionary, reply, after}
@@ -14,7 +12,7 @@ use Rattle.vic_rules.specs.declared.trace.TraceStep.{TraceStep}
 use Rattle.vic_rules.specs.declared.trace.Shown.{Shown}
 use Rattle.vic_rules.specs.Client.{Standing, or_this, least_above, is_in_the_way, in_the_way, is_done, decided, decision, laid}
 use Rattle.vic_rules.specs.History.{standing, path, move_of, AreSteps, Completion, completions}
-use Rattle.vic_rules.specs.Views.{confirmed, confirmed_calls, shown_as, left_by, outcome_leaves, last_prefix, view_of, Explains, IsLegal}
+use Rattle.vic_rules.specs.Views.{confirmed, confirmed_calls, shown_as, left_by, last_prefix, view_of, Explains, IsLegal}
 use Rattle.vic_rules.specs.Trust.{IsForged, Collides, parts_in}
 use Rattle.vic_commute.proofs.Commuting.{Alike, after_same, other_after, alike_itself, reply_alike}
 use Rattle.vic_laws.specs.Claims.{SealHolds, ViewsAreLegal}
