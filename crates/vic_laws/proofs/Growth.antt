@@ -14,7 +14,7 @@ use Rattle.vic_rules.specs.declared.trace.TraceStep.{TraceStep}
 use Rattle.vic_rules.specs.Client.{Standing, Move, step, same_entry}
 use Rattle.vic_rules.specs.History.{standing, path, move_of, AreSteps, Completion, completion, completions}
 use Rattle.vic_rules.specs.Views.{or_else, confirmed, confirmed_calls, shown_as, left_by}
-use Rattle.vic_rules.specs.Trust.{IsForged, parts_taken, chain_texts, parts_in, took}
+use Rattle.vic_rules.specs.Trust.{parts_taken, chain_texts, parts_in, took}
 use Rattle.vic_laws.specs.Claims.{AllConfirmed, SealHolds}
 use Rattle.vic_laws.proofs.Words.{in_right, all_weaker, all_append}
 use Rattle.vic_laws.proofs.Steps.{Kind, is_quiet, is_called, is_replied, is_updated, is_listed}
@@ -123,10 +123,6 @@ pub parts_later : (g : Group) (later h : List TraceStep) (b : List ℕ) → IsIn
 unfolding parts_taken
 parts_later g [] h b i = i
 parts_later g (x ∷ later) h b i = in_right (parts_in (took g (later ++ h) x)) (parts_taken g (later ++ h)) b (parts_later g later h b i)
-
-pub forged_later : (g : Group) (later h : List TraceStep) → IsForged g h → IsForged g (later ++ h)
-forged_later g [] h f = f
-forged_later g (x ∷ later) h f = inl (forged_later g later h f)
 
 -- the texts along a path are among those of the grown path
 pub texts_below : (g : Group) (P : List ℕ → Type 0) (news p : List Entry) → AllByRecursion P (chain_texts g (news ++ p)) → AllByRecursion P (chain_texts g p)

@@ -1,12 +1,9 @@
--- Which texts were made where a text was taken, and what a made seal says.
-use Rattle.std.specs.Prelude.{◌≡◌, ◌≢◌, ℕ, ◌<◌, ◌^◌, ◌⊎◌, true, false, List, [], ◌∷◌, ◌++◌, length, Some, if◌then◌else◌}
+-- What the text of a made seal says.
+use Rattle.std.specs.Prelude.{◌≡◌, ◌≢◌, ℕ, ◌<◌, ◌^◌, ◌⊎◌, List, [], ◌∷◌, ◌++◌, length, Some, if◌then◌else◌}
 use Rattle.std.specs.List.{AllByRecursion}
-use Rattle.std.specs.Str.{bytes_eq}
 use Rattle.std.specs.Int.{w32, to_be_bytes, from_be_bytes}
-use Rattle.std.proofs.Common.{refl, ap, subst, sym, ◌∙◌, inl, inr, arith, length-append, true≢false, ne_eqb}
-use Rattle.std.proofs.lemmas.Bool.{cases_Bool}
+use Rattle.std.proofs.Common.{refl, ap, subst, sym, ◌∙◌, inl, inr, arith, length-append, ne_eqb}
 use Rattle.std.proofs.lemmas.Nat.{from_be_bytes-to_be_bytes_4}
-use Rattle.std.proofs.lemmas.Slice.Eq.{bytes_eq-Decides}
 use Rattle.vic_dict.specs.declared.op.Entry.{Entry}
 use Rattle.vic_dict.specs.Lists.{IsIn}
 use Rattle.vic_wire.specs.declared.message.Seal.{Seal}
@@ -15,34 +12,14 @@ use Rattle.vic_wire.specs.Texts.{seal_text, genesis_text}
 use Rattle.vic_wire.specs.Hashes.{Group, chain}
 use Rattle.vic_wire.specs.Trees.{dictionary_root}
 use Rattle.vic_wire.specs.Messages.{IsEntry}
-use Rattle.vic_rules.specs.declared.trace.TraceStep.{TraceStep}
 use Rattle.vic_rules.specs.Client.{seal_of, seal_text_on}
 use Rattle.vic_rules.specs.History.{Completion}
 use Rattle.vic_rules.specs.Views.{confirmed_calls, left_by}
-use Rattle.vic_rules.specs.Trust.{IsForged, texts_made, texts_taken, checked_texts, seal_texts, chain_texts}
+use Rattle.vic_rules.specs.Trust.{checked_texts, seal_texts, chain_texts}
 use Rattle.vic_laws.specs.Claims.{AllConfirmed}
 use Rattle.vic_laws.proofs.Words.{tail_same, in_left}
 use Rattle.vic_laws.proofs.Chains.{TwoTexts, append_same, told_by_chain, length-chain}
 use Rattle.vic_laws.proofs.Growth.{all_confirmed_stays, confirmed_calls_stay}
-
--- ---- taken texts were made
-
-is_in : (ts : List (List ℕ)) (t : List ℕ) → IsIn ts t ⊎ (IsIn ts t → ⊥)
-is_in [] t = inr (λ i. i)
-is_in (u ∷ ts) t = now (cases_Bool (bytes_eq u t)) (is_in ts t)
-  where
-    now : (bytes_eq u t ≡ true) ⊎ (bytes_eq u t ≡ false) → IsIn ts t ⊎ (IsIn ts t → ⊥) → IsIn (u ∷ ts) t ⊎ (IsIn (u ∷ ts) t → ⊥)
-    now (inl e) others = inl (inl ((bytes_eq-Decides u t).0 e))
-    now (inr e) (inl i) = inl (inr i)
-    now (inr e) (inr n) = inr (λ i. elim i [ inl s ↦ true≢false (sym ((bytes_eq-Decides u t).1 s) ∙ e) | inr j ↦ n j ])
-
--- unless a tag was forged, each text that was taken at a step was made before it
-pub taken_was_made : (g : Group) (x : TraceStep) (past : List TraceStep) → (IsForged g (x ∷ past) → ⊥) → (t : List ℕ) → IsIn (texts_taken g past x) t → IsIn (texts_made g past) t
-taken_was_made g x past honest t i = now (is_in (texts_made g past) t)
-  where
-    now : IsIn (texts_made g past) t ⊎ (IsIn (texts_made g past) t → ⊥) → IsIn (texts_made g past) t
-    now (inl m) = m
-    now (inr n) = absurd (honest (inr (t, i, n)))
 
 -- the text of a seal above position 0 is checked
 pub seal_checked : (g : Group) (p : List Entry) (m : ToClient) (s : Seal) → seal_of m ≡ Some s → s.position ≢ 0 → IsIn (checked_texts g p (Some m)) (seal_text_on g p s.position s.root.bytes)

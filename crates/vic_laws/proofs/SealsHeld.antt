@@ -27,10 +27,11 @@ use Rattle.vic_laws.proofs.Standings.{standing_moved, standing_kept, earlier_ste
 use Rattle.vic_laws.proofs.Chains.{TwoTexts}
 use Rattle.vic_laws.proofs.Paths.{all_drop, texts_drop, path_listed, path_spelled, collides_from}
 use Rattle.vic_laws.proofs.Calls.{kind_of}
-use Rattle.vic_laws.proofs.Growth.{front_grows, front_none, front_next, confirmed_stays, confirmed_calls_stay, seal_stays, completions_grow, path_later, sealed_later, parts_later, forged_later, texts_below, StandsWithin, stands_within}
+use Rattle.vic_laws.proofs.Growth.{front_grows, front_none, front_next, confirmed_stays, confirmed_calls_stay, seal_stays, completions_grow, path_later, sealed_later, parts_later, texts_below, StandsWithin, stands_within}
 use Rattle.vic_laws.proofs.OwnCalls.{OwnConfirmed, own_confirmed}
 use Rattle.vic_laws.proofs.Dictionaries.{left_proper, root_at_start, part_told, root_written, left_next}
-use Rattle.vic_laws.proofs.MadeSeals.{taken_was_made, seal_checked, MadeSeal, made_stays, made_holds}
+use Rattle.vic_laws.proofs.RealTime.{taken_was_made_before, forged_earlier}
+use Rattle.vic_laws.proofs.MadeSeals.{seal_checked, MadeSeal, made_stays, made_holds}
 
 -- ---- over plain values
 
@@ -114,7 +115,7 @@ module _ (g : Group) (whole : List TraceStep) (lawful : AreSteps g whole) (hones
   steps_of later h e = earlier_steps g later h (subst (AreSteps g) e lawful)
 
   honest_at : (later h : List TraceStep) → whole ≡ later ++ h → IsForged g h → ⊥
-  honest_at later h e f = honest (subst (IsForged g) (sym e) (forged_later g later h f))
+  honest_at later h e f = honest (subst (IsForged g) (sym e) (forged_earlier g later h f))
 
   -- the texts along a path of an earlier history are listed
   path_texts : (later h : List TraceStep) → whole ≡ later ++ h → (me : ℕ) → AllByRecursion (IsListed g whole) (chain_texts g (path g me h))
@@ -164,7 +165,7 @@ module _ (g : Group) (whole : List TraceStep) (lawful : AreSteps g whole) (hones
           subst (λ o. IsIn (checked_texts g (move_of g past x).next.path o) (seal_text_on g (move_of g past x).next.path seal.position seal.root.bytes)) (sym takes)
           (seal_checked g (move_of g past x).next.path m seal has away) in
           let starts = seal_text_starts seal.position (chain g (front seal.position p)) seal.root.bytes in
-          made _ (subst (IsIn (texts_made g past)) text_is (taken_was_made g x past (honest_at later (x ∷ past) e) _ there)) starts.0 starts.1
+          made _ (subst (IsIn (texts_made g past)) text_is (taken_was_made_before g past x (honest_at later (x ∷ past) e) _ there)) starts.0 starts.1
 
       now : (seal.position ≡ 0) ⊎ (seal.position ≡ 0 → ⊥) → SealHolds (completions g past) p seal.position seal.root.bytes
       now (inl zero) =
