@@ -1,6 +1,7 @@
 //! What the server answers.
 
-ghost use Rattle.std.specs.Prelude.{◌≡◌, ◌++◌, length, nat_le, OnOk, IfOk};
+ghost use Rattle.std.specs.Prelude.{◌≡◌, ◌++◌, length, nat_le, Some, IfSome, OnOk, IfOk};
+ghost use Rattle.vic_wire.specs.declared.message.ToClient.{ToClient as AnAnswer};
 ghost use Rattle.vic_wire.specs.declared.message.ToClient.TheVariants as say;
 ghost use Rattle.vic_wire.specs.Messages.{HasSpelling, answer_text};
 ghost use Rattle.vic_wire.specs.Reading.{allowed, update_at, answer_of_kind, read_answer};
@@ -111,6 +112,10 @@ fn answer_of(alloc: Global, payload: &[u8]) -> Result<ToClient, CutFault>
 /// The answer that the payload spells; none exactly where it spells none. The cost grows with the payload alone.
 #[tactic(auto, unfolding(vic_wire::specs::Reading::read_answer))]
 pub fn decode_answer(alloc: Global, payload: &[u8]) -> Result<Option<ToClient>, NoMemory>
+    // What is read is spelled so.
+    ensures found { IfOk result (λ o. IfSome o (λ m. HasSpelling m × (payload.now ≡ answer_text m))) }
+    // What is spelled so is read, unless memory runs out.
+    ensures only { (m : AnAnswer) → HasSpelling m → payload.now ≡ answer_text m → IfOk result (λ o. o ≡ Some m) }
     ensures exact { IfOk result (λ o. o ≡ read_answer payload.now) }
 {
     found_or_none(answer_of(alloc, payload))

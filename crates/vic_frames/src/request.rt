@@ -1,8 +1,9 @@
 //! What a client sends.
 
-ghost use Rattle.std.specs.Prelude.{◌≡◌, [], ◌∷◌, ◌++◌, length, nat_le, OnOk, IfOk};
+ghost use Rattle.std.specs.Prelude.{◌≡◌, [], ◌∷◌, ◌++◌, length, nat_le, Some, IfSome, OnOk, IfOk};
 ghost use Rattle.std.specs.Int.{w32, to_be_bytes};
 ghost use Rattle.vic_dict.specs.Dictionary.{Fits};
+ghost use Rattle.vic_wire.specs.declared.message.ToServer.{ToServer as ARequest};
 ghost use Rattle.vic_wire.specs.declared.message.ToServer.TheVariants as ask;
 ghost use Rattle.vic_wire.specs.Texts.{op_text, mode_byte, status_byte};
 ghost use Rattle.vic_wire.specs.Messages.{HasRequestSpelling, request_text};
@@ -182,6 +183,10 @@ fn request_of(alloc: Global, payload: &[u8]) -> Result<ToServer, CutFault>
 /// The request that the payload spells; none exactly where it spells none. The cost grows with the payload alone.
 #[tactic(auto, unfolding(vic_wire::specs::Reading::read_request))]
 pub fn decode_request(alloc: Global, payload: &[u8]) -> Result<Option<ToServer>, NoMemory>
+    // What is read is spelled so.
+    ensures found { IfOk result (λ o. IfSome o (λ m. HasRequestSpelling m × (payload.now ≡ request_text m))) }
+    // What is spelled so is read, unless memory runs out.
+    ensures only { (m : ARequest) → HasRequestSpelling m → payload.now ≡ request_text m → IfOk result (λ o. o ≡ Some m) }
     ensures exact { IfOk result (λ o. o ≡ read_request payload.now) }
 {
     found_or_none(request_of(alloc, payload))
