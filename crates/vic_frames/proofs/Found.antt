@@ -1,5 +1,5 @@
 -- What was answered of a payload, given that it is what reading gives.
-use Rattle.std.proofs.Common.{◌≡◌, List, Option, Some, None, Result, Ok, Err, sym, ◌∙◌}
+use Rattle.std.proofs.Common.{◌≡◌, Option, Some, None, Result, Ok, Err, sym, ◌∙◌}
 use Rattle.std.specs.Prelude.{IfOk, IfSome}
 
 -- what holds of all that can be read holds of what was found

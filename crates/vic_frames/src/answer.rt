@@ -76,28 +76,18 @@ fn content_from(alloc: Global, fields: &[u8]) -> Result<ToClient, CutFault>
 fn answer_from(alloc: Global, kind: u8, fields: &[u8]) -> Result<ToClient, CutFault>
     ensures { Gives (λ m. m) result (answer_of_kind kind fields.now) }
 {
-    if kind == 0x41 {
-        whole(ToClient::Hi, fields)
-    } else if kind == 0x42 {
-        reply_from(alloc, fields)
-    } else if kind == 0x43 {
-        whole(ToClient::Wait, fields)
-    } else if kind == 0x44 {
-        update_from(alloc, fields)
-    } else if kind == 0x45 {
-        entries_from(alloc, fields)
-    } else if kind == 0x46 {
-        refused_from(fields)
-    } else if kind == 0x47 {
-        whole(ToClient::Kept, fields)
-    } else if kind == 0x48 {
-        content_from(alloc, fields)
-    } else if kind == 0x49 {
-        whole(ToClient::Gone, fields)
-    } else if kind == 0x4a {
-        whole(ToClient::Absent, fields)
-    } else {
-        Err(CutFault::Value)
+    match kind {
+        0x41 => whole(ToClient::Hi, fields),
+        0x42 => reply_from(alloc, fields),
+        0x43 => whole(ToClient::Wait, fields),
+        0x44 => update_from(alloc, fields),
+        0x45 => entries_from(alloc, fields),
+        0x46 => refused_from(fields),
+        0x47 => whole(ToClient::Kept, fields),
+        0x48 => content_from(alloc, fields),
+        0x49 => whole(ToClient::Gone, fields),
+        0x4a => whole(ToClient::Absent, fields),
+        _ => Err(CutFault::Value),
     }
 }
 

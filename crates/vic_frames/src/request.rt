@@ -25,12 +25,10 @@ const CONTENT_LIMIT: usize = 8_388_608;
 fn mode_from(byte: u8) -> Result<Mode, CutFault>
     ensures { Gives (λ m. m) result (mode_of byte) }
 {
-    if byte == 0 {
-        Ok(Mode::Plain)
-    } else if byte == 1 {
-        Ok(Mode::Objects)
-    } else {
-        Err(CutFault::Value)
+    match byte {
+        0 => Ok(Mode::Plain),
+        1 => Ok(Mode::Objects),
+        _ => Err(CutFault::Value),
     }
 }
 
@@ -149,26 +147,17 @@ fn fetch_from(fields: &[u8]) -> Result<ToServer, CutFault>
 fn request_from(alloc: Global, kind: u8, fields: &[u8]) -> Result<ToServer, CutFault>
     ensures { Gives (λ m. m) result (request_of_kind kind fields.now) }
 {
-    if kind == 0x21 {
-        hello_from(fields)
-    } else if kind == 0x22 {
-        invoke_from(alloc, fields)
-    } else if kind == 0x23 {
-        commit_from(fields)
-    } else if kind == 0x24 {
-        whole(ToServer::Poll, fields)
-    } else if kind == 0x25 {
-        seal_from(fields)
-    } else if kind == 0x26 {
-        sync_from(fields)
-    } else if kind == 0x27 {
-        keep_from(alloc, fields)
-    } else if kind == 0x28 {
-        fetch_from(fields)
-    } else if kind == 0x29 {
-        whole(ToServer::Bye, fields)
-    } else {
-        Err(CutFault::Value)
+    match kind {
+        0x21 => hello_from(fields),
+        0x22 => invoke_from(alloc, fields),
+        0x23 => commit_from(fields),
+        0x24 => whole(ToServer::Poll, fields),
+        0x25 => seal_from(fields),
+        0x26 => sync_from(fields),
+        0x27 => keep_from(alloc, fields),
+        0x28 => fetch_from(fields),
+        0x29 => whole(ToServer::Bye, fields),
+        _ => Err(CutFault::Value),
     }
 }
 

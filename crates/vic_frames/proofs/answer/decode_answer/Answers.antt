@@ -1,4 +1,4 @@
-use Rattle.std.proofs.Common.{◌≡◌, ap, ◌∙◌, sym, arith}
+use Rattle.std.proofs.Common.{◌≡◌, ap, ◌∙◌, arith}
 use Rattle.vic_wire.specs.Messages.{HasSpelling, answer_text}
 use Rattle.vic_wire.specs.Reading.{read_answer}
 use Rattle.vic_spellings.proofs.Laws.{answers_are_spelled}

@@ -1,4 +1,4 @@
-use Rattle.std.proofs.Common.{◌≡◌, ap, ◌∙◌, sym, arith}
+use Rattle.std.proofs.Common.{◌≡◌, ap, ◌∙◌, arith}
 use Rattle.vic_wire.specs.Messages.{HasRequestSpelling, request_text}
 use Rattle.vic_wire.specs.Reading.{read_request}
 use Rattle.vic_spellings.proofs.Laws.{requests_are_spelled}
