@@ -1,6 +1,6 @@
 -- The rows of a dictionary in memory: pairs of a key and a value, their keys rising.
-use Rattle.std.specs.Prelude.{ℕ, suc, ◌<◌, List, [], ◌∷◌, length, IsTrue, Result, Ok, Err}
-use Rattle.std.specs.Ordering.{nat_cmp}
+use Rattle.std.specs.Prelude.{ℕ, suc, ◌<◌, Bool, true, ◌&&◌, List, [], ◌∷◌, length, IsTrue, Result, Ok, Err}
+use Rattle.std.specs.Ordering.{nat_cmp, is_lt}
 use Rattle.std.specs.declared.cmp.Ordering.{Ordering}
 use Rattle.std.specs.Cmp.Lexicographic.{slice_cmp}
 use Rattle.std.specs.FinMap.{is_sorted}
@@ -38,3 +38,8 @@ later (Err i) = Err (suc i)
 abbrev pub spot : List ℕ → List Row → Result ℕ ℕ
 spot k [] = Err 0
 spot k (e ∷ es) = by_order (bytes_cmp k e.0) (Err 0) (Ok 0) (later (spot k es))
+
+-- whether a key is above all keys of the rows
+abbrev pub is_past : List ℕ → List Row → Bool
+is_past k [] = true
+is_past k (e ∷ es) = is_lt (bytes_cmp e.0 k) && is_past k es
