@@ -5,6 +5,7 @@ use Rattle.std.specs.declared.cmp.Ordering.{Ordering}
 use Rattle.std.specs.Cmp.Lexicographic.{slice_cmp}
 use Rattle.std.specs.FinMap.{is_sorted}
 use Rattle.std.specs.FinMap.Entries.{by_order}
+use Rattle.vic_dict.specs.Lists.{AreBytes}
 use Rattle.vic_dict.specs.Dictionary.{IsKey}
 
 abbrev pub Row : Type 0
@@ -19,10 +20,16 @@ abbrev pub AreFit : List Row → Type 0
 AreFit [] = Unit {0}
 AreFit (e ∷ es) = (IsKey e.0 × (length e.1 < 65)) × AreFit es
 
--- rows with rising keys, all within the limits
+-- the numbers of each key and each value are bytes
+abbrev pub AreByteRows : List Row → Type 0
+AreByteRows [] = Unit {0}
+AreByteRows (e ∷ es) = (AreBytes e.0 × AreBytes e.1) × AreByteRows es
+
+-- rows with rising keys, all within the limits, all bytes
 pub record IsTable (rows : List Row) : Type 0 where
   pub rising : IsTrue (is_sorted bytes_cmp rows)
   pub fit : AreFit rows
+  pub bytes : AreByteRows rows
 
 -- how many rows from the front have lower keys
 abbrev pub place_in : List ℕ → List Row → ℕ

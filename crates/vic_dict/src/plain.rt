@@ -113,6 +113,8 @@ impl PlainDict {
         ensures ok { OnOk result (self.new ≡ map.insert self.old key value) }
         ensures err { OnErr result (self.new ≡ self.old) }
     {
+        key.are_bytes();
+        value.are_bytes();
         match find_row(self.rows.as_slice(), key.as_slice()) {
             Ok(place) => self.rows[place].1 = value,
             Err(place) => self.rows.insert(place, (key, value))?,
@@ -228,6 +230,8 @@ impl PlainDict {
         ensures rows { OnOk result (map.entries self.new ≡ map.entries self.old ++ (key, value) ∷ []) }
         ensures err { OnErr result (self.new ≡ self.old) }
     {
+        key.are_bytes();
+        value.are_bytes();
         self.rows.push((key, value))?;
         Ok(())
     }
