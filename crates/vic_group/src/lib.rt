@@ -7,6 +7,7 @@
 pub mod finish;
 pub mod output;
 pub mod place;
+pub mod queue;
 pub mod status;
 
 pub use status::Status;
