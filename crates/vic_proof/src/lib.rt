@@ -9,3 +9,6 @@ pub mod root;
 
 pub use pairs::{pairs_bytes, pairs_of};
 pub use root::plain_root;
+
+#[cfg(test)]
+mod tests;
