@@ -172,4 +172,14 @@ impl Names {
         self.items.push(text)?;
         Ok(())
     }
+
+    pub fn copy(&self, alloc: Global) -> Result<Names, NoMemory>
+        ensures { IfOk result (λ made. made ≡ self.now) }
+    {
+        let mut made = Names::new(alloc);
+        for text in self.as_slice() {
+            made.push(text.copy(alloc)?)?;
+        }
+        Ok(made)
+    }
 }
