@@ -1,0 +1,54 @@
+-- What a client keeps, and for which standings it stands.
+use Rattle.std.specs.Prelude.{◌≡◌, ℕ, Bool, ◌&&◌, List, Option, Some, None, is_none}
+use Rattle.vic_dict.specs.declared.op.Outcome.{Outcome}
+use Rattle.vic_dict.specs.declared.op.Mode.{Mode}
+use Rattle.vic_wire.specs.Hashes.{Group}
+use Rattle.vic_rules.specs.declared.state.Own.{Own}
+use Rattle.vic_rules.specs.declared.state.Awaiting.{Awaiting}
+use Rattle.vic_rules.specs.declared.trace.Input.{Input}
+use Rattle.vic_rules.specs.Client.{Standing, Move, step, payload_of, awaits_nothing}
+use Rattle.vic_chain.specs.Held.{Held, ShowsPath}
+
+-- who it is, its group, the window of its path, its own calls that aren't sealed, what it awaits, how often it called, and the
+-- check at which it halted
+pub record Kept : Type 0 where
+  pub id : ℕ
+  pub count : ℕ
+  pub mode : Mode
+  pub key : List ℕ
+  pub window : Held
+  pub own : List Own
+  pub awaiting : Awaiting
+  pub calls : ℕ
+  pub halted : Option ℕ
+
+-- the group that it is in
+abbrev pub group_of : Kept → Group
+group_of c = record { mode = c.mode; count = c.count; key = c.key }
+
+-- the window shows the path of the standing, and all else is the standing's own
+pub record StandsFor (c : Kept) (s : Standing) : Type 0 where
+  pub path : ShowsPath (group_of c) s.path c.window
+  pub sealed : s.sealed ≡ c.window.sealed
+  pub root : s.root ≡ c.window.root
+  pub own : s.own ≡ c.own
+  pub awaiting : s.awaiting ≡ c.awaiting
+  pub calls : s.calls ≡ c.calls
+  pub halted : s.halted ≡ c.halted
+
+-- the client awaits nothing and has not halted
+abbrev pub is_idle : Kept → Bool
+is_idle c = awaits_nothing c.awaiting && is_none c.halted
+
+-- the same client of the same group
+pub record IsSame (old new : Kept) : Type 0 where
+  pub id : new.id ≡ old.id
+  pub group : group_of new ≡ group_of old
+
+-- the move that a client's step makes from where it stands
+abbrev pub move_of : Kept → Standing → Input → Move
+move_of c s given = step (group_of c) c.id s given
+
+-- what is sent at a move
+abbrev pub sent_at : Kept → Move → Option (List ℕ)
+sent_at c v = payload_of (group_of c) c.id v.next v.sends

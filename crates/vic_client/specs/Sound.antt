@@ -1,0 +1,27 @@
+-- What holds of every client.
+use Rattle.std.specs.Prelude.{◌≡◌, ℕ, ◌<◌, ◌≤◌, length, List}
+use Rattle.std.specs.List.{AllByRecursion}
+use Rattle.vic_dict.specs.Dictionary.{Fits}
+use Rattle.vic_rules.specs.declared.state.Own.{Own}
+use Rattle.vic_rules.specs.declared.state.Awaiting.{Awaiting}
+use Rattle.vic_rules.specs.declared.state.Awaiting.TheVariants as awaits
+use Rattle.vic_chain.specs.Held.{Held, held_length}
+
+-- the operation that is awaited is within the limits
+abbrev pub AwaitsFit : Awaiting → Type 0
+AwaitsFit (awaits.Reply n o load) = Fits o
+AwaitsFit awaits.Nothing = Unit {0}
+AwaitsFit awaits.Turn = Unit {0}
+AwaitsFit awaits.Entries = Unit {0}
+AwaitsFit awaits.Kept = Unit {0}
+AwaitsFit (awaits.Content h n) = Unit {0}
+
+-- each own call stands on the path
+abbrev pub OwnWithin : ℕ → List Own → Type 0
+OwnWithin most own = AllByRecursion (λ o. o.position ≤ most) own
+
+-- the client is one of its group, and what it keeps is within its path
+pub record IsSound (id count : ℕ) (window : Held) (own : List Own) (awaiting : Awaiting) : Type 0 where
+  pub member : (0 < id) × ((id ≤ count) × (count ≤ 64))
+  pub awaited : AwaitsFit awaiting
+  pub within : OwnWithin (held_length window) own
