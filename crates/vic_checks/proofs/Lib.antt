@@ -2,3 +2,4 @@ pub mod Walks
 pub mod Tags
 pub mod Paths
 pub mod Verdicts
+pub mod Decisions

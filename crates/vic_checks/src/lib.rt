@@ -5,12 +5,14 @@
 //! stands for (`StandsForState` of `specs/State.antt`).
 #![tactic(auto)]
 
+pub mod deciding;
 pub mod form;
 pub mod judging;
 pub mod members;
 pub mod seals;
 pub mod state;
 
+pub use deciding::decide;
 pub use judging::judge;
 pub use state::{OwnList, State, Verdict};
 pub use vic_rules::{Awaiting, Own};

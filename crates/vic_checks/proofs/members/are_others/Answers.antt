@@ -1,8 +1,7 @@
-use Rattle.std.proofs.Common.{sym, ap, ◌∙◌, subst, ◌≡◌, drop, ℕ, true, arith}
-use Rattle.std.specs.List.{list_all}
+use Rattle.std.proofs.Common.{sym, ◌∙◌}
 use Rattle.vic_wire.specs.declared.message.Tagged.{Tagged}
 use Rattle.vic_rules.specs.Client.{is_other}
-use Rattle.vic_checks.proofs.Walks.{found_at, all_failed, all_left, all_passed}
+use Rattle.vic_checks.proofs.Walks.{found_at, all_failed, all_left}
 use Rattle.vic_checks.proofs.Paths.{all_newest}
 use Rattle.vic_checks.proofs.members.are_others.Goals as goal
 

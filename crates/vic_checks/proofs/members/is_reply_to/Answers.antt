@@ -1,6 +1,5 @@
-use Rattle.std.proofs.Common.{sym, ap, ◌∙◌, ◌≡◌, ◌<◌, ◌+◌, ◌-◌, [], List, length, arith, get_or}
+use Rattle.std.proofs.Common.{sym, ap, ◌∙◌, ◌-◌, [], length, arith, get_or}
 use Rattle.std.proofs.lemmas.Bool.{eqb-false}
-use Rattle.vic_dict.specs.declared.op.Entry.{Entry}
 use Rattle.vic_wire.specs.declared.message.Tagged.{Tagged}
 use Rattle.vic_rules.specs.Client.{is_reply_to}
 use Rattle.vic_checks.proofs.Walks.{found_at}

@@ -1,5 +1,4 @@
-use Rattle.std.proofs.Common.{◌∷◌, [], ◌≡◌, List, ℕ}
-use Rattle.sha2.specs.Hashers.{Holds256}
+use Rattle.std.proofs.Common.{◌∷◌, []}
 use Rattle.vic_wire.specs.Hashes.{masked_key}
 use Rattle.vic_wire.specs.Texts.{invoke_text, entry_text}
 use Rattle.vic_checks.proofs.Tags.{same_as, fed_twice}

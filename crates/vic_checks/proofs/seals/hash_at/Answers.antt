@@ -1,5 +1,4 @@
-use Rattle.std.proofs.Common.{sym, ap, ◌∙◌, ◌≡◌, ◌≤◌, ◌+◌, ◌-◌, ℕ, List, length, arith}
-use Rattle.vic_dict.specs.declared.op.Entry.{Entry}
+use Rattle.std.proofs.Common.{sym, ap, ◌∙◌, ◌≡◌, ◌≤◌, ◌+◌, ◌-◌, ℕ, length, arith}
 use Rattle.vic_dict.specs.Lists.{front}
 use Rattle.vic_wire.specs.Hashes.{chain}
 use Rattle.vic_rules.specs.Client.{onto}

@@ -1,5 +1,4 @@
-use Rattle.std.proofs.Common.{sym, ap, ◌∙◌, ◌≡◌, List, take, refl}
-use Rattle.vic_dict.specs.declared.op.Entry.{Entry}
+use Rattle.std.proofs.Common.{sym, ap, ◌∙◌, List, take}
 use Rattle.vic_wire.specs.declared.message.Tagged.{Tagged}
 use Rattle.vic_wire.specs.Hashes.{chain}
 use Rattle.vic_rules.specs.Client.{onto}

@@ -1,9 +1,6 @@
-use Rattle.std.proofs.Common.{◌∷◌, [], ◌≡◌, false, List, ℕ, nat_eq, sym, ap, ◌∙◌, ◌++◌}
-use Rattle.std.specs.Prelude.{◌||◌}
-use Rattle.std.specs.Str.{bytes_eq}
-use Rattle.std.proofs.lemmas.Bool.{eqb-false}
+use Rattle.std.proofs.Common.{◌∷◌, [], ◌∙◌}
 use Rattle.std.specs.Int.{w32, to_be_bytes}
-use Rattle.vic_wire.specs.Hashes.{masked_key, tag_of}
+use Rattle.vic_wire.specs.Hashes.{masked_key}
 use Rattle.vic_wire.specs.Texts.{seal_text}
 use Rattle.vic_checks.proofs.Tags.{same_as, fed_four, or_false}
 use Rattle.vic_checks.proofs.seals.seal_holds.Goals as goal

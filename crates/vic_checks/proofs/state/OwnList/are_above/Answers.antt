@@ -1,4 +1,4 @@
-use Rattle.std.proofs.Common.{◌≡◌, nat_lt, false, true, sym, ◌∙◌, arith}
+use Rattle.std.proofs.Common.{nat_lt, sym, ◌∙◌}
 use Rattle.std.proofs.lemmas.Bool.{le-ltb, lt-ltb}
 use Rattle.vic_rules.specs.declared.state.Own.{Own}
 use Rattle.vic_checks.proofs.Walks.{all_passed, all_failed}
