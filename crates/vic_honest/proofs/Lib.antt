@@ -3,5 +3,6 @@ pub mod Standing
 pub mod Spoken
 pub mod Serving
 pub mod Taking
+pub mod Owns
 pub mod Worlds
 pub mod Runs
