@@ -4,5 +4,8 @@ pub mod Spoken
 pub mod Serving
 pub mod Taking
 pub mod Owns
+pub mod Deciding
 pub mod Worlds
+pub mod Knowing
+pub mod Checks
 pub mod Runs
