@@ -8,4 +8,5 @@ pub mod Deciding
 pub mod Worlds
 pub mod Knowing
 pub mod Checks
+pub mod Frame
 pub mod Runs

@@ -238,15 +238,20 @@ owns-next me base (x ∷ new) o below mine long =
       | is_low l e ↦ absurd (omega arith)
     ]
 
--- what is shown of each own entry is shown of each own call
-pub owns-each : (me base : ℕ) (P : ℕ → Type 0) (log : List Ordered)
-    → ((new : List Ordered) (o : Ordered) (below : List Ordered) → log ≡ new ++ o ∷ below → nat_eq o.entry.client me ≡ true → base < length (o ∷ below) → P (length (o ∷ below)))
-    → AllByRecursion (λ x. P x.position) (owns me base log)
-owns-each me base P [] h = subst (AllByRecursion (λ x. P x.position)) (sym (owns-nil me base)) tt
-owns-each me base P (o ∷ below) h =
-    let rest = owns-each me base P below (λ new x low is. h (o ∷ new) x low (ap (λ l. o ∷ l) is)) in
+-- what follows of each own entry from what is known of its place follows of each own call
+pub owns-more : (me base : ℕ) (P Q : ℕ → Type 0) (log : List Ordered) → AllByRecursion (λ x. P x.position) (owns me base log)
+    → ((new : List Ordered) (o : Ordered) (below : List Ordered) → log ≡ new ++ o ∷ below → nat_eq o.entry.client me ≡ true → P (length (o ∷ below)) → Q (length (o ∷ below)))
+    → AllByRecursion (λ x. Q x.position) (owns me base log)
+owns-more me base P Q [] h f = subst (AllByRecursion (λ x. Q x.position)) (sym (owns-nil me base)) tt
+owns-more me base P Q (o ∷ below) h f =
+    let f_below : (new : List Ordered) (x : Ordered) (low : List Ordered) → below ≡ new ++ x ∷ low → nat_eq x.entry.client me ≡ true → P (length (x ∷ low)) → Q (length (x ∷ low)) =
+        λ new x low is. f (o ∷ new) x low (ap (λ l. o ∷ l) is) in
     elim (owns-case me base o below) [
-      | is_own m higher e ↦ subst (AllByRecursion (λ x. P x.position)) (sym e) (all_append (λ x. P x.position) (owns me base below) (own_of o below ∷ []) rest (h [] o below refl m higher, tt))
-      | is_others other e ↦ subst (AllByRecursion (λ x. P x.position)) (sym e) rest
-      | is_low l e ↦ subst (AllByRecursion (λ x. P x.position)) (sym e) rest
+      | is_own m higher e ↦
+          let h2 : AllByRecursion (λ x. P x.position) (owns me base below ++ own_of o below ∷ []) = subst (AllByRecursion (λ x. P x.position)) e h in
+          subst (AllByRecursion (λ x. Q x.position)) (sym e) (all_append (λ x. Q x.position) (owns me base below) (own_of o below ∷ [])
+            (owns-more me base P Q below (all-first (λ x. P x.position) (owns me base below) (own_of o below ∷ []) h2) f_below)
+            (f [] o below refl m (all-second (λ x. P x.position) (owns me base below) (own_of o below ∷ []) h2).0, tt))
+      | is_others other e ↦ subst (AllByRecursion (λ x. Q x.position)) (sym e) (owns-more me base P Q below (subst (AllByRecursion (λ x. P x.position)) e h) f_below)
+      | is_low l e ↦ subst (AllByRecursion (λ x. Q x.position)) (sym e) (owns-more me base P Q below (subst (AllByRecursion (λ x. P x.position)) e h) f_below)
     ]
