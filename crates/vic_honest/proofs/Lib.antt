@@ -9,4 +9,5 @@ pub mod Worlds
 pub mod Knowing
 pub mod Checks
 pub mod Frame
+pub mod Answering
 pub mod Runs

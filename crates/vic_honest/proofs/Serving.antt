@@ -73,7 +73,7 @@ first_seal_fits g made log = record {
 -- ---- guarded answers
 
 module _ (P : Answered → Type 0) (s : Server) where
-  passed : (first : Option ℕ) (a : Answered) → ((r : ℕ) → first ≡ Some r → P (says s (say.Refused r))) → (first ≡ None → P a) → P (unless_refused s first a)
+  pub passed : (first : Option ℕ) (a : Answered) → ((r : ℕ) → first ≡ Some r → P (says s (say.Refused r))) → (first ≡ None → P a) → P (unless_refused s first a)
   passed (Some r) a refuses goes = refuses r refl
   passed None a refuses goes = goes refl
 
@@ -89,7 +89,7 @@ reason_is (c ∷ cs) r h e =
     ] e
 
 -- a test that passed, and those after it
-test_passed : (b : Bool) (n : ℕ) (rest : Option ℕ) → (if b then rest else Some n) ≡ None → (b ≡ true) × (rest ≡ None)
+pub test_passed : (b : Bool) (n : ℕ) (rest : Option ℕ) → (if b then rest else Some n) ≡ None → (b ≡ true) × (rest ≡ None)
 test_passed true n rest e = (refl, e)
 test_passed false n rest e = absurd cc
 
