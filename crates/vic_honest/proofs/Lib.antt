@@ -10,4 +10,5 @@ pub mod Knowing
 pub mod Checks
 pub mod Frame
 pub mod Answering
+pub mod Requests
 pub mod Runs
