@@ -11,4 +11,5 @@ pub mod Checks
 pub mod Frame
 pub mod Answering
 pub mod Requests
+pub mod Learning
 pub mod Runs
