@@ -12,4 +12,5 @@ pub mod Frame
 pub mod Answering
 pub mod Requests
 pub mod Learning
+pub mod Known
 pub mod Runs
