@@ -3,7 +3,7 @@ use Rattle.std.proofs.Common.{◌≡◌, ℕ, suc, zero, ◌+◌, ◌-◌, ◌<�
 use Rattle.std.specs.Prelude.{if◌then◌else◌, nat_eq, slice_get}
 use Rattle.std.specs.List.{AllByRecursion}
 use Rattle.std.proofs.lemmas.Bool.{eq-eqb, ne_eqb, cases_eq, and_parts}
-use Rattle.vic_dict.specs.Lists.{IsIn}
+use Rattle.std.proofs.lemmas.List.{length-replicate}
 use Rattle.vic_dict.specs.declared.op.Op.{Op}
 use Rattle.vic_wire.specs.declared.message.ToClient.{ToClient}
 use Rattle.vic_wire.specs.declared.message.ToServer.{ToServer}
@@ -32,7 +32,7 @@ use Rattle.vic_honest.proofs.Standing as fitting
 use Rattle.vic_honest.proofs.Serving.{length-tag, payload_served}
 use Rattle.vic_honest.proofs.Worlds.{step_of, move, idle_rests, third, ask_bounds, room_left, all_fit}
 use Rattle.vic_honest.proofs.Owns.{root_on, owns, owns-nil}
-use Rattle.vic_honest.proofs.Knowing.{ServerKnows, Keeps, Calm, Does, ClientKnows}
+use Rattle.vic_honest.proofs.Knowing.{ServerKnows, Keeps, Calm, Does, IsSpelled, ClientKnows}
 use Rattle.vic_honest.proofs.Checks.{nothing_is, root_on-nil}
 use Rattle.vic_honest.proofs.Frame.{Later, client_stays}
 use Rattle.vic_honest.proofs.Answering.{Answers}
@@ -185,6 +185,17 @@ request_spelled g me s t seen newer fits room keeps Polls d = tt
 request_spelled g me s t seen newer fits room keeps Seals d = ((omega (arith, d.position), omega (arith, fits.sealed)), (fits.root, length-tag _ _))
 request_spelled g me s t seen newer fits room keeps Syncs d = room
 
+served_as : {g : Group} (s : Server) (k : ServerKnows g s) (me : ℕ) → 0 < me → me ≤ g.count → (t : Standing) (seen newer : List Ordered) → Keeps me s t seen newer → (sending : Sending) (payload : List ℕ)
+    → Does g me s t seen newer (Sends sending) → read_request payload ≡ Some (request_of g me t sending) → Answers g me s t seen newer (serve s me payload)
+unfolding serve
+served_as {g} s k me above upto t seen newer keeps sending payload does read =
+    subst (λ r. Answers g me s t seen newer (serve_read s me r)) (sym read) (request_answers g s k me above upto t seen newer keeps sending does)
+
+fresh_member : (n i : ℕ) → i < n → slice_get (replicate n ready) i ≡ Some ready
+fresh_member zero i h = absurd (omega arith)
+fresh_member (suc n) zero h = refl
+fresh_member (suc n) (suc i) h = fresh_member n i (omega arith)
+
 module _ (g : Group) (group : IsGroup g) where
   -- what is answered has a spelling
   answer_spelled : (w : World) → WorldFits g w → (me : ℕ) → 0 < me → me ≤ g.count → (payload : List ℕ) → w.up me ≡ payload ∷ [] → HasSpelling (serve w.server me payload).answer
@@ -202,14 +213,121 @@ module _ (g : Group) (group : IsGroup g) where
   sent_known : (w : World) → WorldFits g w → (know : WorldKnows g w) → (me : ℕ) → 0 < me → me ≤ g.count → (seen newer : List Ordered) → Keeps me w.server (standing g me w.history) seen newer → (sending : Sending)
       → w.up me ≡ request_text (request_of g me (standing g me w.history) sending) ∷ [] → w.down me ≡ [] → Does g me w.server (standing g me w.history) seen newer (Sends sending)
       → WorldKnows g (serves w me (request_text (request_of g me (standing g me w.history) sending) ∷ []))
-  unfolding serve
-  sent_known w fit know me above upto seen newer keeps sending up_is down_is does = ?
+  sent_known w fit know me above upto seen newer keeps sending up_is down_is does =
+      let t : Standing = standing g me w.history in
+      let c : ClientFits g (texts_made g w.history) me w.server.log (standing g me w.history) (w.up me) (w.down me) = fit.clients me above upto in
+      let payload : List ℕ = request_text (request_of g me t sending) in
+      let a : Answered = serve w.server me payload in
+      let room : length t.path < 2 ^ 32 = room_left g (texts_made g w.history) w.server t c.seen c.newer fit.server c.is c.path in
+      let read : read_request payload ≡ Some (request_of g me t sending) = request_again (request_of g me t sending) (request_spelled g me w.server t seen newer c.fits room keeps sending does) in
+      let s : Answers g me w.server t seen newer a = served_as w.server know.server me above upto t seen newer keeps sending payload does read in
+      let up : ℕ → List (List ℕ) = changed w.up me [] in
+      let down : ℕ → List (List ℕ) = changed w.down me (queued (w.down me) (Some (answer_text a.answer))) in
+      let grown : a.next.log ≡ s.new ++ w.server.log = s.keeps.log ∙ append_assoc s.new newer seen ∙ ap (λ l. s.new ++ l) (sym keeps.log) in
+      let mine : ClientKnows g me a.next t (up me) (down me) = record {
+            seen = seen;
+            newer = s.new ++ newer;
+            keeps = s.keeps;
+            doing = Gets a.answer;
+            up_is = ap (λ b. if b then [] else w.up me) (eq-eqb me me refl);
+            down_is = ap (λ b. if b then queued (w.down me) (Some (answer_text a.answer)) else w.down me) (eq-eqb me me refl) ∙ ap (λ q. queued q (Some (answer_text a.answer))) down_is;
+            spelled = answer_spelled w fit me above upto payload up_is;
+            does = s.does;
+          } in
+      record {
+        server = s.knows;
+        clients = λ j low high. elim (cases_eq j me) [
+          | inl e ↦ subst (λ k. ClientKnows g k a.next (standing g k w.history) (up k) (down k)) (sym e) mine
+          | inr apart ↦
+              subst (λ u. ClientKnows g j a.next (standing g j w.history) u (down j)) (sym (ap (λ b. if b then [] else w.up j) (ne_eqb j me apart)))
+              (subst (λ d. ClientKnows g j a.next (standing g j w.history) (w.up j) d) (sym (ap (λ b. if b then queued (w.down me) (Some (answer_text a.answer)) else w.down j) (ne_eqb j me apart)))
+              (client_stays g j w.server a.next (s.others j low apart) (standing g j w.history) (w.up j) (w.down j) (know.clients j low high)))
+        ];
+        fates = subst (λ l. AllByRecursion (IsFated l) (completions g w.history)) (sym grown)
+            (all_weaker (IsFated w.server.log) (IsFated (s.new ++ w.server.log)) (fated-grows s.new w.server.log) (completions g w.history) know.fates);
+        fine = know.fine;
+      }
+
+  serves_know : (w : World) → WorldFits g w → WorldKnows g w → (me : ℕ) → 0 < me → me ≤ g.count → (w.up me ≡ [] → ⊥) → WorldKnows g (serves w me (w.up me))
+  serves_know w fit know me above upto waits =
+      let c = know.clients me above upto in by_doing c.seen c.newer c.keeps c.doing c.up_is c.down_is c.does
+    where
+      by_doing : (seen newer : List Ordered) → Keeps me w.server (standing g me w.history) seen newer → (doing : Doing) → w.up me ≡ up_by g me (standing g me w.history) doing → w.down me ≡ down_by doing
+          → Does g me w.server (standing g me w.history) seen newer doing → WorldKnows g (serves w me (w.up me))
+      by_doing seen newer keeps Rests up_is down_is does = absurd (waits up_is)
+      by_doing seen newer keeps (Sends sending) up_is down_is does =
+          subst (λ q. WorldKnows g (serves w me q)) (sym up_is) (sent_known w fit know me above upto seen newer keeps sending up_is down_is does)
+      by_doing seen newer keeps (Gets m) up_is down_is does = absurd (waits up_is)
 
   -- ---- taking
 
   got_known : (w : World) → WorldFits g w → (know : WorldKnows g w) → (me : ℕ) → (seen newer : List Ordered) → Keeps me w.server (standing g me w.history) seen newer → (m : ToClient) → HasSpelling m
       → w.up me ≡ [] → Does g me w.server (standing g me w.history) seen newer (Gets m) → WorldKnows g (takes g w me (answer_text m ∷ []))
-  got_known w fit know me seen newer keeps m spelled up_is does = ?
+  got_known w fit know me seen newer keeps m spelled up_is does =
+      step_knows g w know me (input.Payload (answer_text m)) (changed w.down me []) (λ j apart. ap (λ b. if b then [] else w.down j) (ne_eqb j me apart))
+      (answer_learnt g (texts_made g w.history) w.server know.server fit.server.log fit.server.room me (standing g me w.history) seen newer keeps (answer_text m) m (answer_again m spelled) does)
+      up_is (ap (λ b. if b then [] else w.down me) (eq-eqb me me refl))
+
+  takes_know : (w : World) → WorldFits g w → WorldKnows g w → (me : ℕ) → 0 < me → me ≤ g.count → (w.down me ≡ [] → ⊥) → WorldKnows g (takes g w me (w.down me))
+  takes_know w fit know me above upto waits =
+      let c = know.clients me above upto in by_doing c.seen c.newer c.keeps c.doing c.up_is c.down_is c.spelled c.does
+    where
+      by_doing : (seen newer : List Ordered) → Keeps me w.server (standing g me w.history) seen newer → (doing : Doing) → w.up me ≡ up_by g me (standing g me w.history) doing → w.down me ≡ down_by doing
+          → IsSpelled doing → Does g me w.server (standing g me w.history) seen newer doing → WorldKnows g (takes g w me (w.down me))
+      by_doing seen newer keeps Rests up_is down_is spelled does = absurd (waits down_is)
+      by_doing seen newer keeps (Sends sending) up_is down_is spelled does = absurd (waits down_is)
+      by_doing seen newer keeps (Gets m) up_is down_is spelled does = subst (λ q. WorldKnows g (takes g w me q)) (sym down_is) (got_known w fit know me seen newer keeps m spelled up_is does)
 
   opening_knows : WorldKnows g (opening g)
-  opening_knows = ?
+  unfolding standing completions
+  opening_knows = record {
+    server = record {
+      over = [];
+      base = [];
+      is = refl;
+      members = length-replicate g.count ready;
+      ordered = tt;
+      near = omega arith;
+      seals = refl;
+      dictionary = sym nothing_is;
+      fates = λ newer o below done is committed. absurd cc;
+      unmade = λ n past. refl;
+    };
+    clients = λ j low high.
+        let member_is : member (fresh_server g.mode g.count ready) j ≡ ready = ap or_away (fresh_member g.count (j - 1) (omega arith)) in
+        record {
+          seen = [];
+          newer = [];
+          keeps = record {
+            over = [];
+            base = [];
+            log = refl;
+            path = refl;
+            going = refl;
+            cut = refl;
+            sealed = refl;
+            root = sym root_on-nil;
+            own = sym (owns-nil j 0);
+            unsealed = tt;
+            last = subst (λ m. m.last ≤ 0) (sym member_is) (omega arith);
+          };
+          doing = Rests;
+          up_is = refl;
+          down_is = refl;
+          spelled = tt;
+          does = (refl, record { ready = ap (λ m. m.stage) member_is; sealed = omega arith; others = tt });
+        };
+    fates = tt;
+    fine = tt;
+  }
+
+  happens_known : (w : World) → WorldFits g w → WorldKnows g w → (e : Event) → MayBe g w e → WorldKnows g (happens g w e)
+  unfolding happens
+  happens_known w fit know (Asks me i) may = let b = ask_bounds g w me i may in asks_know g w fit know me b.0 b.1 i may
+  happens_known w fit know (Serves me) may = serves_know w fit know me may.0 may.1 may.2
+  happens_known w fit know (Takes me) may = takes_know w fit know me may.0 may.1 may.2
+
+  pub all_known : (events : List Event) → AreHonest g events → WorldKnows g (world_after g events)
+  unfolding world_after
+  all_known [] h = opening_knows
+  all_known (e ∷ before) h = happens_known (world_after g before) (all_fit g group before h.0) (all_known before h.0) e h.1
