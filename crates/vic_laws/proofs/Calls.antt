@@ -1,5 +1,5 @@
 -- Calls and completions along a history: each completion is that of a call, and a call has one.
-use Rattle.std.proofs.Common.{◌≡◌, ℕ, zero, suc, ◌+◌, ◌-◌, ◌<◌, ◌≤◌, ◌⊎◌, inl, inr, Bool, true, false, List, [], ◌∷◌, ◌++◌, length, Option, Some, None, nat_eq, refl, sym, ◌∙◌, ap, subst, arith, eq-eqb, ne_eqb, if◌then◌else◌, cond}
+use Rattle.std.proofs.Common.{◌≡◌, ℕ, ◌+◌, ◌<◌, ◌≤◌, ◌⊎◌, inl, inr, Bool, false, List, [], ◌∷◌, ◌++◌, Option, Some, None, refl, sym, ◌∙◌, ap, subst, arith}
 use Rattle.std.proofs.lemmas.Bool.{cases_eq}
 use Rattle.vic_dict.specs.declared.op.Op.{Op}
 use Rattle.vic_dict.specs.declared.op.Entry.{Entry}
@@ -7,31 +7,21 @@ use Rattle.vic_dict.specs.declared.op.Outcome.{Outcome}
 use Rattle.vic_dict.specs.Dictionary.{Dictionary}
 use Rattle.vic_dict.specs.Lists.{IsIn}
 use Rattle.vic_wire.specs.Hashes.{Group}
-use Rattle.vic_rules.specs.declared.state.Awaiting.{Awaiting}
 use Rattle.vic_rules.specs.declared.state.Awaiting.TheVariants as awaits
 use Rattle.vic_rules.specs.declared.trace.Input.{Input}
 use Rattle.vic_rules.specs.declared.trace.Input.TheVariants as input
 use Rattle.vic_rules.specs.declared.trace.TraceStep.{TraceStep}
-use Rattle.vic_rules.specs.Client.{Standing, at_start, Move, step, decision, decided}
+use Rattle.vic_rules.specs.Client.{Standing, Move, decision, decided}
 use Rattle.vic_rules.specs.History.{standing, path, move_of, IsStep, AreSteps, Completion, completion, completions}
 use Rattle.vic_rules.specs.Views.{IsCall, MakesCall, NoStepOf, IsAnswered}
-use Rattle.vic_laws.proofs.Steps.{Quiet, Called, Replied, Updated, Listed, Kind, is_quiet, is_called, is_replied, is_updated, is_listed, call_of}
+use Rattle.vic_laws.proofs.Words.{in_left, in_right, in_either}
+use Rattle.vic_laws.proofs.Steps.{Called, Replied, Kind, is_quiet, is_called, is_replied, is_updated, is_listed, call_of}
 use Rattle.vic_laws.proofs.StepKinds.{step_kind}
+use Rattle.vic_laws.proofs.Standings.{standing_moved, standing_kept}
 
--- ---- where a client stands after one more step
+-- ---- what kind a step is
 
--- another client's step leaves a client where it stands
-pub stands_other : (g : Group) (me : ℕ) (x : TraceStep) (past : List TraceStep) → (x.client ≡ me → ⊥) → standing g me (x ∷ past) ≡ standing g me past
-unfolding standing
-stands_other g me x past differ =
-    ap (λ (b : Bool). if b then (step g me (standing g me past) x.input).next else standing g me past) (ne_eqb x.client me differ)
-
--- after its own step a client stands where its move leads
-pub stands_own : (g : Group) (x : TraceStep) (past : List TraceStep) → standing g x.client (x ∷ past) ≡ (move_of g past x).next
-unfolding standing
-stands_own g x past =
-    ap (λ (b : Bool). if b then (step g x.client (standing g x.client past) x.input).next else standing g x.client past) (eq-eqb x.client x.client refl)
-
+-- each step of a lawful history is of one kind
 pub kind_of : (g : Group) (past : List TraceStep) (x : TraceStep) → IsStep g past x → Kind g x.client (standing g x.client past) x.input (move_of g past x)
 kind_of g past x is = step_kind g x.client (standing g x.client past) x.input is.may
 
@@ -41,6 +31,7 @@ kind_of g past x is = step_kind g x.client (standing g x.client past) x.input is
 abbrev pub Grows : List Entry → List Entry → Type 0
 Grows older now = (new : List Entry) × (now ≡ new ++ older)
 
+-- each kind of step leaves the path, with new entries on it or without
 pub grows_by : (g : Group) (me : ℕ) (s : Standing) (i : Input) (v : Move) → Kind g me s i v → Grows s.path v.next.path
 grows_by g me s i v (is_quiet q) = ([], q.path)
 grows_by g me s i v (is_called c) = ([], ap (λ (m : Move). m.next.path) c.moved)
@@ -53,10 +44,10 @@ pub path_grows : (g : Group) (me : ℕ) (x : TraceStep) (past : List TraceStep) 
 path_grows g me x past is =
     let Goal : (x.client ≡ me) ⊎ (x.client ≡ me → ⊥) → Type 0 = λ c. Grows (path g me past) (path g me (x ∷ past)) in
     elim (cases_eq x.client me) as Goal [
-        inl e ↦ subst (λ (m : ℕ). Grows (path g m past) (path g m (x ∷ past))) e
-            (let grown = grows_by g x.client (standing g x.client past) x.input (move_of g past x) (kind_of g past x is) in
-            (grown.0, ap (λ (s : Standing). s.path) (stands_own g x past) ∙ grown.1))
-        | inr differ ↦ ([], ap (λ (s : Standing). s.path) (stands_other g me x past differ))
+      | inl e ↦ subst (λ (m : ℕ). Grows (path g m past) (path g m (x ∷ past))) e
+          (let grown = grows_by g x.client (standing g x.client past) x.input (move_of g past x) (kind_of g past x is) in
+          (grown.0, ap (λ (s : Standing). s.path) (standing_moved g x.client x past refl) ∙ grown.1))
+      | inr differ ↦ ([], ap (λ (s : Standing). s.path) (standing_kept g me x past differ))
     ]
 
 -- ---- completions
@@ -64,9 +55,9 @@ path_grows g me x past is =
 -- the completion that a Reply makes
 abbrev pub completed_by : {g : Group} {me : ℕ} {s : Standing} {i : Input} {v : Move} → Replied g me s i v → Completion
 completed_by {g} {me} {s} {i} {v} r = record {
-    client = me;
-    prefix = call_of me r.seq r.op ∷ (r.others ++ s.path);
-    outcome = decision me s (r.others ++ s.path) r.seal.position r.part r.op;
+  client = me;
+  prefix = call_of me r.seq r.op ∷ (r.others ++ s.path);
+  outcome = decision me s (r.others ++ s.path) r.seal.position r.part r.op;
 }
 
 completion_decided : (me : ℕ) (p : List Entry) (u : Option ℕ) (d : Dictionary) (o : Op)
@@ -80,22 +71,6 @@ unfolding decision
 completes_one {g} {me} {s} {i} {v} r =
     ap (λ (m : Move). completion me m.next.path m.returns) r.moved
     ∙ completion_decided me (call_of me r.seq r.op ∷ (r.others ++ s.path)) _ _ r.op
-
-pub in_append : {X : Type 0} (xs ys : List X) (x : X) → IsIn (xs ++ ys) x → IsIn xs x ⊎ IsIn ys x
-in_append [] ys x h = inr h
-in_append (z ∷ xs) ys x (inl e) = inl (inl e)
-in_append (z ∷ xs) ys x (inr h) =
-    let Goal : IsIn xs x ⊎ IsIn ys x → Type 0 = λ c. IsIn (z ∷ xs) x ⊎ IsIn ys x in
-    elim (in_append xs ys x h) as Goal [ inl a ↦ inl (inr a) | inr b ↦ inr b ]
-
-pub in_left : {X : Type 0} (xs ys : List X) (x : X) → IsIn xs x → IsIn (xs ++ ys) x
-in_left [] ys x h = absurd h
-in_left (z ∷ xs) ys x (inl e) = inl e
-in_left (z ∷ xs) ys x (inr h) = inr (in_left xs ys x h)
-
-pub in_right : {X : Type 0} (xs ys : List X) (x : X) → IsIn ys x → IsIn (xs ++ ys) x
-in_right [] ys x h = h
-in_right (z ∷ xs) ys x h = inr (in_right xs ys x h)
 
 -- what a step completes, if it does: the call that the Reply was for
 completed_at : (g : Group) (me : ℕ) (s : Standing) (i : Input) (v : Move) → Kind g me s i v → (c : Completion) → IsIn (completion me v.next.path v.returns) c
@@ -118,7 +93,7 @@ pub completions_after : (g : Group) (past : List TraceStep) (x : TraceStep) → 
     → completions g (x ∷ past) ≡ completion x.client (move_of g past x).next.path (move_of g past x).returns ++ completions g past
 unfolding completions
 completions_after g past x is =
-    ap (λ (s : Standing). completion x.client s.path x.returned ++ completions g past) (stands_own g x past)
+    ap (λ (s : Standing). completion x.client s.path x.returned ++ completions g past) (standing_moved g x.client x past refl)
     ∙ ap (λ (o : Option Outcome). completion x.client (move_of g past x).next.path o ++ completions g past) is.returned
 
 -- a completion after one more step is an older one, or that of the Reply taken at the step
@@ -127,11 +102,11 @@ pub completion_after : (g : Group) (past : List TraceStep) (x : TraceStep) → I
 completion_after g past x is c h =
     let new : List Completion = completion x.client (move_of g past x).next.path (move_of g past x).returns in
     let apart : IsIn new c ⊎ IsIn (completions g past) c =
-        in_append new (completions g past) c (subst (λ (cs : List Completion). IsIn cs c) (completions_after g past x is) h) in
+    in_either new (completions g past) c (subst (λ (cs : List Completion). IsIn cs c) (completions_after g past x is) h) in
     let Goal : IsIn new c ⊎ IsIn (completions g past) c → Type 0 = λ w. IsIn (completions g past) c ⊎ ((r : RepliedAt g past x) × (completed_by r ≡ c)) in
     elim apart as Goal [
-        inl a ↦ inr (completed_at g x.client (standing g x.client past) x.input (move_of g past x) (kind_of g past x is) c a)
-        | inr b ↦ inl b
+      | inl a ↦ inr (completed_at g x.client (standing g x.client past) x.input (move_of g past x) (kind_of g past x is) c a)
+      | inr b ↦ inl b
     ]
 
 -- an older completion stays
@@ -156,14 +131,15 @@ pub record Numbered (c : Completion) : Type 0 where
 numbered_reply : {g : Group} {me : ℕ} {s : Standing} {i : Input} {v : Move} (r : Replied g me s i v) → Numbered (completed_by r)
 numbered_reply {g} {me} {s} {i} {v} r = record { entry = call_of me r.seq r.op; below = r.others ++ s.path; is = refl; owner = refl }
 
+-- each completion of a lawful history is so
 pub numbered : (g : Group) (h : List TraceStep) → AreSteps g h → (c : Completion) → IsIn (completions g h) c → Numbered c
 unfolding completions
 numbered g [] steps c h = absurd h
 numbered g (x ∷ past) steps c h =
     let Goal : IsIn (completions g past) c ⊎ ((r : RepliedAt g past x) × (completed_by r ≡ c)) → Type 0 = λ w. Numbered c in
     elim (completion_after g past x steps.1 c h) as Goal [
-        inl old ↦ numbered g past steps.0 c old
-        | inr new ↦ subst Numbered new.1 (numbered_reply new.0)
+      | inl old ↦ numbered g past steps.0 c old
+      | inr new ↦ subst Numbered new.1 (numbered_reply new.0)
     ]
 
 -- the number of the newest entry's call
@@ -177,10 +153,11 @@ pub record Counts (me : ℕ) (s : Standing) (cs : List Completion) : Type 0 wher
   pub awaited : (n : ℕ) (o : Op) (load : Bool) → s.halted ≡ None → s.awaiting ≡ awaits.Reply n o load → n ≡ s.calls
   pub newer : (n : ℕ) (o : Op) (load : Bool) → s.halted ≡ None → s.awaiting ≡ awaits.Reply n o load → (c : Completion) → IsIn cs c → c.client ≡ me → number_of c.prefix < n
 
-same_number : (n k : ℕ) (o p : Op) (load loads : Bool) → awaits.Reply n o load ≡ awaits.Reply k p loads → n ≡ k
+-- the number and the operation of an awaited Reply
+pub same_number : (n k : ℕ) (o p : Op) (load loads : Bool) → awaits.Reply n o load ≡ awaits.Reply k p loads → n ≡ k
 same_number n k o p load loads e = cc
 
-same_asked : (n k : ℕ) (o p : Op) (load loads : Bool) → awaits.Reply n o load ≡ awaits.Reply k p loads → o ≡ p
+pub same_asked : (n k : ℕ) (o p : Op) (load loads : Bool) → awaits.Reply n o load ≡ awaits.Reply k p loads → o ≡ p
 same_asked n k o p load loads e = cc
 
 not_turn : (n : ℕ) (o : Op) (load : Bool) → awaits.Turn ≡ awaits.Reply n o load → ⊥
@@ -194,44 +171,44 @@ counts_own : (g : Group) (me : ℕ) (s : Standing) (i : Input) (v : Move) → Ki
     → Counts me v.next (completion me v.next.path v.returns ++ cs)
 counts_own g me s i v (is_quiet q) cs h =
     subst (λ (new : List Completion). Counts me v.next (new ++ cs)) (sym (q.completes_nothing me v.next.path)) (record {
-        most = λ c a e. subst (λ (k : ℕ). number_of c.prefix ≤ k) (sym q.calls) (h.most c a e);
-        awaited = λ n o load alive e. absurd (q.rests n o load alive e);
-        newer = λ n o load alive e. absurd (q.rests n o load alive e);
+      most = λ c a e. subst (λ (k : ℕ). number_of c.prefix ≤ k) (sym q.calls) (h.most c a e);
+      awaited = λ n o load alive e. absurd (q.rests n o load alive e);
+      newer = λ n o load alive e. absurd (q.rests n o load alive e);
     })
 counts_own g me s i v (is_called a) cs h =
     subst (λ (m : Move). Counts me m.next (completion me m.next.path m.returns ++ cs)) (sym a.moved) (record {
-        most = λ c w e. let k : number_of c.prefix ≤ s.calls = h.most c w e in omega arith;
-        awaited = λ n o load alive e. sym (same_number (s.calls + 1) n a.op o false load e);
-        newer = λ n o load alive e c w f.
-            let k : number_of c.prefix ≤ s.calls = h.most c w f in
-            let is : s.calls + 1 ≡ n = same_number (s.calls + 1) n a.op o false load e in
-            omega arith;
+      most = λ c w e. let k : number_of c.prefix ≤ s.calls = h.most c w e in omega arith;
+      awaited = λ n o load alive e. sym (same_number (s.calls + 1) n a.op o false load e);
+      newer = λ n o load alive e c w f.
+          let k : number_of c.prefix ≤ s.calls = h.most c w f in
+          let is : s.calls + 1 ≡ n = same_number (s.calls + 1) n a.op o false load e in
+          omega arith;
     })
 counts_own g me s i v (is_replied r) cs h =
     let seq : r.seq ≡ s.calls = h.awaited r.seq r.op r.load r.alive r.awaited in
     let calls : v.next.calls ≡ s.calls = ap (λ (m : Move). m.next.calls) r.moved in
     let awaiting : v.next.awaiting ≡ awaits.Turn = ap (λ (m : Move). m.next.awaiting) r.moved in
     subst (λ (new : List Completion). Counts me v.next (new ++ cs)) (sym (completes_one r)) (record {
-        most = λ c w e.
-            let Goal : IsIn (completed_by r ∷ cs) c → Type 0 = λ w. number_of c.prefix ≤ v.next.calls in
-            elim w as Goal [
-                inl is ↦ subst (λ (d : Completion). number_of d.prefix ≤ v.next.calls) is (omega arith)
-                | inr old ↦ subst (λ (k : ℕ). number_of c.prefix ≤ k) (sym calls) (h.most c old e)
-            ];
-        awaited = λ n o load alive e. absurd (not_turn n o load (sym awaiting ∙ e));
-        newer = λ n o load alive e. absurd (not_turn n o load (sym awaiting ∙ e));
+      most = λ c w e.
+          let Goal : IsIn (completed_by r ∷ cs) c → Type 0 = λ w. number_of c.prefix ≤ v.next.calls in
+          elim w as Goal [
+            | inl is ↦ subst (λ (d : Completion). number_of d.prefix ≤ v.next.calls) is (omega arith)
+            | inr old ↦ subst (λ (k : ℕ). number_of c.prefix ≤ k) (sym calls) (h.most c old e)
+          ];
+      awaited = λ n o load alive e. absurd (not_turn n o load (sym awaiting ∙ e));
+      newer = λ n o load alive e. absurd (not_turn n o load (sym awaiting ∙ e));
     })
 counts_own g me s i v (is_updated u) cs h =
     subst (λ (m : Move). Counts me m.next (completion me m.next.path m.returns ++ cs)) (sym u.moved) (record {
-        most = h.most;
-        awaited = λ n o load alive e. absurd (not_turn n o load e);
-        newer = λ n o load alive e. absurd (not_turn n o load e);
+      most = h.most;
+      awaited = λ n o load alive e. absurd (not_turn n o load e);
+      newer = λ n o load alive e. absurd (not_turn n o load e);
     })
 counts_own g me s i v (is_listed l) cs h =
     subst (λ (m : Move). Counts me m.next (completion me m.next.path m.returns ++ cs)) (sym l.moved) (record {
-        most = h.most;
-        awaited = λ n o load alive e. absurd (not_nothing n o load e);
-        newer = λ n o load alive e. absurd (not_nothing n o load e);
+      most = h.most;
+      awaited = λ n o load alive e. absurd (not_nothing n o load e);
+      newer = λ n o load alive e. absurd (not_nothing n o load e);
     })
 
 -- a completion of another client is older than the step
@@ -240,40 +217,41 @@ older_completion : (g : Group) (past : List TraceStep) (x : TraceStep) → IsSte
 older_completion g past x is c differ h =
     let Goal : IsIn (completions g past) c ⊎ ((r : RepliedAt g past x) × (completed_by r ≡ c)) → Type 0 = λ w. IsIn (completions g past) c in
     elim (completion_after g past x is c h) as Goal [
-        inl old ↦ old
-        | inr new ↦ absurd (differ (ap (λ (d : Completion). d.client) new.1))
+      | inl old ↦ old
+      | inr new ↦ absurd (differ (ap (λ (d : Completion). d.client) new.1))
     ]
 
 counts_other : (g : Group) (past : List TraceStep) (x : TraceStep) → IsStep g past x → (me : ℕ) → (x.client ≡ me → ⊥)
     → Counts me (standing g me past) (completions g past) → Counts me (standing g me past) (completions g (x ∷ past))
 counts_other g past x is me differ h = record {
-    most = λ c w e. h.most c (older_completion g past x is c (λ f. differ (f ∙ e)) w) e;
-    awaited = h.awaited;
-    newer = λ n o load alive a c w e. h.newer n o load alive a c (older_completion g past x is c (λ f. differ (f ∙ e)) w) e;
+  most = λ c w e. h.most c (older_completion g past x is c (λ f. differ (f ∙ e)) w) e;
+  awaited = h.awaited;
+  newer = λ n o load alive a c w e. h.newer n o load alive a c (older_completion g past x is c (λ f. differ (f ∙ e)) w) e;
 }
 
 counts_at_own : (g : Group) (past : List TraceStep) (x : TraceStep) → IsStep g past x
     → Counts x.client (standing g x.client past) (completions g past) → Counts x.client (standing g x.client (x ∷ past)) (completions g (x ∷ past))
 counts_at_own g past x is h =
     let new : Counts x.client (move_of g past x).next (completion x.client (move_of g past x).next.path (move_of g past x).returns ++ completions g past) =
-        counts_own g x.client (standing g x.client past) x.input (move_of g past x) (kind_of g past x is) (completions g past) h in
-    subst (λ (s : Standing). Counts x.client s (completions g (x ∷ past))) (sym (stands_own g x past))
+    counts_own g x.client (standing g x.client past) x.input (move_of g past x) (kind_of g past x is) (completions g past) h in
+    subst (λ (s : Standing). Counts x.client s (completions g (x ∷ past))) (sym (standing_moved g x.client x past refl))
     (subst (λ (cs : List Completion). Counts x.client (move_of g past x).next cs) (sym (completions_after g past x is)) new)
 
+-- the counts of each client hold along a history
 pub counts : (g : Group) (h : List TraceStep) → AreSteps g h → (me : ℕ) → Counts me (standing g me h) (completions g h)
 unfolding standing completions
 counts g [] steps me = record {
-    most = λ c w e. absurd w;
-    awaited = λ n o load alive e. absurd (not_nothing n o load e);
-    newer = λ n o load alive e. absurd (not_nothing n o load e);
+  most = λ c w e. absurd w;
+  awaited = λ n o load alive e. absurd (not_nothing n o load e);
+  newer = λ n o load alive e. absurd (not_nothing n o load e);
 }
 counts g (x ∷ past) steps me =
     let Goal : (x.client ≡ me) ⊎ (x.client ≡ me → ⊥) → Type 0 = λ c. Counts me (standing g me (x ∷ past)) (completions g (x ∷ past)) in
     elim (cases_eq x.client me) as Goal [
-        inl e ↦ subst (λ (m : ℕ). Counts m (standing g m (x ∷ past)) (completions g (x ∷ past))) e
-            (counts_at_own g past x steps.1 (counts g past steps.0 x.client))
-        | inr differ ↦ subst (λ (s : Standing). Counts me s (completions g (x ∷ past))) (sym (stands_other g me x past differ))
-            (counts_other g past x steps.1 me differ (counts g past steps.0 me))
+      | inl e ↦ subst (λ (m : ℕ). Counts m (standing g m (x ∷ past)) (completions g (x ∷ past))) e
+          (counts_at_own g past x steps.1 (counts g past steps.0 x.client))
+      | inr differ ↦ subst (λ (s : Standing). Counts me s (completions g (x ∷ past))) (sym (standing_kept g me x past differ))
+          (counts_other g past x steps.1 me differ (counts g past steps.0 me))
     ]
 
 -- the Reply's completion is newer than each of its client
@@ -313,7 +291,7 @@ unfolding completions
 one_completion g [] steps c d hc hd client number = absurd hc
 one_completion g (x ∷ past) steps c d hc hd client number =
     both_completions g past x steps.0 c d (completion_after g past x steps.1 c hc) (completion_after g past x steps.1 d hd) client number
-        (λ a b. one_completion g past steps.0 c d a b client number)
+    (λ a b. one_completion g past steps.0 c d a b client number)
 
 -- ---- calls that were asked for
 
@@ -329,13 +307,13 @@ pub record Asked (g : Group) (h : List TraceStep) (me n : ℕ) (o : Op) : Type 0
 
 asked_other : (g : Group) (x : TraceStep) (past : List TraceStep) (me n : ℕ) (o : Op) → (x.client ≡ me → ⊥) → Asked g past me n o → Asked g (x ∷ past) me n o
 asked_other g x past me n o differ a = record {
-    between = x ∷ a.between;
-    call = a.call;
-    past = a.past;
-    is = ap (λ (h : List TraceStep). x ∷ h) a.is;
-    makes = a.makes;
-    asked = a.asked;
-    quiet = (differ, a.quiet);
+  between = x ∷ a.between;
+  call = a.call;
+  past = a.past;
+  is = ap (λ (h : List TraceStep). x ∷ h) a.is;
+  makes = a.makes;
+  asked = a.asked;
+  quiet = (differ, a.quiet);
 }
 
 asked_now : (g : Group) (x : TraceStep) (past : List TraceStep) → Called g x.client (standing g x.client past) x.input (move_of g past x)
@@ -346,13 +324,13 @@ asked_now g x past a n o load e =
     let number : s.calls + 1 ≡ n = same_number (s.calls + 1) n a.op o false load awaiting in
     let op : a.op ≡ o = same_asked (s.calls + 1) n a.op o false load awaiting in
     record {
-        between = [];
-        call = x;
-        past = past;
-        is = refl;
-        makes = record { client = refl; call = subst IsCall (sym a.asked) tt; seq = number };
-        asked = a.asked ∙ ap input.Call op;
-        quiet = tt;
+      between = [];
+      call = x;
+      past = past;
+      is = refl;
+      makes = record { client = refl; call = subst IsCall (sym a.asked) tt; seq = number };
+      asked = a.asked ∙ ap input.Call op;
+      quiet = tt;
     }
 
 asked_own : (g : Group) (x : TraceStep) (past : List TraceStep) → Kind g x.client (standing g x.client past) x.input (move_of g past x)
@@ -363,6 +341,7 @@ asked_own g x past (is_replied r) n o load alive e = absurd (not_turn n o load (
 asked_own g x past (is_updated u) n o load alive e = absurd (not_turn n o load (sym (ap (λ (m : Move). m.next.awaiting) u.moved) ∙ e))
 asked_own g x past (is_listed l) n o load alive e = absurd (not_nothing n o load (sym (ap (λ (m : Move). m.next.awaiting) l.moved) ∙ e))
 
+-- whenever a client awaits a Reply, the call was asked for so
 pub asked_since : (g : Group) (h : List TraceStep) → AreSteps g h → (me n : ℕ) (o : Op) (load : Bool)
     → (standing g me h).halted ≡ None → (standing g me h).awaiting ≡ awaits.Reply n o load → Asked g h me n o
 unfolding standing
@@ -370,31 +349,31 @@ asked_since g [] steps me n o load alive e = absurd (not_nothing n o load e)
 asked_since g (x ∷ past) steps me n o load alive e =
     let Goal : (x.client ≡ me) ⊎ (x.client ≡ me → ⊥) → Type 0 = λ c. Asked g (x ∷ past) me n o in
     elim (cases_eq x.client me) as Goal [
-        inl same ↦ subst (λ (m : ℕ). Asked g (x ∷ past) m n o) same
-            (let leads : standing g me (x ∷ past) ≡ (move_of g past x).next = subst (λ (m : ℕ). standing g m (x ∷ past) ≡ (move_of g past x).next) same (stands_own g x past) in
-            asked_own g x past (kind_of g past x steps.1) n o load
-                (sym (ap (λ (s : Standing). s.halted) leads) ∙ alive) (sym (ap (λ (s : Standing). s.awaiting) leads) ∙ e))
-        | inr differ ↦
-            (let keeps : standing g me (x ∷ past) ≡ standing g me past = stands_other g me x past differ in
-            asked_other g x past me n o differ
-                (asked_since g past steps.0 me n o load (sym (ap (λ (s : Standing). s.halted) keeps) ∙ alive) (sym (ap (λ (s : Standing). s.awaiting) keeps) ∙ e)))
+      | inl same ↦ subst (λ (m : ℕ). Asked g (x ∷ past) m n o) same
+          (let leads : standing g me (x ∷ past) ≡ (move_of g past x).next = subst (λ (m : ℕ). standing g m (x ∷ past) ≡ (move_of g past x).next) same (standing_moved g x.client x past refl) in
+          asked_own g x past (kind_of g past x steps.1) n o load
+          (sym (ap (λ (s : Standing). s.halted) leads) ∙ alive) (sym (ap (λ (s : Standing). s.awaiting) leads) ∙ e))
+      | inr differ ↦
+          (let keeps : standing g me (x ∷ past) ≡ standing g me past = standing_kept g me x past differ in
+          asked_other g x past me n o differ
+          (asked_since g past steps.0 me n o load (sym (ap (λ (s : Standing). s.halted) keeps) ∙ alive) (sym (ap (λ (s : Standing). s.awaiting) keeps) ∙ e)))
     ]
 
 -- ---- each completion answers a call that was asked for
 
 later_answer : (g : Group) (x : TraceStep) (past : List TraceStep) (e : Entry) (o : Outcome) → IsAnswered g past e o → IsAnswered g (x ∷ past) e o
 later_answer g x past e o a = record {
-    later = x ∷ a.later;
-    answer = a.answer;
-    between = a.between;
-    call = a.call;
-    past = a.past;
-    is = ap (λ (h : List TraceStep). x ∷ h) a.is;
-    makes = a.makes;
-    asked = a.asked;
-    quiet = a.quiet;
-    owner = a.owner;
-    returned = a.returned;
+  later = x ∷ a.later;
+  answer = a.answer;
+  between = a.between;
+  call = a.call;
+  past = a.past;
+  is = ap (λ (h : List TraceStep). x ∷ h) a.is;
+  makes = a.makes;
+  asked = a.asked;
+  quiet = a.quiet;
+  owner = a.owner;
+  returned = a.returned;
 }
 
 answered_now : (g : Group) (x : TraceStep) (past : List TraceStep) → AreSteps g past → IsStep g past x → (r : RepliedAt g past x)
@@ -402,20 +381,21 @@ answered_now : (g : Group) (x : TraceStep) (past : List TraceStep) → AreSteps 
 answered_now g x past steps is r =
     let a : Asked g past x.client r.seq r.op = asked_since g past steps x.client r.seq r.op r.load r.alive r.awaited in
     record {
-        later = [];
-        answer = x;
-        between = a.between;
-        call = a.call;
-        past = a.past;
-        is = ap (λ (h : List TraceStep). x ∷ h) a.is;
-        makes = a.makes;
-        asked = a.asked;
-        quiet = a.quiet;
-        owner = refl;
-        returned = is.returned ∙ ap (λ (m : Move). m.returns) r.moved;
+      later = [];
+      answer = x;
+      between = a.between;
+      call = a.call;
+      past = a.past;
+      is = ap (λ (h : List TraceStep). x ∷ h) a.is;
+      makes = a.makes;
+      asked = a.asked;
+      quiet = a.quiet;
+      owner = refl;
+      returned = is.returned ∙ ap (λ (m : Move). m.returns) r.moved;
     }
 
-newest_entry : (a b : Entry) (p q : List Entry) → a ∷ p ≡ b ∷ q → a ≡ b
+-- equal paths have one newest entry
+pub newest_entry : (a b : Entry) (p q : List Entry) → a ∷ p ≡ b ∷ q → a ≡ b
 newest_entry a b p q e = cc
 
 -- each completion is the answer to a call that its client was asked for
@@ -426,11 +406,11 @@ completion_answers g [] steps c w e below is = absurd w
 completion_answers g (x ∷ past) steps c w e below is =
     let Goal : IsIn (completions g past) c ⊎ ((r : RepliedAt g past x) × (completed_by r ≡ c)) → Type 0 = λ k. IsAnswered g (x ∷ past) e c.outcome in
     elim (completion_after g past x steps.1 c w) as Goal [
-        inl old ↦ later_answer g x past e c.outcome (completion_answers g past steps.0 c old e below is)
-        | inr new ↦
-            (let r : RepliedAt g past x = new.0 in
-            let same : call_of x.client r.seq r.op ≡ e = newest_entry (call_of x.client r.seq r.op) e (r.others ++ (standing g x.client past).path) below
-                (ap (λ (d : Completion). d.prefix) new.1 ∙ is) in
-            subst (λ (a : Entry). IsAnswered g (x ∷ past) a c.outcome) same
-            (subst (λ (d : Completion). IsAnswered g (x ∷ past) (call_of x.client r.seq r.op) d.outcome) new.1 (answered_now g x past steps.0 steps.1 r)))
+      | inl old ↦ later_answer g x past e c.outcome (completion_answers g past steps.0 c old e below is)
+      | inr new ↦
+          (let r : RepliedAt g past x = new.0 in
+          let same : call_of x.client r.seq r.op ≡ e = newest_entry (call_of x.client r.seq r.op) e (r.others ++ (standing g x.client past).path) below
+          (ap (λ (d : Completion). d.prefix) new.1 ∙ is) in
+          subst (λ (a : Entry). IsAnswered g (x ∷ past) a c.outcome) same
+          (subst (λ (d : Completion). IsAnswered g (x ∷ past) (call_of x.client r.seq r.op) d.outcome) new.1 (answered_now g x past steps.0 steps.1 r)))
     ]

@@ -1,22 +1,22 @@
 -- The dictionaries that views leave are proper, and those of one root are one.
-use Rattle.std.specs.Prelude.{◌≡◌, ◌≢◌, ℕ, ◌⊎◌, Bool, true, false, List, [], ◌∷◌, ◌++◌, Option, Some, None, ◌&&◌, if◌then◌else◌}
+use Rattle.std.specs.Prelude.{◌≡◌, ℕ, ◌⊎◌, Bool, true, false, List, [], ◌∷◌, ◌++◌, Option, Some, None, ◌&&◌, if◌then◌else◌}
 use Rattle.std.specs.List.{AllByRecursion}
 use Rattle.std.specs.Ordering.{nat_cmp}
 use Rattle.std.specs.Cmp.Lexicographic.{slice_cmp}
 use Rattle.std.specs.FinMap as map
 use Rattle.std.specs.FinMap.{len-empty}
-use Rattle.std.proofs.Common.{refl, ap, subst, sym, ◌∙◌, inl, inr}
+use Rattle.std.proofs.Common.{refl, ap, sym, ◌∙◌, inl, inr}
 use Rattle.vic_dict.specs.declared.op.Op.{Op}
 use Rattle.vic_dict.specs.declared.op.Op.TheVariants as op
 use Rattle.vic_dict.specs.declared.op.Outcome.{Outcome}
 use Rattle.vic_dict.specs.declared.op.Outcome.TheVariants as outcome
 use Rattle.vic_dict.specs.declared.op.Entry.{Entry}
 use Rattle.vic_dict.specs.Lists.{IsIn, AreBytes}
-use Rattle.vic_dict.specs.Dictionary.{Dictionary, nothing, after, IsProper, Fits, AreBytesIn}
+use Rattle.vic_dict.specs.Dictionary.{Dictionary, nothing, after, IsProper}
 use Rattle.vic_wire.specs.Hashes.{empty_root}
 use Rattle.vic_wire.specs.Trees.{tree_of, tree_by, root_of, dictionary_root, node_texts}
 use Rattle.vic_wire.specs.Messages.{IsEntry}
-use Rattle.vic_wire.specs.Parts.{Part, read_part, root_after}
+use Rattle.vic_wire.specs.Parts.{Part, read_part}
 use Rattle.vic_rules.specs.declared.state.Own.{Own}
 use Rattle.vic_rules.specs.declared.trace.Shown.{Shown}
 use Rattle.vic_rules.specs.Client.{is_done, is_write, new_root}
@@ -80,7 +80,8 @@ written true (op.Del k) d root e = refl
 written true (op.List p) d root e = e
 written false o d root e = e
 
-leaves_done : (d : Dictionary) (x : Shown) (o : Outcome) → outcome_leaves d x o ≡ (if is_done o then after d x.entry.op else d)
+-- a call leaves what its operation does, if it was done
+pub leaves_done : (d : Dictionary) (x : Shown) (o : Outcome) → outcome_leaves d x o ≡ (if is_done o then after d x.entry.op else d)
 leaves_done d x (outcome.Done a) = refl
 leaves_done d x (outcome.Aborted u) = refl
 leaves_done d x (outcome.Refused r) = refl

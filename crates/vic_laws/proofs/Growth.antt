@@ -1,5 +1,5 @@
 -- What stays as a history grows: fronts of paths, what is confirmed on them, and what was taken and made.
-use Rattle.std.specs.Prelude.{◌≡◌, ℕ, zero, suc, ◌+◌, ◌-◌, ◌<◌, ◌≤◌, ◌⊎◌, Bool, true, false, List, [], ◌∷◌, ◌++◌, length, drop, Option, Some, None, if◌then◌else◌}
+use Rattle.std.specs.Prelude.{◌≡◌, ℕ, zero, suc, ◌+◌, ◌-◌, ◌<◌, ◌≤◌, ◌⊎◌, List, [], ◌∷◌, ◌++◌, length, drop, Some, None, if◌then◌else◌}
 use Rattle.std.specs.List.{AllByRecursion}
 use Rattle.std.specs.Cmp.Lexicographic.{pointwise}
 use Rattle.std.proofs.Common.{refl, ap, subst, sym, ◌∙◌, inl, inr, arith, append_assoc, length-append, length-drop, le_refl, le_trans}
@@ -11,14 +11,13 @@ use Rattle.vic_wire.specs.Hashes.{Group}
 use Rattle.vic_rules.specs.declared.state.Own.{Own}
 use Rattle.vic_rules.specs.declared.trace.Input.{Input}
 use Rattle.vic_rules.specs.declared.trace.TraceStep.{TraceStep}
-use Rattle.vic_rules.specs.declared.trace.Shown.{Shown}
-use Rattle.vic_rules.specs.Client.{Standing, Move, at_start, step, same_entry}
-use Rattle.vic_rules.specs.History.{standing, path, move_of, AreSteps, IsStep, Completion, completion, completions}
+use Rattle.vic_rules.specs.Client.{Standing, Move, step, same_entry}
+use Rattle.vic_rules.specs.History.{standing, path, move_of, AreSteps, Completion, completion, completions}
 use Rattle.vic_rules.specs.Views.{or_else, confirmed, confirmed_calls, shown_as, left_by}
-use Rattle.vic_rules.specs.Trust.{IsForged, parts_taken, chain_texts, parts_in, took}
+use Rattle.vic_rules.specs.Trust.{parts_taken, chain_texts, parts_in, took}
 use Rattle.vic_laws.specs.Claims.{AllConfirmed, SealHolds}
 use Rattle.vic_laws.proofs.Words.{in_right, all_weaker, all_append}
-use Rattle.vic_laws.proofs.Steps.{StandsAbove, Kind, is_quiet, is_called, is_replied, is_updated, is_listed}
+use Rattle.vic_laws.proofs.Steps.{Kind, is_quiet, is_called, is_replied, is_updated, is_listed}
 use Rattle.vic_laws.proofs.StepKinds.{step_kind}
 use Rattle.vic_laws.proofs.Standings.{standing_moved, standing_kept}
 use Rattle.vic_laws.proofs.Paths.{at_each_standing}
@@ -82,9 +81,9 @@ confirmed_calls_stay ds cs (e ∷ p) a =
 -- a seal that holds of a path holds of the grown path after more completions
 pub seal_stays : (ds cs : List Completion) (news p : List Entry) (n : ℕ) (root : List ℕ) → n ≤ length p → SealHolds cs p n root → SealHolds (ds ++ cs) (news ++ p) n root
 seal_stays ds cs news p n root le s = record {
-    all = subst (AllConfirmed (ds ++ cs)) (sym (front_grows news p n le)) (all_confirmed_stays ds cs (front n p) s.all);
-    is_root = s.is_root ∙ ap (λ v. dictionary_root (left_by v)) (sym (confirmed_calls_stay ds cs (front n p) s.all) ∙ ap (confirmed_calls (ds ++ cs)) (sym (front_grows news p n le)));
-  }
+  all = subst (AllConfirmed (ds ++ cs)) (sym (front_grows news p n le)) (all_confirmed_stays ds cs (front n p) s.all);
+  is_root = s.is_root ∙ ap (λ v. dictionary_root (left_by v)) (sym (confirmed_calls_stay ds cs (front n p) s.all) ∙ ap (confirmed_calls (ds ++ cs)) (sym (front_grows news p n le)));
+}
 
 -- ---- what a later history keeps of an earlier one
 
@@ -117,17 +116,13 @@ sealed_later g (x ∷ later) h steps me = le_trans (sealed_later g later h steps
     now : (x.client ≡ me) ⊎ (x.client ≡ me → ⊥) → (standing g me (later ++ h)).sealed ≤ (standing g me (x ∷ (later ++ h))).sealed
     now (inl e) = subst (λ s. (standing g me (later ++ h)).sealed ≤ s.sealed) (sym (standing_moved g me x (later ++ h) e))
         (subst (λ j. (standing g j (later ++ h)).sealed ≤ (move_of g (later ++ h) x).next.sealed) e
-          (sealed_rises g x.client (standing g x.client (later ++ h)) x.input (move_of g (later ++ h) x) (kind_of g (later ++ h) x steps.1)))
+        (sealed_rises g x.client (standing g x.client (later ++ h)) x.input (move_of g (later ++ h) x) (kind_of g (later ++ h) x steps.1)))
     now (inr e) = subst (λ s. (standing g me (later ++ h)).sealed ≤ s.sealed) (sym (standing_kept g me x (later ++ h) e)) (le_refl _)
 
 pub parts_later : (g : Group) (later h : List TraceStep) (b : List ℕ) → IsIn (parts_taken g h) b → IsIn (parts_taken g (later ++ h)) b
 unfolding parts_taken
 parts_later g [] h b i = i
 parts_later g (x ∷ later) h b i = in_right (parts_in (took g (later ++ h) x)) (parts_taken g (later ++ h)) b (parts_later g later h b i)
-
-pub forged_later : (g : Group) (later h : List TraceStep) → IsForged g h → IsForged g (later ++ h)
-forged_later g [] h f = f
-forged_later g (x ∷ later) h f = inl (forged_later g later h f)
 
 -- the texts along a path are among those of the grown path
 pub texts_below : (g : Group) (P : List ℕ → Type 0) (news p : List Entry) → AllByRecursion P (chain_texts g (news ++ p)) → AllByRecursion P (chain_texts g p)
@@ -149,23 +144,23 @@ within_more n m le own a = all_weaker (StandsWithin n) (StandsWithin m) (λ o w.
 
 within_kept : (g : Group) (me : ℕ) (s : Standing) (i : Input) (v : Move) → Kind g me s i v → Within s → Within v.next
 within_kept g me s i v (is_quiet k) w = record {
-    sealed = subst (λ n. n ≤ length v.next.path) (sym k.sealed) (subst (λ p. s.sealed ≤ length p) (sym k.path) w.sealed);
-    own = subst (AllByRecursion (StandsWithin (length v.next.path))) (sym k.own) (subst (λ p. AllByRecursion (StandsWithin (length p)) s.own) (sym k.path) w.own);
-  }
+  sealed = subst (λ n. n ≤ length v.next.path) (sym k.sealed) (subst (λ p. s.sealed ≤ length p) (sym k.path) w.sealed);
+  own = subst (AllByRecursion (StandsWithin (length v.next.path))) (sym k.own) (subst (λ p. AllByRecursion (StandsWithin (length p)) s.own) (sym k.path) w.own);
+}
 within_kept g me s i v (is_called k) w = subst (λ m. Within m.next) (sym k.moved) (record { sealed = w.sealed; own = w.own })
 within_kept g me s i v (is_replied k) w = subst (λ m. Within m.next) (sym k.moved) (record {
-    sealed = k.sealing.within;
-    own = all_append (StandsWithin (suc (length (k.others ++ s.path)))) s.own _
+  sealed = k.sealing.within;
+  own = all_append (StandsWithin (suc (length (k.others ++ s.path)))) s.own _
       (within_more (length s.path) (suc (length (k.others ++ s.path))) (omega (arith, length-append k.others s.path)) s.own w.own)
       ((omega arith, omega arith), tt);
-  })
+})
 within_kept g me s i v (is_updated k) w =
     let a : AllByRecursion (StandsWithin (length s.path)) (k.first ∷ k.rest) = subst (AllByRecursion (StandsWithin (length s.path))) k.own_is w.own in
     subst (λ m. Within m.next) (sym k.moved) (record { sealed = subst (λ n. n ≤ length s.path) k.next_is a.0.1; own = a.1 })
 within_kept g me s i v (is_listed k) w = subst (λ m. Within m.next) (sym k.moved) (record {
-    sealed = k.sealing.within;
-    own = within_more (length s.path) (length (k.others ++ s.path)) (omega (arith, length-append k.others s.path)) s.own w.own;
-  })
+  sealed = k.sealing.within;
+  own = within_more (length s.path) (length (k.others ++ s.path)) (omega (arith, length-append k.others s.path)) s.own w.own;
+})
 
 pub stands_within : (g : Group) (h : List TraceStep) → AreSteps g h → (me : ℕ) → Within (standing g me h)
 stands_within g h steps me = at_each_standing g (λ j s. Within s) (λ j. record { sealed = le_refl 0; own = tt }) (λ j s i may w. within_kept g j s i (step g j s i) (step_kind g j s i may) w) h steps me

@@ -1,5 +1,5 @@
 -- The tests of equality find what is equal; and the search for the least position finds it.
-use Rattle.std.proofs.Common.{◌≡◌, ℕ, zero, suc, ◌-◌, ◌<◌, ◌≤◌, ◌↔◌, ◌⊎◌, inl, inr, Bool, true, false, ◌&&◌, List, [], ◌∷◌, length, drop, Option, Some, None, bytes_eq, nat_eq, nat_lt, if◌then◌else◌, refl, sym, ◌∙◌, ap, ap₂, subst, arith, ltb-true, lt-ltb, Decides, true≢false}
+use Rattle.std.proofs.Common.{◌≡◌, ℕ, zero, suc, ◌-◌, ◌<◌, ◌≤◌, ◌⊎◌, inl, inr, Bool, true, false, ◌&&◌, List, [], ◌∷◌, length, drop, Option, Some, None, bytes_eq, nat_eq, nat_lt, if◌then◌else◌, refl, sym, ◌∙◌, ap, subst, arith, ltb-true, lt-ltb, Decides, true≢false}
 use Rattle.std.proofs.lemmas.Bool.{and_parts, and_from}
 use Rattle.std.proofs.lemmas.Bool.Decides.{Decides-eqb}
 use Rattle.std.proofs.lemmas.Slice.Eq.{bytes_eq-Decides}
@@ -8,24 +8,11 @@ use Rattle.vic_dict.specs.declared.op.Op.TheVariants as op
 use Rattle.vic_dict.specs.declared.op.Entry.{Entry}
 use Rattle.vic_dict.specs.Lists.{front, newest}
 use Rattle.vic_rules.specs.Client.{same_op, same_entry, least_above, or_this}
+use Rattle.vic_laws.proofs.Words.{op_same, entry_same}
 use Rattle.vic_laws.specs.OrderClaims.{SameOpIs, SameEntryIs, PassesAt, IsLeastAbove, LeastAboveIs, NoneAboveIs}
-
--- two texts that pass the test are equal
-same_bytes : (k q : List ℕ) → bytes_eq k q ≡ true → k ≡ q
-same_bytes k q e = (bytes_eq-Decides k q).0 e
 
 itself : (k : List ℕ) → bytes_eq k k ≡ true
 itself k = (bytes_eq-Decides k k).1 refl
-
--- operations that pass the test are equal
-pub op_from_same : (a b : Op) → same_op a b ≡ true → a ≡ b
-op_from_same (op.Put k v) (op.Put q w) e =
-    let both = and_parts (bytes_eq k q) (bytes_eq v w) e in
-    ap₂ op.Put (same_bytes k q both.0) (same_bytes v w both.1)
-op_from_same (op.Get k) (op.Get q) e = ap op.Get (same_bytes k q e)
-op_from_same (op.Del k) (op.Del q) e = ap op.Del (same_bytes k q e)
-op_from_same (op.List k) (op.List q) e = ap op.List (same_bytes k q e)
-op_from_same _ _ e = cc
 
 -- an operation passes the test with itself
 pub op_same_itself : (a : Op) → same_op a a ≡ true
@@ -34,18 +21,9 @@ op_same_itself (op.Get k) = itself k
 op_same_itself (op.Del k) = itself k
 op_same_itself (op.List k) = itself k
 
+-- the test of two operations finds what is equal, and nothing else
 pub same_op_tells : SameOpIs
-same_op_tells a b = (op_from_same a b, λ e. subst (λ (x : Op). same_op a x ≡ true) e (op_same_itself a))
-
--- entries that pass the test are equal
-pub entry_from_same : (a b : Entry) → same_entry a b ≡ true → a ≡ b
-entry_from_same a b e =
-    let outer = and_parts (nat_eq a.client b.client) (nat_eq a.seq b.seq && same_op a.op b.op) e in
-    let inner = and_parts (nat_eq a.seq b.seq) (same_op a.op b.op) outer.1 in
-    let client = (Decides-eqb a.client b.client).0 outer.0 in
-    let seq = (Decides-eqb a.seq b.seq).0 inner.0 in
-    let o = op_from_same a.op b.op inner.1 in
-    λ i. record { client = client i; seq = seq i; op = o i }
+same_op_tells a b = (op_same a b, λ e. subst (λ (x : Op). same_op a x ≡ true) e (op_same_itself a))
 
 -- an entry passes the test with itself
 pub entry_same_itself : (a : Entry) → same_entry a a ≡ true
@@ -53,8 +31,9 @@ entry_same_itself a =
     and_from (nat_eq a.client a.client) (nat_eq a.seq a.seq && same_op a.op a.op) ((Decides-eqb a.client a.client).1 refl)
     (and_from (nat_eq a.seq a.seq) (same_op a.op a.op) ((Decides-eqb a.seq a.seq).1 refl) (op_same_itself a.op))
 
+-- and so does the test of two entries
 pub same_entry_tells : SameEntryIs
-same_entry_tells a b = (entry_from_same a b, λ e. subst (λ (x : Entry). same_entry a x ≡ true) e (entry_same_itself a))
+same_entry_tells a b = (entry_same a b, λ e. subst (λ (x : Entry). same_entry a x ≡ true) e (entry_same_itself a))
 
 -- the test decides whether two entries are equal
 pub same_entry-Decides : (a b : Entry) → Decides (same_entry a b) (a ≡ b)
@@ -78,26 +57,26 @@ front_whole u xs le =
 
 passes_above : (test : Entry → Bool) (e : Entry) (path : List Entry) (u : ℕ) → PassesAt test path u → PassesAt test (e ∷ path) u
 passes_above test e path u h = record {
-    within = let w : u ≤ length path = h.within in omega arith;
-    entry = h.entry;
-    there = ap newest (front_below u e path h.within) ∙ h.there;
-    passes = h.passes;
+  within = let w : u ≤ length path = h.within in omega arith;
+  entry = h.entry;
+  there = ap newest (front_below u e path h.within) ∙ h.there;
+  passes = h.passes;
 }
 
 passes_below : (test : Entry → Bool) (e : Entry) (path : List Entry) (u : ℕ) → u ≤ length path → PassesAt test (e ∷ path) u → PassesAt test path u
 passes_below test e path u le h = record {
-    within = le;
-    entry = h.entry;
-    there = ap newest (sym (front_below u e path le)) ∙ h.there;
-    passes = h.passes;
+  within = le;
+  entry = h.entry;
+  there = ap newest (sym (front_below u e path le)) ∙ h.there;
+  passes = h.passes;
 }
 
 passes_newest : (test : Entry → Bool) (e : Entry) (path : List Entry) → test e ≡ true → PassesAt test (e ∷ path) (suc (length path))
 passes_newest test e path h = record {
-    within = omega arith;
-    entry = e;
-    there = ap newest (front_whole (suc (length path)) (e ∷ path) (omega arith));
-    passes = h;
+  within = omega arith;
+  entry = e;
+  there = ap newest (front_whole (suc (length path)) (e ∷ path) (omega arith));
+  passes = h;
 }
 
 some_entry : (a b : Entry) → ◌≡◌ {A = Option Entry} (Some a) (Some b) → a ≡ b
@@ -121,27 +100,28 @@ finds_more : (base : ℕ) (test : Entry → Bool) (e : Entry) (path : List Entry
     → (b : Bool) → (nat_lt base (suc (length path)) && test e) ≡ b
     → Finds base test (e ∷ path) (or_this o (if b then Some (suc (length path)) else None))
 finds_more base test e path (Some u) f b eq = record {
-    above = f.above;
-    passes = passes_above test e path u f.passes;
-    least = λ v bv vu s.
-        let w : u ≤ length path = f.passes.within in
-        f.least v bv vu (passes_below test e path v (omega arith) s);
+  above = f.above;
+  passes = passes_above test e path u f.passes;
+  least = λ v bv vu s.
+      let w : u ≤ length path = f.passes.within in
+      f.least v bv vu (passes_below test e path v (omega arith) s);
 }
 finds_more base test e path None f true eq =
     let both = and_parts (nat_lt base (suc (length path))) (test e) eq in
     record {
-        above = ltb-true base (suc (length path)) both.0;
-        passes = passes_newest test e path both.1;
-        least = λ v bv vu s. f v bv (passes_below test e path v (omega arith) s);
+      above = ltb-true base (suc (length path)) both.0;
+      passes = passes_newest test e path both.1;
+      least = λ v bv vu s. f v bv (passes_below test e path v (omega arith) s);
     }
 finds_more base test e path None f false eq = λ u bu s.
     let within : u ≤ suc (length path) = s.within in
     let Goal : (u ≤ length path) ⊎ (length path < u) → Type 0 = λ c. ⊥ in
     elim (cases_top (length path) u) as Goal [
-        inl le ↦ f u bu (passes_below test e path u le s)
-        | inr lt ↦ true≢false (sym (and_from (nat_lt base (suc (length path))) (test e) (lt-ltb base (suc (length path)) (omega arith)) (newest_passes test e path u lt s)) ∙ eq)
+      | inl le ↦ f u bu (passes_below test e path u le s)
+      | inr lt ↦ true≢false (sym (and_from (nat_lt base (suc (length path))) (test e) (lt-ltb base (suc (length path)) (omega arith)) (newest_passes test e path u lt s)) ∙ eq)
     ]
 
+-- the search finds the least position, or there is none
 pub least_above_finds : (base : ℕ) (test : Entry → Bool) (path : List Entry) → Finds base test path (least_above base test path)
 unfolding least_above
 least_above_finds base test [] = λ u bu s. let w : u ≤ zero = s.within in omega arith
@@ -164,12 +144,16 @@ told_none : (base : ℕ) (test : Entry → Bool) (path : List Entry) (o : Option
 told_none base test path None f all = refl
 told_none base test path (Some v) f all = absurd (all v f.above f.passes)
 
+-- a position is found exactly where it is the least
 pub least_above_tells : LeastAboveIs
 least_above_tells base test path u = (
-    λ e. subst (Finds base test path) e (least_above_finds base test path),
-    told_some base test path u (least_above base test path) (least_above_finds base test path))
+  λ e. subst (Finds base test path) e (least_above_finds base test path),
+  told_some base test path u (least_above base test path) (least_above_finds base test path),
+)
 
+-- and nothing exactly where there is none
 pub none_above_tells : NoneAboveIs
 none_above_tells base test path = (
-    λ e. subst (Finds base test path) e (least_above_finds base test path),
-    told_none base test path (least_above base test path) (least_above_finds base test path))
+  λ e. subst (Finds base test path) e (least_above_finds base test path),
+  told_none base test path (least_above base test path) (least_above_finds base test path),
+)

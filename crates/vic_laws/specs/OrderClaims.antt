@@ -1,14 +1,15 @@
 -- The laws on the order of calls: which views go together, and what the words that they are made of mean.
-use Rattle.std.specs.Prelude.{◌≡◌, ℕ, ◌<◌, ◌≤◌, ◌↔◌, Bool, true, List, [], ◌∷◌, length, Option, Some, None}
+use Rattle.std.specs.Prelude.{◌≡◌, ℕ, ◌<◌, ◌≤◌, ◌↔◌, Bool, true, List, ◌∷◌, length, Some, None}
 use Rattle.vic_dict.specs.declared.op.Op.{Op}
 use Rattle.vic_dict.specs.declared.op.Entry.{Entry}
+use Rattle.vic_dict.specs.declared.op.Outcome.{Outcome}
 use Rattle.vic_dict.specs.Lists.{IsIn, front, newest}
 use Rattle.vic_wire.specs.Hashes.{Group}
 use Rattle.vic_rules.specs.declared.trace.TraceStep.{TraceStep}
 use Rattle.vic_rules.specs.Client.{same_op, same_entry, least_above}
 use Rattle.vic_rules.specs.History.{IsLawful, Completion, completions}
 use Rattle.vic_rules.specs.Trust.{IsForged}
-use Rattle.vic_rules.specs.Views.{confirmed, view_of, Agree, HasAll, ShowsOnlyCalls, IsInRealTime}
+use Rattle.vic_rules.specs.Views.{confirmed, view_of, IsSameCall, IsAnswered, IsCompleted, Agree, HasAll, ShowsOnlyCalls, IsInRealTime}
 
 -- ---- the words
 
@@ -48,6 +49,25 @@ ConfirmedIs = (g : Group) (h : List TraceStep) → IsLawful g h → (p : List En
 abbrev pub ConfirmedByOwner : Type 0
 ConfirmedByOwner = (g : Group) (h : List TraceStep) → IsLawful g h → (e : Entry) (below : List Entry) (c : Completion)
     → confirmed (completions g h) (e ∷ below) ≡ Some c → c.client ≡ e.client
+
+-- ---- completions
+
+-- a call has one completion
+abbrev pub CompletedOnce : Type 0
+CompletedOnce = (g : Group) (h : List TraceStep) → IsLawful g h → (c d : Completion) → IsIn (completions g h) c → IsIn (completions g h) d
+    → (e f : Entry) (p q : List Entry) → c.prefix ≡ e ∷ p → d.prefix ≡ f ∷ q → IsSameCall e f → c ≡ d
+
+-- a call is completed with this outcome, on some path
+pub record CompletedAs (g : Group) (h : List TraceStep) (e : Entry) (o : Outcome) : Type 0 where
+  pub by : Completion
+  pub below : List Entry
+  pub there : IsIn (completions g h) by
+  pub is : by.prefix ≡ e ∷ below
+  pub ends : by.outcome ≡ o
+
+-- the completions are the calls that were asked for and answered by Done or Aborted
+abbrev pub CompletionsAre : Type 0
+CompletionsAre = (g : Group) (h : List TraceStep) → IsLawful g h → (e : Entry) (o : Outcome) → (IsCompleted o × IsAnswered g h e o) ↔ CompletedAs g h e o
 
 -- ---- views
 

@@ -1,0 +1,44 @@
+//! Reading a whole source, up to a limit.
+
+ghost use Rattle.std.specs.Prelude.{◌≡◌, ◌≤◌, ◌<◌, ◌+◌, ◌++◌, length, OnOk, OnErr};
+ghost use Rattle.vic_ports.specs.InputGives.{InputGives};
+
+use crate::ports::{Got, Source};
+use std::alloc::Global;
+use vic_dict::Bytes;
+
+/// The most bytes that an input may have.
+pub const LIMIT: usize = 16_777_216;
+
+/// What reading a source gave.
+#[derive(Debug, Drop)]
+pub enum Input {
+    /// All of it; the source has ended.
+    Whole(Bytes),
+    /// The front of an input that goes on past the limit.
+    TooLong(Bytes),
+    /// A read failed.
+    Fault,
+    NoMemory,
+}
+
+/// Reads a source to its end, or past the limit. Each read takes at least one byte, so it ends.
+pub fn read_input<S: Source>(alloc: Global, source: &mut S) -> Input
+    ensures given { InputGives (S.left source.old) (S.left source.new) (S.faults source.old) (S.faults source.new) (S.ended source.new) result }
+    ensures later { S.faults source.old ≤ S.faults source.new }
+{
+    let mut all = Bytes::new(alloc);
+    let mut buffer = [0u8; 4096];
+    while all.len() <= LIMIT {
+        match source.read(&mut buffer) {
+            Got::Bytes(n) => {
+                if all.append(&buffer[..n]).is_err() {
+                    return Input::NoMemory;
+                }
+            }
+            Got::End => return Input::Whole(all),
+            Got::Failed => return Input::Fault,
+        }
+    }
+    Input::TooLong(all)
+}

@@ -1,0 +1,5 @@
+pub mod Words
+pub mod Lines
+pub mod Scenes
+pub mod Run
+pub mod Print

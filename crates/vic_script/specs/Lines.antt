@@ -1,0 +1,95 @@
+-- The lines of a script, from bytes to words and from words to lines.
+use Rattle.std.specs.Prelude.{ℕ, ◌&&◌, List, [], ◌∷◌, length, Option, Some, None, option_map, nat_eq, nat_lt, nat_le, if◌then◌else◌, codes}
+use Rattle.std.specs.Str.{bytes_eq}
+use Rattle.vic_dict.specs.declared.op.Op.{Op}
+use Rattle.vic_dict.specs.declared.op.Op.TheVariants as op
+use Rattle.vic_dict.specs.declared.op.Mode.{Mode}
+use Rattle.vic_script.specs.declared.line.Line.{Line}
+use Rattle.vic_script.specs.declared.line.Line.TheVariants as line
+use Rattle.vic_script.specs.Words.{word_bytes, word_number, word_client}
+
+-- a byte before the first of the pieces
+abbrev pub put_first : ℕ → List (List ℕ) → List (List ℕ)
+put_first b [] = (b ∷ []) ∷ []
+put_first b (piece ∷ pieces) = (b ∷ piece) ∷ pieces
+
+-- the lines of a script, without the byte 0a that ends each; the last one may lack it
+unfoldable pub lines_of : List ℕ → List (List ℕ)
+lines_of [] = []
+lines_of (b ∷ bs) = if nat_eq b 10 then [] ∷ lines_of bs else put_first b (lines_of bs)
+
+-- the words of a line: what stands before, between and behind its spaces
+unfoldable pub words_of : List ℕ → List (List ℕ)
+words_of [] = [] ∷ []
+words_of (b ∷ bs) = if nat_eq b 32 then [] ∷ words_of bs else put_first b (words_of bs)
+
+-- bytes of a word that are few enough
+abbrev pub within : ℕ → ℕ → Option (List ℕ) → Option (List ℕ)
+within least most None = None
+within least most (Some bytes) = if nat_le least (length bytes) && nat_le (length bytes) most then Some bytes else None
+
+abbrev pub key_of : List ℕ → Option (List ℕ)
+key_of word = within 1 255 (word_bytes word)
+
+abbrev pub value_of : List ℕ → Option (List ℕ)
+value_of word = within 0 64 (word_bytes word)
+
+abbrev pub prefix_of : List ℕ → Option (List ℕ)
+prefix_of word = within 0 255 (word_bytes word)
+
+abbrev pub put_of : Option (List ℕ) → Option (List ℕ) → Option Op
+put_of (Some k) (Some v) = Some (op.Put k v)
+put_of (Some k) None = None
+put_of None v = None
+
+-- the operation that words name
+abbrev pub op_of : List (List ℕ) → Option Op
+op_of (name ∷ a ∷ []) =
+    if bytes_eq name (codes "get") then option_map op.Get (key_of a)
+    else if bytes_eq name (codes "del") then option_map op.Del (key_of a)
+    else if bytes_eq name (codes "list") then option_map op.List (prefix_of a)
+    else None
+op_of (name ∷ a ∷ b ∷ []) = if bytes_eq name (codes "put") then put_of (key_of a) (value_of b) else None
+op_of words = None
+
+abbrev pub call_of : Option ℕ → Option Op → Option Line
+call_of (Some i) (Some o) = Some (line.Call i o)
+call_of (Some i) None = None
+call_of None o = None
+
+abbrev pub clients_of : Option ℕ → Option Line
+clients_of None = None
+clients_of (Some n) = if nat_lt 0 n && nat_le n 64 then Some (line.Clients n) else None
+
+-- a line of one name and one number
+abbrev pub named : List ℕ → List ℕ → Option Line
+named name a =
+    if bytes_eq name (codes "poll") then option_map line.Poll (word_client a)
+    else if bytes_eq name (codes "sync") then option_map line.Sync (word_client a)
+    else if bytes_eq name (codes "serve") then option_map line.Serve (word_client a)
+    else if bytes_eq name (codes "take") then option_map line.Take (word_client a)
+    else if bytes_eq name (codes "run") then option_map line.Run (word_client a)
+    else None
+
+-- a line of the header
+abbrev pub header_of : List (List ℕ) → Option Line
+header_of (name ∷ a ∷ []) = if bytes_eq name (codes "clients") then clients_of (word_number a) else None
+header_of words = None
+
+-- a line that says what happens
+abbrev pub event_of : List (List ℕ) → Option Line
+event_of (name ∷ a ∷ []) = named name a
+event_of (name ∷ a ∷ others) = if bytes_eq name (codes "call") then call_of (word_client a) (op_of others) else None
+event_of words = None
+
+abbrev pub or_line : Option Line → Option Line → Option Line
+or_line (Some l) other = Some l
+or_line None other = other
+
+-- the line that a text spells, if it spells one; before the mode is known only the header's first line does
+abbrev pub line_in : Option Mode → List (List ℕ) → Option Line
+line_in None words = header_of words
+line_in (Some kind) words = or_line (header_of words) (event_of words)
+
+unfoldable pub line_of : Option Mode → List ℕ → Option Line
+line_of kind text = line_in kind (words_of text)
