@@ -27,6 +27,10 @@ pub record IsOrdered (g : Group) (o : Ordered) (below : List Ordered) : Type 0 w
   pub tag : o.tag.bytes ≡ tag_of g.key (invoke_text o.entry)
   pub near : length (o ∷ below) ≤ o.sealed_then + 1024
 
+-- it was ordered when no more was sealed
+abbrev pub IsPast : ℕ → Ordered → Type 0
+IsPast count o = o.sealed_then ≤ count
+
 -- the log is sealed up to its base
 pub record ServerKnows (g : Group) (s : Server) : Type 0 where
   pub over : List Ordered
@@ -39,6 +43,7 @@ pub record ServerKnows (g : Group) (s : Server) : Type 0 where
   pub dictionary : s.dictionary ≡ dictionary_by base
   pub fates : (newer : List Ordered) (o : Ordered) (below : List Ordered) (done : Bool) → s.log ≡ newer ++ o ∷ below → commit_at s (length (o ∷ below)) ≡ Some done → done ≡ is_done (fate o below)
   pub unmade : (n : ℕ) → size s < n → commit_at s n ≡ None
+  pub past : AllByRecursion (IsPast (sealed_count s)) s.log
 
 -- ---- a client
 

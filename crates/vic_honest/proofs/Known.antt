@@ -292,6 +292,7 @@ module _ (g : Group) (group : IsGroup g) where
       dictionary = sym nothing_is;
       fates = λ newer o below done is committed. absurd cc;
       unmade = λ n past. refl;
+      past = tt;
     };
     clients = λ j low high.
         let member_is : member (fresh_server g.mode g.count ready) j ≡ ready = ap or_away (fresh_member g.count (j - 1) (omega arith)) in

@@ -14,3 +14,4 @@ pub mod Requests
 pub mod Learning
 pub mod Known
 pub mod Runs
+pub mod OneHistory

@@ -17,6 +17,7 @@ use Rattle.vic_wire.specs.Hashes.{Group, IsGroup, tag_of}
 use Rattle.vic_wire.specs.Parts.{part_text, part_for, bare_part}
 use Rattle.vic_rules.specs.declared.state.Awaiting.TheVariants as awaits
 use Rattle.vic_rules.specs.Client.{Standing, Sending, Invokes, Commits, Polls, Seals, Syncs, request_of, seal_text_on, commit_text_on, digest, tag_for, first_failing, is_write, is_done}
+use Rattle.vic_laws.proofs.Words.{all_weaker}
 use Rattle.vic_order.specs.declared.Stage.{Stage}
 use Rattle.vic_order.specs.declared.Stage.TheVariants as stage
 use Rattle.vic_order.specs.Order.{Ordered, Server, Member, Answered, says, becomes, guarded, unless_refused, size, sealed_count, no_seal, or_no_seal, seal_at_position, top_seal, ordered_at, commit_at, commit_in, member, set_member, set_stage, is_ready, is_open_at, is_inside, is_put, is_member, op_weight, weight, entries_above, turn, turn_on, update_part, with_commit, with_seal, owns_committed, applied_to, ordered_next, on_request, serve_read}
@@ -26,7 +27,7 @@ use Rattle.vic_honest.proofs.Standing.{Doing, Rests, Sends, Gets}
 use Rattle.vic_honest.proofs.Serving.{passed, test_passed, seal_text-joined}
 use Rattle.vic_honest.proofs.Owns.{AllOn, NoneOf, front-all, same_end, Cut, cut_at, At, item_at, root_on, seal_on, seals_on, length-seals_on, owns, owns-above, IsAbove}
 use Rattle.vic_honest.proofs.Deciding.{dictionary-next}
-use Rattle.vic_honest.proofs.Knowing.{IsOrdered, ServerKnows, Keeps, Calm, InvokeGoes, CommitGoes, SealGoes, ReplyComes, UpdateComes, EntriesCome, RefusalComes, Does}
+use Rattle.vic_honest.proofs.Knowing.{IsOrdered, IsPast, ServerKnows, Keeps, Calm, InvokeGoes, CommitGoes, SealGoes, ReplyComes, UpdateComes, EntriesCome, RefusalComes, Does}
 use Rattle.vic_honest.proofs.Frame.{Later, same_server, member-same, member-other}
 use Rattle.vic_honest.proofs.Answering.{Answers, count_is, top_is, base_is, seal_at-is, ordered_at-is, turn_does}
 
@@ -125,6 +126,7 @@ module _ (g : Group) (s : Server) (k : ServerKnows g s) (me : ℕ) (above : 0 < 
                   | false ↦ λ e c. k.fates newer2 o2 below2 d is c
                 ] refl;
             unmade = λ n past. ap (λ b. if b then Some done else commit_at s n) (ne_eqb (length t.path) n (λ e. omega (arith, length-path, length-log))) ∙ k.unmade n past;
+            past = k.past;
           } in
       subst Gives (sym (guard_ok s 6 (is_member s me) _ (is_inside-here (stage.Open (length seen)) go.stage refl) ∙ guard_ok s 5 (is_open_at (length t.path) (member s me).stage) a opened)) (record {
         new = [];
@@ -195,6 +197,7 @@ module _ (g : Group) (s : Server) (k : ServerKnows g s) (me : ℕ) (above : 0 < 
                 ∙ ap (λ d. if is_done (fate o below) then after d o.entry.op else d) (k.dictionary ∙ ap dictionary_by base_below) ∙ sym (dictionary-next o below);
             fates = k.fates;
             unmade = k.unmade;
+            past = all_weaker (IsPast (sealed_count s)) (IsPast (sealed_count next)) (λ y h. omega (arith, h)) s.log k.past;
           } in
       let counted : length keeps.base ≡ sealed_count next = omega (arith, ap length own_base, go.count) in
       subst Gives (sym (guard_ok s 6 (is_member s me) _ (is_inside-here stage.Ready go.ready refl)
@@ -333,6 +336,7 @@ module _ (g : Group) (s : Server) (k : ServerKnows g s) (me : ℕ) (above : 0 < 
               dictionary = k.dictionary;
               fates = new_fates x;
               unmade = λ m past. k.unmade m (omega arith);
+              past = (omega arith, k.past);
             };
             keeps = record {
               over = keeps.over;

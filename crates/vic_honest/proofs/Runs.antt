@@ -90,7 +90,7 @@ unfolding fate
 fate_explains o below =
     decided_explains (in_the_way o.entry.client o.entry.op o.sealed_then (entries below)) (dictionary_by below) (record { entry = o.entry; outcome = fate o below })
 
-leaves_so : (d : Dictionary) (x : Shown) (y : Outcome) → outcome_leaves d x y ≡ (if is_done y then after d x.entry.op else d)
+pub leaves_so : (d : Dictionary) (x : Shown) (y : Outcome) → outcome_leaves d x y ≡ (if is_done y then after d x.entry.op else d)
 leaves_so d x (outcome.Done a) = refl
 leaves_so d x (outcome.Aborted u) = refl
 leaves_so d x (outcome.Refused r) = refl
