@@ -46,7 +46,7 @@ pub record WorldKnows (g : Group) (w : World) : Type 0 where
   pub fates : AllByRecursion (IsFated w.server.log) (completions g w.history)
   pub fine : AllByRecursion (λ x. IsFine x.returned) w.history
 
-no_item : {X : Type 0} (xs : List X) (x : X) → xs ≡ [] → xs ≡ x ∷ [] → ⊥
+pub no_item : {X : Type 0} (xs : List X) (x : X) → xs ≡ [] → xs ≡ x ∷ [] → ⊥
 no_item xs x e f = cc
 
 one_item : {X : Type 0} (xs : List X) (x y : X) → xs ≡ x ∷ [] → xs ≡ y ∷ [] → x ≡ y
@@ -177,7 +177,7 @@ module _ (g : Group) (w : World) (fit : WorldFits g w) (know : WorldKnows g w) (
 -- ---- serving
 
 -- what is sent has a spelling
-request_spelled : (g : Group) (me : ℕ) (s : Server) (t : Standing) (seen newer : List Ordered) → StandingFits t → length t.path < 2 ^ 32 → Keeps me s t seen newer → (sending : Sending) → Does g me s t seen newer (Sends sending)
+pub request_spelled : (g : Group) (me : ℕ) (s : Server) (t : Standing) (seen newer : List Ordered) → StandingFits t → length t.path < 2 ^ 32 → Keeps me s t seen newer → (sending : Sending) → Does g me s t seen newer (Sends sending)
     → HasRequestSpelling (request_of g me t sending)
 request_spelled g me s t seen newer fits room keeps (Invokes n o) d = (room, ((omega (arith, d.new), omega (arith, d.number, fits.calls)), (d.fits, length-tag _ _)))
 request_spelled g me s t seen newer fits room keeps (Commits done) d = ((omega (arith, ap length keeps.path, length-entries seen, ap length d.top), room), length-tag _ _)
@@ -185,7 +185,7 @@ request_spelled g me s t seen newer fits room keeps Polls d = tt
 request_spelled g me s t seen newer fits room keeps Seals d = ((omega (arith, d.position), omega (arith, fits.sealed)), (fits.root, length-tag _ _))
 request_spelled g me s t seen newer fits room keeps Syncs d = room
 
-served_as : {g : Group} (s : Server) (k : ServerKnows g s) (me : ℕ) → 0 < me → me ≤ g.count → (t : Standing) (seen newer : List Ordered) → Keeps me s t seen newer → (sending : Sending) (payload : List ℕ)
+pub served_as : {g : Group} (s : Server) (k : ServerKnows g s) (me : ℕ) → 0 < me → me ≤ g.count → (t : Standing) (seen newer : List Ordered) → Keeps me s t seen newer → (sending : Sending) (payload : List ℕ)
     → Does g me s t seen newer (Sends sending) → read_request payload ≡ Some (request_of g me t sending) → Answers g me s t seen newer (serve s me payload)
 unfolding serve
 served_as {g} s k me above upto t seen newer keeps sending payload does read =

@@ -14,4 +14,6 @@ pub mod Requests
 pub mod Learning
 pub mod Known
 pub mod Runs
+pub mod OnePath
 pub mod OneHistory
+pub mod Refusals

@@ -21,10 +21,13 @@ use Rattle.vic_rules.specs.Views.{confirmed, confirmed_calls, shown_as, left_by,
 use Rattle.vic_rules.specs.Trust.{texts_made}
 use Rattle.vic_laws.proofs.Words.{all_at}
 use Rattle.vic_laws.proofs.Agreement.{confirmed_tells}
+use Rattle.vic_laws.specs.OrderClaims.{CompletedAs}
+use Rattle.vic_laws.proofs.Calls.{Grows}
+use Rattle.vic_laws.proofs.Complete.{answered_completion}
 use Rattle.vic_laws.proofs.OwnLaid.{OwnOnes, own_ones}
 use Rattle.vic_order.specs.Order.{Ordered, Server, size, sealed_count}
 use Rattle.vic_order.specs.Fates.{entries, fate, dictionary_by}
-use Rattle.vic_order.specs.Honest.{World}
+use Rattle.vic_order.specs.Honest.{World, Event, IsHonestRun, world_after}
 use Rattle.vic_honest.proofs.Words.{entries-joined, length-entries, all-second}
 use Rattle.vic_honest.proofs.Standing.{EntryFits, WorldFits, Doing, Rests, Sends, Gets}
 use Rattle.vic_honest.proofs.Owns.{AllOn, AllOn-at, NoneOf, same_end}
@@ -32,7 +35,9 @@ use Rattle.vic_honest.proofs.Deciding.{dictionary-next, none_above, not_chosen, 
 use Rattle.vic_honest.proofs.Knowing.{IsOrdered, IsPast, Does, ServerKnows, ClientKnows}
 use Rattle.vic_honest.proofs.Learning.{IsFated}
 use Rattle.vic_honest.proofs.Known.{WorldKnows}
-use Rattle.vic_honest.proofs.Runs.{leaves_so}
+use Rattle.vic_honest.proofs.Runs.{leaves_so, run_fits, run_knows}
+use Rattle.vic_honest.proofs.OnePath.{only_calls_at, shows_once, in_order_at}
+use Rattle.vic_honest.specs.Claims.{CallsAreOneHistory}
 
 -- ---- what a log's confirmed calls leave
 
@@ -243,3 +248,23 @@ module _ (g : Group) (w : World) (fit : WorldFits g w) (know : WorldKnows g w) w
 
   pub world_legal : IsLegal (confirmed_calls cs (entries w.server.log))
   world_legal = confirmed_legal cs w.server.log (fated_on [] w.server.log refl) (clear_on [] w.server.log refl)
+
+-- the path of each completed call is a front of the log
+world_has : (g : Group) (w : World) → WorldKnows g w → (c : Completion) → IsIn (completions g w.history) c → Grows c.prefix (entries w.server.log)
+world_has g w know c there =
+    let f : IsFated w.server.log c = all_at (IsFated w.server.log) (completions g w.history) c know.fates there in
+    (entries f.newer, ap entries f.is ∙ entries-joined f.newer (f.o ∷ f.below) ∙ ap (λ p. entries f.newer ++ p) (sym f.prefix))
+
+pub one_history : CallsAreOneHistory
+one_history g events run =
+    let w : World = world_after g events in
+    let fit : WorldFits g w = run_fits g events run in
+    let know : WorldKnows g w = run_knows g events run in
+    record {
+      legal = world_legal g w fit know;
+      in_order = in_order_at g w.history fit.steps fit.honest (entries w.server.log);
+      all = λ me e o owner done answered.
+          let c : CompletedAs g w.history e o = answered_completion g w.history fit.steps e o done answered in
+          shows_once g w.history fit.steps e o c (entries w.server.log) (world_has g w know c.by c.there);
+      only = only_calls_at g w.history fit.steps (entries w.server.log);
+    }

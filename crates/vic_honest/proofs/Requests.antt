@@ -22,6 +22,7 @@ use Rattle.vic_order.specs.declared.Stage.{Stage}
 use Rattle.vic_order.specs.declared.Stage.TheVariants as stage
 use Rattle.vic_order.specs.Order.{Ordered, Server, Member, Answered, says, becomes, guarded, unless_refused, size, sealed_count, no_seal, or_no_seal, seal_at_position, top_seal, ordered_at, commit_at, commit_in, member, set_member, set_stage, is_ready, is_open_at, is_inside, is_put, is_member, op_weight, weight, entries_above, turn, turn_on, update_part, with_commit, with_seal, owns_committed, applied_to, ordered_next, on_request, serve_read}
 use Rattle.vic_order.specs.Fates.{entries, fate, dictionary_by}
+use Rattle.vic_honest.specs.Claims.{limit}
 use Rattle.vic_honest.proofs.Words.{front-joined, front-entries, length-entries, told, above-told}
 use Rattle.vic_honest.proofs.Standing.{Doing, Rests, Sends, Gets}
 use Rattle.vic_honest.proofs.Serving.{passed, test_passed, seal_text-joined}
@@ -32,7 +33,7 @@ use Rattle.vic_honest.proofs.Frame.{Later, same_server, member-same, member-othe
 use Rattle.vic_honest.proofs.Answering.{Answers, count_is, top_is, base_is, seal_at-is, ordered_at-is, turn_does}
 
 -- a test that passes refuses nothing
-guard_ok : (s : Server) (n : ℕ) (b : Bool) (a : Answered) → b ≡ true → guarded s ((n, b) ∷ []) a ≡ a
+pub guard_ok : (s : Server) (n : ℕ) (b : Bool) (a : Answered) → b ≡ true → guarded s ((n, b) ∷ []) a ≡ a
 guard_ok s n b a e = ap (λ c. unless_refused s (if c then None else Some n) a) e
 
 -- the status that a log gives its newest entry
@@ -80,7 +81,7 @@ module _ (g : Group) (s : Server) (k : ServerKnows g s) (me : ℕ) (above : 0 < 
   within : me ≤ length s.members
   within = omega (arith, k.members)
 
-  is_inside-here : (a : Stage) → (member s me).stage ≡ a → is_inside a ≡ true → is_member s me ≡ true
+  pub is_inside-here : (a : Stage) → (member s me).stage ≡ a → is_inside a ≡ true → is_member s me ≡ true
   is_inside-here a at inside =
       and_from (nat_lt 0 me) (nat_le me (length s.members) && is_inside (member s me).stage) (lt-ltb 0 me above)
       (and_from (nat_le me (length s.members)) (is_inside (member s me).stage) (le-leb me (length s.members) within) (ap is_inside at ∙ inside))
@@ -392,6 +393,22 @@ module _ (g : Group) (s : Server) (k : ServerKnows g s) (me : ℕ) (above : 0 < 
       new_fates x [] o2 below2 done is committed =
           let none = k.unmade (length (o2 ∷ below2)) (omega (arith, ap length is)) in absurd cc
       new_fates x (y ∷ newer2) o2 below2 done is committed = let rest : s.log ≡ newer2 ++ o2 ∷ below2 = cc in k.fates newer2 o2 below2 done rest committed
+
+  -- a call that is refused would pass the limit of that number
+  pub invoke_refused : (n : ℕ) (o : Op) → InvokeGoes me s t newer n o → (r : ℕ) → (serve_read s me (Some (request_of g me t (Invokes n o)))).answer ≡ say.Refused r → limit s (length t.path) o ≡ Some r
+  invoke_refused n o go r refused =
+      let b5 : Bool = is_ready (member s me).stage && (nat_lt (member s me).last n && nat_le (length t.path) (size s)) in
+      let rest : List (ℕ × Bool) =
+          (4, not (nat_eq (size s) 1048576)) ∷ (2, not (nat_eq (size s - sealed_count s) 1024)) ∷ (3, not (is_put o) || nat_le (weight s + op_weight o) 8388608) ∷ (1, nat_le ((size s + 1) - length t.path) 8192) ∷ [] in
+      let next : Server = ordered_next s me n o (tag_for g (invoke_text (record { client = me; seq = n; op = o }))) in
+      let ordered : Answered = becomes next (say.Reply (top_seal s) (entries_above (length t.path) next.log) (part_for s.dictionary o)) in
+      let test : b5 ≡ true =
+          and_from (is_ready (member s me).stage) (nat_lt (member s me).last n && nat_le (length t.path) (size s)) (ap is_ready go.calm.ready)
+          (and_from (nat_lt (member s me).last n) (nat_le (length t.path) (size s)) (lt-ltb (member s me).last n go.new) (le-leb (length t.path) (size s) (omega (arith, length-path, length-log)))) in
+      let at_rest : first_failing ((5, b5) ∷ rest) ≡ first_failing rest = ap (λ b. if b then first_failing rest else Some 5) test in
+      let P : Answered → Type 0 = λ a. a.answer ≡ say.Refused r → limit s (length t.path) o ≡ Some r in
+      subst P (sym (guard_ok s 6 (is_member s me) _ (is_inside-here stage.Ready go.calm.ready refl)))
+      (passed P s (first_failing ((5, b5) ∷ rest)) ordered (λ k e same. let is : k ≡ r = cc in sym at_rest ∙ e ∙ ap Some is) (λ e same. absurd cc)) refused
 
   pub request_answers : (sending : Sending) → Does g me s t seen newer (Sends sending) → Gives (serve_read s me (Some (request_of g me t sending)))
   request_answers (Invokes n o) d = invoke_answers n o d

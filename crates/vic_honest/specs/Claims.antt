@@ -13,7 +13,7 @@ use Rattle.vic_rules.specs.declared.trace.TraceStep.{TraceStep}
 use Rattle.vic_rules.specs.declared.trace.Shown.{Shown}
 use Rattle.vic_rules.specs.Client.{first_failing, is_done}
 use Rattle.vic_rules.specs.History.{IsLawful, standing, Completion, completions}
-use Rattle.vic_rules.specs.Views.{IsLegal, left_by, MakesCall}
+use Rattle.vic_rules.specs.Views.{confirmed_calls, IsLegal, left_by, IsInRealTime, HasAll, ShowsOnlyCalls}
 use Rattle.vic_rules.specs.Trust.{IsForged}
 use Rattle.vic_order.specs.Order.{Ordered, Server, size, sealed_count, top_seal, is_put, op_weight, weight, serve}
 use Rattle.vic_order.specs.Fates.{entries, fate, dictionary_by}
@@ -108,17 +108,17 @@ shown_log (o ∷ below) = record { entry = o.entry; outcome = fate o below } ∷
 abbrev pub LogsAreLegal : Type 0
 LogsAreLegal = (log : List Ordered) → IsLegal (shown_log log) × (left_by (shown_log log) ≡ dictionary_by log)
 
--- the completed call stands below this entry
-pub record StandsBelow (c : Completion) (below : List Ordered) : Type 0 where
-  pub between : List Ordered
-  pub o : Ordered
-  pub older : List Ordered
-  pub is : below ≡ between ++ o ∷ older
-  pub prefix : c.prefix ≡ entries (o ∷ older)
-  pub outcome : c.outcome ≡ fate o older
+-- the completed calls of all clients, in the order of the log
+abbrev pub completed_in : Group → List TraceStep → List Ordered → List Shown
+completed_in g h log = confirmed_calls (completions g h) (entries log)
 
--- a call that was made after another was completed is ordered above it
-abbrev pub LogsAreInRealTime : Type 0
-LogsAreInRealTime = (g : Group) (events : List Event) → IsHonestRun g events → (later : List TraceStep) (x : TraceStep) (past : List TraceStep) → (world_after g events).history ≡ later ++ x ∷ past
-    → (newer : List Ordered) (o : Ordered) (below : List Ordered) → (world_after g events).server.log ≡ newer ++ o ∷ below → MakesCall g past x o.entry
-    → (c : Completion) → IsIn (completions g past) c → StandsBelow c below
+-- they explain each answer, keep real-time order, have each completed call once, and show nothing else
+pub record IsOneHistory (g : Group) (h : List TraceStep) (v : List Shown) : Type 0 where
+  pub legal : IsLegal v
+  pub in_order : IsInRealTime g h v
+  pub all : (me : ℕ) → HasAll g me h v
+  pub only : ShowsOnlyCalls g h v
+
+abbrev pub CallsAreOneHistory : Type 0
+CallsAreOneHistory = (g : Group) (events : List Event) → IsHonestRun g events
+    → IsOneHistory g (world_after g events).history (completed_in g (world_after g events).history (world_after g events).server.log)

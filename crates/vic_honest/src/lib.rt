@@ -4,7 +4,7 @@
 //! and each is the contract of a function without parameters and with an empty body.
 #![tactic(auto)]
 
-ghost use Rattle.vic_honest.specs.Claims.{TagsWereMade, HistoriesAreLawful, PathsAreFronts, NobodyHalts, ReturnsAreFates, RefusedCallsAreFew, SealedDictionary, AbortsLeaveNothing, LogsAreLegal};
+ghost use Rattle.vic_honest.specs.Claims.{TagsWereMade, HistoriesAreLawful, PathsAreFronts, NobodyHalts, ReturnsAreFates, RefusedCallsAreFew, SealedDictionary, AbortsLeaveNothing, LogsAreLegal, CallsAreOneHistory, RefusalsAreLimits};
 
 /// Every tag that a client takes was made by a client before.
 pub fn tags_were_made()
@@ -57,5 +57,17 @@ pub fn aborts_leave_nothing()
 /// The log with what becomes of its entries is a legal history of the dictionary.
 pub fn logs_are_legal()
     ensures { LogsAreLegal }
+{
+}
+
+/// The completed calls of all clients, in the order of the log, are one legal history in real-time order.
+pub fn calls_are_one_history()
+    ensures { CallsAreOneHistory }
+{
+}
+
+/// The server refuses nothing but calls that would pass one of its limits, with the number of that limit.
+pub fn refusals_are_limits()
+    ensures { RefusalsAreLimits }
 {
 }
