@@ -1,33 +1,22 @@
 -- The server serves a client that stands well: what it answers is right, and it knows what it did.
-use Rattle.std.proofs.Common.{◌≡◌, ◌≢◌, ℕ, suc, zero, ◌+◌, ◌-◌, ◌*◌, ◌<◌, ◌≤◌, ◌^◌, Bool, true, false, cond, not, ◌&&◌, ◌||◌, List, [], ◌∷◌, ◌++◌, length, take, drop, min, Option, Some, None, ◌⊎◌, inl, inr, refl, sym, ap, subst, ◌∙◌, arith, length-append, length-drop, length-set, append_assoc}
-use Rattle.std.specs.Prelude.{if◌then◌else◌, nat_eq, nat_lt, nat_le, slice_set}
-use Rattle.std.specs.List.{AllByRecursion}
-use Rattle.std.proofs.lemmas.Bool.{eqb-true, eqb-false, eq-eqb, ne_eqb, lt-ltb, le-ltb, le-leb, leb-true, and_from, not-true, ltb-false, cases_lt, cases_eq, cases_Bool}
-use Rattle.std.proofs.lemmas.List.{take-append-drop, drop-append-le}
+use Rattle.std.proofs.Common.{◌≡◌, ℕ, ◌+◌, ◌<◌, Bool, true, false, ◌&&◌, List, [], ◌∷◌, ◌++◌, length, Option, Some, None, inl, inr, refl, sym, ap, subst, ◌∙◌, arith, length-append, append_assoc}
+use Rattle.std.specs.Prelude.{if◌then◌else◌, nat_eq}
+use Rattle.std.proofs.lemmas.Bool.{lt-ltb, le-ltb, cases_lt}
 use Rattle.vic_dict.specs.Lists.{front, newest}
 use Rattle.vic_dict.specs.declared.op.Op.{Op}
-use Rattle.vic_dict.specs.Dictionary.{Dictionary, after}
-use Rattle.vic_wire.specs.declared.message.Digest32.{Digest32}
-use Rattle.vic_wire.specs.declared.message.Seal.{Seal}
-use Rattle.vic_wire.specs.declared.message.ToClient.{ToClient}
+use Rattle.vic_dict.specs.Dictionary.{Dictionary}
 use Rattle.vic_wire.specs.declared.message.ToClient.TheVariants as say
-use Rattle.vic_wire.specs.declared.message.ToServer.{ToServer}
-use Rattle.vic_wire.specs.Texts.{invoke_text}
-use Rattle.vic_wire.specs.Hashes.{Group, IsGroup, tag_of}
+use Rattle.vic_wire.specs.Hashes.{Group}
 use Rattle.vic_wire.specs.Parts.{part_text, part_for, bare_part}
 use Rattle.vic_rules.specs.declared.state.Awaiting.TheVariants as awaits
-use Rattle.vic_rules.specs.Client.{Standing, Sending, Invokes, Commits, Polls, Seals, Syncs, request_of, seal_text_on, commit_text_on, digest, tag_for, first_failing, is_write, is_done}
-use Rattle.vic_order.specs.declared.Stage.{Stage}
-use Rattle.vic_order.specs.declared.Stage.TheVariants as stage
-use Rattle.vic_order.specs.Order.{Ordered, Server, Member, Answered, says, becomes, guarded, unless_refused, size, sealed_count, no_seal, or_no_seal, seal_at_position, top_seal, ordered_at, commit_at, commit_in, member, set_member, set_stage, is_ready, is_open_at, is_inside, is_put, is_member, op_weight, weight, entries_above, turn, turn_on, update_part, with_commit, with_seal, owns_committed, applied_to, ordered_next, on_request, serve_read}
-use Rattle.vic_order.specs.Fates.{entries, fate, dictionary_by}
-use Rattle.vic_honest.proofs.Words.{front-joined, front-entries, length-entries, told, above-told}
-use Rattle.vic_honest.proofs.Standing.{Doing, Rests, Sends, Gets}
-use Rattle.vic_honest.proofs.Serving.{passed, test_passed, seal_text-joined}
-use Rattle.vic_honest.proofs.Owns.{AllOn, NoneOf, front-all, same_end, Cut, cut_at, At, item_at, root_on, seal_on, seals_on, length-seals_on, owns, owns-above, IsAbove}
-use Rattle.vic_honest.proofs.Deciding.{dictionary-next}
-use Rattle.vic_honest.proofs.Knowing.{IsOrdered, ServerKnows, Keeps, Calm, InvokeGoes, CommitGoes, SealGoes, ReplyComes, UpdateComes, EntriesCome, RefusalComes, Does}
-use Rattle.vic_honest.proofs.Frame.{Later, same_server, member-same, member-other}
+use Rattle.vic_rules.specs.Client.{Standing, is_write}
+use Rattle.vic_order.specs.Order.{Ordered, Server, Answered, size, sealed_count, or_no_seal, seal_at_position, top_seal, ordered_at, commit_at, turn, turn_on, update_part}
+use Rattle.vic_order.specs.Fates.{dictionary_by}
+use Rattle.vic_honest.proofs.Words.{front-joined}
+use Rattle.vic_honest.proofs.Standing.{Gets}
+use Rattle.vic_honest.proofs.Owns.{NoneOf, front-all, same_end, At, item_at, seal_on, seals_on, length-seals_on}
+use Rattle.vic_honest.proofs.Knowing.{ServerKnows, Keeps, Calm, Does}
+use Rattle.vic_honest.proofs.Frame.{Later}
 
 -- ---- seals and entries by their places
 

@@ -1,17 +1,16 @@
 -- The answers of an honest server pass the eight checks.
-use Rattle.std.proofs.Common.{◌≡◌, ℕ, suc, zero, ◌+◌, ◌-◌, ◌<◌, ◌≤◌, ◌^◌, Bool, true, false, cond, not, ◌&&◌, ◌||◌, List, [], ◌∷◌, ◌++◌, length, Option, Some, None, is_some, ◌⊎◌, inl, inr, refl, sym, ap, subst, ◌∙◌, arith, length-append, append_assoc}
+use Rattle.std.proofs.Common.{◌≡◌, ℕ, suc, zero, ◌+◌, ◌-◌, ◌≤◌, Bool, true, false, cond, not, ◌&&◌, List, [], ◌∷◌, ◌++◌, length, Some, None, is_some, refl, sym, ap, subst, ◌∙◌, arith, length-append, append_assoc}
 use Rattle.std.specs.Prelude.{if◌then◌else◌, nat_eq, nat_lt, nat_le}
 use Rattle.std.specs.List.{AllByRecursion, list_all}
 use Rattle.std.specs.Str.{bytes_eq}
 use Rattle.std.specs.FinMap as map
-use Rattle.std.proofs.lemmas.Bool.{and_from, lt-ltb, le-leb, eq-eqb, or_right, not_from_false, cases_Bool}
+use Rattle.std.proofs.lemmas.Bool.{and_from, lt-ltb, le-leb, eq-eqb, or_right, not_from_false}
 use Rattle.std.proofs.lemmas.Cmp.{nat_list_cmp_total}
 use Rattle.std.proofs.lemmas.Slice.Eq.{bytes_eq-Decides}
 use Rattle.std.specs.Ordering.{nat_cmp}
 use Rattle.std.specs.Cmp.Lexicographic.{slice_cmp}
 use Rattle.vic_dict.specs.declared.op.Op.{Op}
 use Rattle.vic_dict.specs.declared.op.Op.TheVariants as op
-use Rattle.vic_dict.specs.declared.op.Entry.{Entry}
 use Rattle.vic_dict.specs.Dictionary.{Dictionary, nothing, after, IsProper}
 use Rattle.vic_wire.specs.declared.message.Seal.{Seal}
 use Rattle.vic_wire.specs.declared.message.Tagged.{Tagged}
@@ -24,9 +23,8 @@ use Rattle.vic_wire.specs.Parts.{Part, read_part, part_text}
 use Rattle.vic_roots.proofs.Proper.{proper-nothing, proper-after}
 use Rattle.vic_roots.proofs.Again.{part_again}
 use Rattle.vic_rules.specs.declared.state.Own.{Own}
-use Rattle.vic_rules.specs.declared.state.Awaiting.{Awaiting}
 use Rattle.vic_rules.specs.declared.state.Awaiting.TheVariants as awaits
-use Rattle.vic_rules.specs.Client.{Standing, newest_first, grown, onto, same_entry, is_awaited, has_form, is_open, is_other, is_reply_to, has_members, is_tagged, has_tags, entries_of, seal_of, goes_on, is_sealed, seal_text_on, keeps_own, shows, shows_open, shows_own, is_proved, is_next, has_turn, first_failing, verdict_on, is_done, is_write}
+use Rattle.vic_rules.specs.Client.{Standing, grown, same_entry, is_awaited, has_form, is_open, is_other, is_reply_to, has_members, is_tagged, has_tags, entries_of, seal_of, goes_on, is_sealed, seal_text_on, keeps_own, shows, shows_open, shows_own, is_proved, is_next, has_turn, first_failing, verdict_on, is_done, is_write}
 use Rattle.vic_laws.proofs.SameOp.{entry_same_itself}
 use Rattle.vic_laws.proofs.StepKinds.{onto_is}
 use Rattle.vic_order.specs.Order.{Ordered, tagged}
@@ -181,20 +179,20 @@ module _ (g : Group) (made : List (List ℕ)) (me : ℕ) (t : Standing) (seen : 
       let is_part = part_is made base fits (omega arith) in
       none_fails g me t m
       (and_from (is_awaited t.awaiting m) (is_some (read_part part) && (nat_le n 1048576 && (nat_lt seal.position n && nat_le (n - seal.position) 1024))) (ap (λ a. is_awaited a m) awaiting)
-        (and_from (is_some (read_part part)) (nat_le n 1048576 && (nat_lt seal.position n && nat_le (n - seal.position) 1024)) (ap is_some is_part)
-        (and_from (nat_le n 1048576) (nat_lt seal.position n && nat_le (n - seal.position) 1024) (le-leb n 1048576 (omega arith))
-        (and_from (nat_lt seal.position n) (nat_le (n - seal.position) 1024) (lt-ltb seal.position n (omega arith)) (le-leb (n - seal.position) 1024 (omega arith))))))
+      (and_from (is_some (read_part part)) (nat_le n 1048576 && (nat_lt seal.position n && nat_le (n - seal.position) 1024)) (ap is_some is_part)
+      (and_from (nat_le n 1048576) (nat_lt seal.position n && nat_le (n - seal.position) 1024) (le-leb n 1048576 (omega arith))
+      (and_from (nat_lt seal.position n) (nat_le (n - seal.position) 1024) (lt-ltb seal.position n (omega arith)) (le-leb (n - seal.position) 1024 (omega arith))))))
       (ap (is_reply_to g.count me t.awaiting) (newest-told (o ∷ between))
-        ∙ and_from (nat_le o.entry.client g.count) (is_open me t.awaiting o.entry && list_all (is_other g.count me) (entries between)) (le-leb o.entry.client g.count ordered.0.member)
-          (and_from (is_open me t.awaiting o.entry) (list_all (is_other g.count me) (entries between))
-            (ap (λ a. is_open me a o.entry) awaiting ∙ ap (λ e. same_entry e (record { client = me; seq = number; op = call })) entry ∙ entry_same_itself (record { client = me; seq = number; op = call }))
-            (others_hold g me between ordered.1 none)))
+      ∙ and_from (nat_le o.entry.client g.count) (is_open me t.awaiting o.entry && list_all (is_other g.count me) (entries between)) (le-leb o.entry.client g.count ordered.0.member)
+      (and_from (is_open me t.awaiting o.entry) (list_all (is_other g.count me) (entries between))
+      (ap (λ a. is_open me a o.entry) awaiting ∙ ap (λ e. same_entry e (record { client = me; seq = number; op = call })) entry ∙ entry_same_itself (record { client = me; seq = number; op = call }))
+      (others_hold g me between ordered.1 none)))
       (tags_hold g (o ∷ between) ordered)
       (le-leb t.sealed seal.position (omega arith))
       (ap (λ p. is_sealed g p (Some seal)) (grown_told t (o ∷ between) seen path ∙ ap (λ l. entries (o ∷ l)) cut) ∙ seal_holds g (o ∷ over) base)
       (own_hold seal.position t.own (subst (λ k. AllByRecursion (IsAbove k) t.own) (sym pos) own))
       (and_from (shows (read_part part) seal.root.bytes) (shows_open (read_part part) t.awaiting) (shown made g base fits (omega arith))
-        (ap (λ p. shows_open p t.awaiting) is_part ∙ ap (shows_open (Some (dictionary_by base))) awaiting))
+      (ap (λ p. shows_open p t.awaiting) is_part ∙ ap (shows_open (Some (dictionary_by base))) awaiting))
       refl
 
   pub update_passes : (above : List Ordered) (o : Ordered) (below : List Ordered) (rest : List Own) → seen ≡ above ++ o ∷ below → t.awaiting ≡ awaits.Turn → t.sealed ≤ length below
@@ -209,15 +207,15 @@ module _ (g : Group) (made : List (List ℕ)) (me : ℕ) (t : Standing) (seen : 
       let is_part = part_is made below fits (omega arith) in
       none_fails g me t m
       (and_from (is_awaited t.awaiting m) (is_some (read_part part) && (nat_le (length t.path) 1048576 && nat_le seal.position (length t.path))) (ap (λ a. is_awaited a m) awaiting)
-        (and_from (is_some (read_part part)) (nat_le (length t.path) 1048576 && nat_le seal.position (length t.path)) (ap is_some is_part)
-        (and_from (nat_le (length t.path) 1048576) (nat_le seal.position (length t.path)) (le-leb (length t.path) 1048576 (omega (arith, same_length))) (le-leb seal.position (length t.path) (omega (arith, same_length))))))
+      (and_from (is_some (read_part part)) (nat_le (length t.path) 1048576 && nat_le seal.position (length t.path)) (ap is_some is_part)
+      (and_from (nat_le (length t.path) 1048576) (nat_le seal.position (length t.path)) (le-leb (length t.path) 1048576 (omega (arith, same_length))) (le-leb seal.position (length t.path) (omega (arith, same_length))))))
       refl
       refl
       (le-leb t.sealed seal.position (omega arith))
       (ap (λ p. is_sealed g p (Some seal)) (path ∙ ap entries (split ∙ sym (append_assoc above (o ∷ []) below))) ∙ seal_holds g (above ++ o ∷ []) below)
       (own_hold seal.position t.own (subst (λ k. AllByRecursion (IsAbove k) t.own) (sym pos) own))
       (and_from (shows (read_part part) seal.root.bytes) (shows_own (read_part part) t.own) (shown made g below fits (omega arith))
-        (ap (λ p. shows_own p t.own) is_part ∙ ap (shows_own (Some (dictionary_by below))) next ∙ or_right (not ((own_of o below).done && is_write (own_of o below).op)) true refl))
+      (ap (λ p. shows_own p t.own) is_part ∙ ap (shows_own (Some (dictionary_by below))) next ∙ or_right (not ((own_of o below).done && is_write (own_of o below).op)) true refl))
       (ap (is_next (seal.position + 1)) next ∙ eq-eqb (length (o ∷ below)) (seal.position + 1) (omega arith))
 
   pub entries_pass : (between over base : List Ordered) → between ++ seen ≡ over ++ base → t.awaiting ≡ awaits.Entries → AllOn (IsOrdered g) between → NoneOf me between → t.sealed ≤ length base
@@ -233,8 +231,8 @@ module _ (g : Group) (made : List (List ℕ)) (me : ℕ) (t : Standing) (seen : 
       let within : length base ≤ length (between ++ seen) = omega (arith, ap length cut, length-append over base) in
       none_fails g me t m
       (and_from (is_awaited t.awaiting m) (nat_le n 1048576 && (nat_le seal.position n && nat_le (n - seal.position) 1024)) (ap (λ a. is_awaited a m) awaiting)
-        (and_from (nat_le n 1048576) (nat_le seal.position n && nat_le (n - seal.position) 1024) (le-leb n 1048576 (omega arith))
-        (and_from (nat_le seal.position n) (nat_le (n - seal.position) 1024) (le-leb seal.position n (omega arith)) (le-leb (n - seal.position) 1024 (omega arith)))))
+      (and_from (nat_le n 1048576) (nat_le seal.position n && nat_le (n - seal.position) 1024) (le-leb n 1048576 (omega arith))
+      (and_from (nat_le seal.position n) (nat_le (n - seal.position) 1024) (le-leb seal.position n (omega arith)) (le-leb (n - seal.position) 1024 (omega arith)))))
       (ap (list_all (is_other g.count me)) (newest-told between) ∙ others_hold g me between ordered none)
       (tags_hold g between ordered)
       (le-leb t.sealed seal.position (omega arith))

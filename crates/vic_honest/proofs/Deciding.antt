@@ -1,21 +1,19 @@
 -- A client decides of its call what the whole log below it makes of it.
-use Rattle.std.proofs.Common.{◌≡◌, ℕ, suc, ◌+◌, ◌<◌, ◌≤◌, Bool, true, false, cond, not, ◌&&◌, List, [], ◌∷◌, ◌++◌, length, Option, Some, None, ◌⊎◌, inl, inr, refl, sym, ap, subst, ◌∙◌, arith, length-append}
+use Rattle.std.proofs.Common.{◌≡◌, ℕ, ◌<◌, Bool, true, false, not, ◌&&◌, List, [], ◌∷◌, ◌++◌, length, Option, Some, None, inl, inr, refl, sym, ap, subst, ◌∙◌, arith, length-append}
 use Rattle.std.specs.Prelude.{if◌then◌else◌, nat_eq, nat_lt}
 use Rattle.std.specs.List.{filter, fold}
 use Rattle.std.proofs.lemmas.List.Sums.{fold-append}
 use Rattle.std.proofs.lemmas.Bool.{lt-ltb, cases_Bool}
 use Rattle.vic_dict.specs.declared.op.Op.{Op}
 use Rattle.vic_dict.specs.declared.op.Entry.{Entry}
-use Rattle.vic_dict.specs.declared.op.Outcome.{Outcome}
 use Rattle.vic_dict.specs.declared.op.Outcome.TheVariants as outcome
 use Rattle.vic_dict.specs.Dictionary.{Dictionary, reply, after}
 use Rattle.vic_wire.specs.Conflict.{conflicts}
 use Rattle.vic_commute.proofs.Commuting.{Alike, alike_itself, after_same, other_after, reply_alike}
-use Rattle.vic_rules.specs.declared.state.Own.{Own}
 use Rattle.vic_rules.specs.Client.{Standing, or_this, least_above, is_in_the_way, in_the_way, done_op, laid, decided, decision, is_done}
 use Rattle.vic_order.specs.Order.{Ordered}
-use Rattle.vic_order.specs.Fates.{entries, fate, fate_on, dictionary_by, done_after}
-use Rattle.vic_honest.proofs.Words.{entries-joined, length-entries}
+use Rattle.vic_order.specs.Fates.{entries, fate, dictionary_by}
+use Rattle.vic_honest.proofs.Words.{length-entries}
 use Rattle.vic_honest.proofs.Owns.{owns, owns-low, owns-mine, owns-other, own_of, above}
 
 -- the dictionary after one more entry
@@ -85,6 +83,6 @@ unfolding decision fate
 decides me t x over base client at_base own =
     same_decided (in_the_way me x.entry.op (length base) (entries (over ++ base))) (laid t.own (length base) (dictionary_by base)) (dictionary_by (over ++ base)) x.entry.op
     (λ free. reply_alike x.entry.op (laid t.own (length base) (dictionary_by base)) (dictionary_by (over ++ base))
-        (subst (λ xs. Alike x.entry.op (fold done_op (dictionary_by base) xs) (dictionary_by (over ++ base))) (sym own) (walk me x.entry.op over base free)))
+    (subst (λ xs. Alike x.entry.op (fold done_op (dictionary_by base) xs) (dictionary_by (over ++ base))) (sym own) (walk me x.entry.op over base free)))
     ∙ ap (λ i. decided (in_the_way i x.entry.op (length base) (entries (over ++ base))) (dictionary_by (over ++ base)) x.entry.op) (sym client)
     ∙ ap (λ n. decided (in_the_way x.entry.client x.entry.op n (entries (over ++ base))) (dictionary_by (over ++ base)) x.entry.op) (sym at_base)

@@ -1,17 +1,16 @@
 -- What stays of a client's standing while the server serves others.
-use Rattle.std.proofs.Common.{◌≡◌, ◌≢◌, ℕ, suc, zero, ◌+◌, ◌-◌, ◌<◌, ◌≤◌, Bool, true, false, List, [], ◌∷◌, ◌++◌, length, set, Option, Some, None, refl, sym, ap, subst, ◌∙◌, arith, length-append, append_assoc}
-use Rattle.std.specs.Prelude.{if◌then◌else◌, nat_eq, slice_get, slice_set}
+use Rattle.std.proofs.Common.{◌≡◌, ℕ, suc, zero, ◌-◌, ◌<◌, ◌≤◌, Bool, true, List, [], ◌∷◌, ◌++◌, length, set, Some, refl, sym, ap, subst, ◌∙◌, arith, append_assoc}
+use Rattle.std.specs.Prelude.{nat_eq, slice_get}
 use Rattle.std.specs.List.{AllByRecursion}
 use Rattle.std.proofs.lemmas.Bool.{eq-eqb}
 use Rattle.vic_wire.specs.declared.message.ToClient.{ToClient}
 use Rattle.vic_wire.specs.declared.message.ToClient.TheVariants as say
 use Rattle.vic_wire.specs.Hashes.{Group}
-use Rattle.vic_rules.specs.Client.{Standing, Sending, Invokes, Commits, Polls, Seals, Syncs}
+use Rattle.vic_rules.specs.Client.{Standing, Invokes, Commits, Polls, Seals, Syncs}
 use Rattle.vic_order.specs.Order.{Ordered, Server, Member, sealed_count, commit_at, member, set_member, or_away}
-use Rattle.vic_order.specs.Fates.{entries}
 use Rattle.vic_honest.proofs.Standing.{Doing, Rests, Sends, Gets}
-use Rattle.vic_honest.proofs.Owns.{NoneOf, NoneOf-joined, owns, owns-more, IsAbove}
-use Rattle.vic_honest.proofs.Knowing.{Keeps, Calm, InvokeGoes, CommitGoes, SealGoes, ReplyComes, UpdateComes, EntriesCome, RefusalComes, Does, ClientKnows}
+use Rattle.vic_honest.proofs.Owns.{NoneOf, NoneOf-joined, owns-more, IsAbove}
+use Rattle.vic_honest.proofs.Knowing.{Keeps, Calm, ReplyComes, Does, ClientKnows}
 
 -- ---- members
 
@@ -79,7 +78,7 @@ module _ (g : Group) (j : ℕ) (s u : Server) (l : Later j s u) (t : Standing) (
     own = k.own;
     unsealed = subst (AllByRecursion (IsAbove (sealed_count u))) (sym k.own)
         (owns-more j (length k.base) (λ n. sealed_count s < n) (λ n. sealed_count u < n) seen (subst (AllByRecursion (IsAbove (sealed_count s))) k.own k.unsealed)
-          (λ above o below split mine higher. l.passes (newer ++ above) o below (in_log above o below split) mine higher));
+        (λ above o below split mine higher. l.passes (newer ++ above) o below (in_log above o below split) mine higher));
     last = subst (λ m. m.last ≤ t.calls) (sym l.same) k.last;
   }
 

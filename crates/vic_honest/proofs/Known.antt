@@ -1,27 +1,24 @@
 -- In every world of an honest run each client stands well.
-use Rattle.std.proofs.Common.{◌≡◌, ℕ, suc, zero, ◌+◌, ◌-◌, ◌<◌, ◌≤◌, ◌^◌, Bool, true, false, cond, ◌&&◌, List, [], ◌∷◌, ◌++◌, length, replicate, Option, Some, None, is_none, ◌⊎◌, inl, inr, refl, sym, ap, subst, ◌∙◌, arith, length-append, append_assoc}
-use Rattle.std.specs.Prelude.{if◌then◌else◌, nat_eq, slice_get}
+use Rattle.std.proofs.Common.{◌≡◌, ℕ, suc, zero, ◌+◌, ◌-◌, ◌<◌, ◌≤◌, ◌^◌, false, List, [], ◌∷◌, ◌++◌, length, replicate, Some, is_none, inl, inr, refl, sym, ap, subst, ◌∙◌, arith, append_assoc}
+use Rattle.std.specs.Prelude.{if◌then◌else◌, slice_get}
 use Rattle.std.specs.List.{AllByRecursion}
 use Rattle.std.proofs.lemmas.Bool.{eq-eqb, ne_eqb, cases_eq, and_parts}
 use Rattle.std.proofs.lemmas.List.{length-replicate}
-use Rattle.vic_dict.specs.declared.op.Op.{Op}
 use Rattle.vic_wire.specs.declared.message.ToClient.{ToClient}
-use Rattle.vic_wire.specs.declared.message.ToServer.{ToServer}
 use Rattle.vic_wire.specs.Hashes.{Group, IsGroup}
 use Rattle.vic_wire.specs.Messages.{HasSpelling, HasRequestSpelling, request_text, answer_text}
-use Rattle.vic_wire.specs.Reading.{read_answer, read_request}
+use Rattle.vic_wire.specs.Reading.{read_request}
 use Rattle.vic_rules.specs.declared.state.Awaiting.{Awaiting}
 use Rattle.vic_rules.specs.declared.state.Awaiting.TheVariants as awaits
 use Rattle.vic_rules.specs.declared.trace.Input.{Input}
 use Rattle.vic_rules.specs.declared.trace.Input.TheVariants as input
 use Rattle.vic_rules.specs.declared.trace.TraceStep.{TraceStep}
-use Rattle.vic_rules.specs.Client.{Standing, Sending, Invokes, Commits, Polls, Seals, Syncs, Move, at_start, step, MayStep, IsIdle, request_of, payload_of, awaits_nothing}
+use Rattle.vic_rules.specs.Client.{Standing, Sending, Invokes, Commits, Polls, Seals, Syncs, Move, step, IsIdle, request_of, awaits_nothing}
 use Rattle.vic_rules.specs.History.{standing, Completion, completion, completions, path}
 use Rattle.vic_rules.specs.Trust.{texts_made}
-use Rattle.vic_order.specs.declared.Stage.TheVariants as stage
-use Rattle.vic_order.specs.Order.{Ordered, Server, Member, Answered, fresh_server, ready, or_away, member, size, sealed_count, serve, serve_read}
+use Rattle.vic_order.specs.Order.{Ordered, Server, Answered, fresh_server, ready, or_away, member, serve, serve_read}
 use Rattle.vic_order.specs.Fates.{entries}
-use Rattle.vic_order.specs.Honest.{Event, Asks, Serves, Takes, World, opening, changed, queued, steps, serves, takes, happens, MayBe, AreHonest, IsHonestRun, world_after}
+use Rattle.vic_order.specs.Honest.{Event, Asks, Serves, Takes, World, opening, changed, queued, steps, serves, takes, happens, MayBe, AreHonest, world_after}
 use Rattle.vic_spellings.proofs.SpelledAnswers.{answer_again}
 use Rattle.vic_spellings.proofs.SpelledRequests.{request_again}
 use Rattle.vic_laws.proofs.Words.{all_weaker, all_append}
@@ -31,10 +28,10 @@ use Rattle.vic_honest.proofs.Standing.{StandingFits, RequestGoes, Doing, Rests, 
 use Rattle.vic_honest.proofs.Standing as fitting
 use Rattle.vic_honest.proofs.Serving.{length-tag, payload_served}
 use Rattle.vic_honest.proofs.Worlds.{step_of, move, idle_rests, third, ask_bounds, room_left, all_fit}
-use Rattle.vic_honest.proofs.Owns.{root_on, owns, owns-nil}
+use Rattle.vic_honest.proofs.Owns.{owns-nil}
 use Rattle.vic_honest.proofs.Knowing.{ServerKnows, Keeps, Calm, Does, IsSpelled, ClientKnows}
 use Rattle.vic_honest.proofs.Checks.{nothing_is, root_on-nil}
-use Rattle.vic_honest.proofs.Frame.{Later, client_stays}
+use Rattle.vic_honest.proofs.Frame.{client_stays}
 use Rattle.vic_honest.proofs.Answering.{Answers}
 use Rattle.vic_honest.proofs.Requests.{request_answers}
 use Rattle.vic_honest.proofs.Learning.{IsFated, IsFine, Stands, Learns, stands_sending, answer_learnt}
@@ -79,7 +76,7 @@ module _ (g : Group) (w : World) (know : WorldKnows g w) (me : ℕ) (i : Input) 
   mine : Stands g me w.server v.next v.sends → w.up me ≡ [] → down me ≡ [] → ClientKnows g me w.server (standing g me (x ∷ w.history)) (changed w.up me (queued (w.up me) x.sent) me) (down me)
   mine moved up_is down_is =
       let queue : changed w.up me (queued (w.up me) x.sent) me ≡ queued [] x.sent =
-          ap (λ b. if b then queued (w.up me) x.sent else w.up me) (eq-eqb me me refl) ∙ ap (λ q. queued q x.sent) up_is in
+      ap (λ b. if b then queued (w.up me) x.sent else w.up me) (eq-eqb me me refl) ∙ ap (λ q. queued q x.sent) up_is in
       subst (λ s. ClientKnows g me w.server s (changed w.up me (queued (w.up me) x.sent) me) (down me)) (sym (standing_moved g me x w.history refl))
       (subst (λ u. ClientKnows g me w.server v.next u (down me)) (sym queue) (subst (λ d. ClientKnows g me w.server v.next (queued [] x.sent) d) (sym down_is) moved))
 
@@ -98,7 +95,7 @@ module _ (g : Group) (w : World) (know : WorldKnows g w) (me : ℕ) (i : Input) 
     ];
     fates = subst (AllByRecursion (IsFated w.server.log)) (sym (completions-more g x w.history))
         (all_append (IsFated w.server.log) (completion me (path g me (x ∷ w.history)) v.returns) (completions g w.history)
-          (subst (λ s. AllByRecursion (IsFated w.server.log) (completion me s.path v.returns)) (sym (standing_moved g me x w.history refl)) learns.fates) know.fates);
+        (subst (λ s. AllByRecursion (IsFated w.server.log) (completion me s.path v.returns)) (sym (standing_moved g me x w.history refl)) learns.fates) know.fates);
     fine = (learns.fine, know.fine);
   }
 
@@ -125,7 +122,7 @@ module _ (g : Group) (w : World) (fit : WorldFits g w) (know : WorldKnows g w) (
 
   calm_now : IsIdle here → Calm me w.server here client.newer
   calm_now idle = let none = nothing_under_way idle in
-    rests_calm g me w.server here client.seen client.newer (w.up me) (w.down me) client.doing none.0 none.1 client.up_is client.down_is client.does
+      rests_calm g me w.server here client.seen client.newer (w.up me) (w.down me) client.doing none.0 none.1 client.up_is client.down_is client.does
 
   keeps_asking : (a : Awaiting) (calls : ℕ) → here.calls ≤ calls → Keeps me w.server (record here { awaiting = a; calls = calls }) client.seen client.newer
   keeps_asking a calls more = record {
@@ -225,15 +222,15 @@ module _ (g : Group) (group : IsGroup g) where
       let down : ℕ → List (List ℕ) = changed w.down me (queued (w.down me) (Some (answer_text a.answer))) in
       let grown : a.next.log ≡ s.new ++ w.server.log = s.keeps.log ∙ append_assoc s.new newer seen ∙ ap (λ l. s.new ++ l) (sym keeps.log) in
       let mine : ClientKnows g me a.next t (up me) (down me) = record {
-            seen = seen;
-            newer = s.new ++ newer;
-            keeps = s.keeps;
-            doing = Gets a.answer;
-            up_is = ap (λ b. if b then [] else w.up me) (eq-eqb me me refl);
-            down_is = ap (λ b. if b then queued (w.down me) (Some (answer_text a.answer)) else w.down me) (eq-eqb me me refl) ∙ ap (λ q. queued q (Some (answer_text a.answer))) down_is;
-            spelled = answer_spelled w fit me above upto payload up_is;
-            does = s.does;
-          } in
+        seen = seen;
+        newer = s.new ++ newer;
+        keeps = s.keeps;
+        doing = Gets a.answer;
+        up_is = ap (λ b. if b then [] else w.up me) (eq-eqb me me refl);
+        down_is = ap (λ b. if b then queued (w.down me) (Some (answer_text a.answer)) else w.down me) (eq-eqb me me refl) ∙ ap (λ q. queued q (Some (answer_text a.answer))) down_is;
+        spelled = answer_spelled w fit me above upto payload up_is;
+        does = s.does;
+      } in
       record {
         server = s.knows;
         clients = λ j low high. elim (cases_eq j me) [

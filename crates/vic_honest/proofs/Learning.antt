@@ -1,5 +1,5 @@
 -- A client takes an answer of an honest server: it goes on, and what it returns is what the log makes of its call.
-use Rattle.std.proofs.Common.{◌≡◌, ℕ, suc, zero, ◌+◌, ◌-◌, ◌<◌, ◌≤◌, ◌^◌, Bool, true, false, cond, not, ◌&&◌, List, [], ◌∷◌, ◌++◌, length, Option, Some, None, refl, sym, ap, subst, ◌∙◌, arith, length-append, append_assoc}
+use Rattle.std.proofs.Common.{◌≡◌, ℕ, suc, ◌+◌, ◌<◌, ◌≤◌, Bool, true, false, ◌&&◌, List, [], ◌∷◌, ◌++◌, length, Option, Some, None, refl, sym, ap, subst, ◌∙◌, arith, length-append, append_assoc}
 use Rattle.std.specs.Prelude.{if◌then◌else◌, nat_eq}
 use Rattle.std.specs.List.{AllByRecursion, filter}
 use Rattle.std.proofs.lemmas.Bool.{eq-eqb}
@@ -10,7 +10,6 @@ use Rattle.vic_dict.specs.declared.op.Outcome.{Outcome}
 use Rattle.vic_dict.specs.declared.op.Outcome.TheVariants as outcome
 use Rattle.vic_dict.specs.Dictionary.{Dictionary, after}
 use Rattle.vic_wire.specs.declared.message.Seal.{Seal}
-use Rattle.vic_wire.specs.declared.message.Tagged.{Tagged}
 use Rattle.vic_wire.specs.declared.message.ToClient.{ToClient}
 use Rattle.vic_wire.specs.declared.message.ToClient.TheVariants as say
 use Rattle.vic_wire.specs.Hashes.{Group}
@@ -21,17 +20,17 @@ use Rattle.vic_rules.specs.declared.state.Own.{Own}
 use Rattle.vic_rules.specs.declared.state.Awaiting.{Awaiting}
 use Rattle.vic_rules.specs.declared.state.Awaiting.TheVariants as awaits
 use Rattle.vic_rules.specs.declared.trace.Input.TheVariants as input
-use Rattle.vic_rules.specs.Client.{Standing, Sending, Commits, Seals, Move, moves, step, payload_of, grown, decision, decided, replied, replied_to, updated, sealed_to, listed_to, new_root, is_write, is_done, taken, taken_or_halts, on_payload, verdict, verdict_on}
+use Rattle.vic_rules.specs.Client.{Standing, Sending, Commits, Seals, Move, step, payload_of, grown, decision, decided, replied, replied_to, updated, sealed_to, listed_to, new_root, is_write, is_done, taken, taken_or_halts, on_payload, verdict, verdict_on}
 use Rattle.vic_rules.specs.History.{Completion, completion}
 use Rattle.vic_laws.proofs.Words.{all_weaker, all_append}
 use Rattle.vic_order.specs.Order.{Ordered, Server, size, sealed_count}
 use Rattle.vic_order.specs.Fates.{entries, fate, dictionary_by}
 use Rattle.vic_order.specs.Honest.{queued}
 use Rattle.vic_honest.proofs.Words.{length-entries, told, all-second}
-use Rattle.vic_honest.proofs.Standing.{EntryFits, Doing, Rests, Sends, Gets}
+use Rattle.vic_honest.proofs.Standing.{EntryFits, Rests, Sends, Gets}
 use Rattle.vic_honest.proofs.Owns.{AllOn, AllOn-second, NoneOf, NoneOf-first, NoneOf-second, root_on, seal_on, seal_on-position, owns, own_of, owns-mine, owns-others, owns-filter, owns-higher, owns-next, owns-above, above, IsAbove}
 use Rattle.vic_honest.proofs.Deciding.{dictionary-next, decides}
-use Rattle.vic_honest.proofs.Knowing.{IsOrdered, ServerKnows, Keeps, Calm, CommitGoes, SealGoes, ReplyComes, UpdateComes, EntriesCome, RefusalComes, Does, ClientKnows}
+use Rattle.vic_honest.proofs.Knowing.{IsOrdered, ServerKnows, Keeps, Calm, ReplyComes, UpdateComes, EntriesCome, RefusalComes, Does, ClientKnows}
 use Rattle.vic_honest.proofs.Checks.{part_is, seal_on-root, grown_told, reply_passes, update_passes, entries_pass, wait_passes, refusal_passes}
 
 -- ---- what is shown of a move
@@ -198,31 +197,31 @@ module _ (g : Group) (made : List (List ℕ)) (s : Server) (k : ServerKnows g s)
         let client : o.entry.client ≡ me = ap (λ e. e.client) c.entry in
         let mine : nat_eq o.entry.client me ≡ true = eq-eqb o.entry.client me client in
         let passes = reply_passes g made me t seen keeps.path o c.between c.over base c.number c.op c.load c.cut c.awaiting c.entry (all_on_first (o ∷ c.between) seen ordered) c.others c.sealed_then c.from
-            ordered.0.near few base_fits (own_above (length base) c.upto) in
+        ordered.0.near few base_fits (own_above (length base) c.upto) in
         let ends : decision me t (entries below) (length base) (dictionary_by base) o.entry.op ≡ fate o below =
-            ap (λ l. decision me t (entries l) (length base) (dictionary_by base) o.entry.op) c.cut
-            ∙ decides me t o c.over base client c.sealed_then (own_over base c.between le c.others ∙ ap (owns me (length base)) c.cut)
-            ∙ ap (fate o) (sym c.cut) in
+        ap (λ l. decision me t (entries l) (length base) (dictionary_by base) o.entry.op) c.cut
+        ∙ decides me t o c.over base client c.sealed_then (own_over base c.between le c.others ∙ ap (owns me (length base)) c.cut)
+        ∙ ap (fate o) (sym c.cut) in
         let moved : taken me t message ≡ reply_move t o.entry (entries below) (length (o ∷ below)) (length base) (root_on base) o.entry.op (fate o below) =
-            reply_moves me t (seal_on g base) (grown t (told (o ∷ c.between))) (entries below) o.entry (read_part (part_text (dictionary_by base))) (dictionary_by base) t.awaiting c.number c.op c.load
-            (length (o ∷ below)) (length base) (root_on base) o.entry.op (fate o below)
-            (grown_told t (o ∷ c.between) seen keeps.path) (part_is made base base_fits few_base) c.awaiting (ap suc (length-entries below)) (seal_on-position g base) (seal_on-root g base) (sym (ap (λ e. e.op) c.entry)) ends in
+        reply_moves me t (seal_on g base) (grown t (told (o ∷ c.between))) (entries below) o.entry (read_part (part_text (dictionary_by base))) (dictionary_by base) t.awaiting c.number c.op c.load
+        (length (o ∷ below)) (length base) (root_on base) o.entry.op (fate o below)
+        (grown_told t (o ∷ c.between) seen keeps.path) (part_is made base base_fits few_base) c.awaiting (ap suc (length-entries below)) (seal_on-position g base) (seal_on-root g base) (sym (ap (λ e. e.op) c.entry)) ends in
         let own : List Own = t.own ++ own_of o below ∷ [] in
         let next : Standing = record t { path = entries (o ∷ below); sealed = length base; root = root_on base; awaiting = awaits.Turn; own = own } in
         let higher : length base < length (o ∷ below) = omega (arith, ap length c.cut, length-append c.over base) in
         let next_keeps : Keeps me s next (o ∷ below) c.later = record {
-              over = o ∷ c.over;
-              base = base;
-              log = log_is;
-              path = refl;
-              going = keeps.going;
-              cut = ap (λ l. o ∷ l) c.cut;
-              sealed = refl;
-              root = refl;
-              own = ap (λ xs. xs ++ own_of o below ∷ []) (own_is base c.between le c.upto c.others) ∙ sym (owns-mine me (length base) o below mine higher);
-              unsealed = all_append (IsAbove (sealed_count s)) t.own (own_of o below ∷ []) keeps.unsealed (c.higher, tt);
-              last = keeps.last;
-            } in
+          over = o ∷ c.over;
+          base = base;
+          log = log_is;
+          path = refl;
+          going = keeps.going;
+          cut = ap (λ l. o ∷ l) c.cut;
+          sealed = refl;
+          root = refl;
+          own = ap (λ xs. xs ++ own_of o below ∷ []) (own_is base c.between le c.upto c.others) ∙ sym (owns-mine me (length base) o below mine higher);
+          unsealed = all_append (IsAbove (sealed_count s)) t.own (own_of o below ∷ []) keeps.unsealed (c.higher, tt);
+          last = keeps.last;
+        } in
         subst (Learns g me s) (sym (step_takes g me t payload message keeps.going (read ∙ ap Some c.message) passes ∙ moved)) (record {
           client = stands_sending g me s next (Commits (is_done (fate o below))) (o ∷ below) c.later next_keeps (record {
             o = o;
@@ -251,25 +250,25 @@ module _ (g : Group) (made : List (List ℕ)) (s : Server) (k : ServerKnows g s)
         let few_seen : length seen ≤ 1048576 = omega (arith, room, length-log) in
         let few : length below ≤ 1048576 = omega (arith, few_seen, ap length c.split, length-append c.above (o ∷ below)) in
         let own : t.own ≡ own_of o below ∷ rest =
-            own_is below [] le (omega (arith, c.count)) tt ∙ ap (owns me (length below)) c.split ∙ owns-next me (length below) c.above o below c.mine refl ∙ ap (λ l. own_of o below ∷ owns me (length (o ∷ below)) l) (sym c.split) in
+        own_is below [] le (omega (arith, c.count)) tt ∙ ap (owns me (length below)) c.split ∙ owns-next me (length below) c.above o below c.mine refl ∙ ap (λ l. own_of o below ∷ owns me (length (o ∷ below)) l) (sym c.split) in
         let passes = update_passes g made me t seen keeps.path c.above o below rest c.split c.awaiting (omega (arith, keeps.sealed)) few_seen below_fits (own_above (length below) (omega (arith, c.count))) own in
         let moved : taken me t message ≡ sealed_to t (length (o ∷ below)) (root_on (o ∷ below)) rest =
-            update_moves t (seal_on g below) (read_part (part_text (dictionary_by below))) (dictionary_by below) (own_of o below) rest (length (o ∷ below)) (root_on (o ∷ below))
-            (part_is made below below_fits few) own (omega (arith, seal_on-position g below)) (new_root-is g o below) in
+        update_moves t (seal_on g below) (read_part (part_text (dictionary_by below))) (dictionary_by below) (own_of o below) rest (length (o ∷ below)) (root_on (o ∷ below))
+        (part_is made below below_fits few) own (omega (arith, seal_on-position g below)) (new_root-is g o below) in
         let next : Standing = record t { sealed = length (o ∷ below); root = root_on (o ∷ below); own = rest; awaiting = awaits.Turn } in
         let next_keeps : Keeps me s next seen newer = record {
-              over = c.above;
-              base = o ∷ below;
-              log = keeps.log;
-              path = keeps.path;
-              going = keeps.going;
-              cut = c.split;
-              sealed = refl;
-              root = refl;
-              own = refl;
-              unsealed = all_weaker (IsAbove (length (o ∷ below))) (IsAbove (sealed_count s)) (λ x h. omega (arith, h, c.count)) rest (owns-above me (length (o ∷ below)) seen);
-              last = keeps.last;
-            } in
+          over = c.above;
+          base = o ∷ below;
+          log = keeps.log;
+          path = keeps.path;
+          going = keeps.going;
+          cut = c.split;
+          sealed = refl;
+          root = refl;
+          own = refl;
+          unsealed = all_weaker (IsAbove (length (o ∷ below))) (IsAbove (sealed_count s)) (λ x h. omega (arith, h, c.count)) rest (owns-above me (length (o ∷ below)) seen);
+          last = keeps.last;
+        } in
         subst (Learns g me s) (sym (step_takes g me t payload message keeps.going (read ∙ ap Some c.message) passes ∙ moved)) (record {
           client = stands_sending g me s next Seals seen newer next_keeps (record {
             above = c.above;
@@ -302,22 +301,22 @@ module _ (g : Group) (made : List (List ℕ)) (s : Server) (k : ServerKnows g s)
         let none : NoneOf me c.between = NoneOf-second me c.later c.between between_others in
         let passes = entries_pass g made me t seen keeps.path c.between c.over base c.cut c.awaiting (all_on_first c.between seen ordered) none c.from c.near few (own_above (length base) c.upto) in
         let moved : taken me t message ≡ listed_to t (entries now) (length base) (root_on base) =
-            ap (λ p. listed_to t p (seal_on g base).position (seal_on g base).root.bytes) (grown_told t c.between seen keeps.path)
-            ∙ ap (λ n. listed_to t (entries now) n (seal_on g base).root.bytes) (seal_on-position g base) ∙ ap (listed_to t (entries now) (length base)) (seal_on-root g base) in
+        ap (λ p. listed_to t p (seal_on g base).position (seal_on g base).root.bytes) (grown_told t c.between seen keeps.path)
+        ∙ ap (λ n. listed_to t (entries now) n (seal_on g base).root.bytes) (seal_on-position g base) ∙ ap (listed_to t (entries now) (length base)) (seal_on-root g base) in
         let next : Standing = record t { path = entries now; sealed = length base; root = root_on base; awaiting = awaits.Nothing } in
         let next_keeps : Keeps me s next now c.later = record {
-              over = c.over;
-              base = base;
-              log = log_is;
-              path = refl;
-              going = keeps.going;
-              cut = c.cut;
-              sealed = refl;
-              root = refl;
-              own = own_is base c.between le c.upto none;
-              unsealed = keeps.unsealed;
-              last = keeps.last;
-            } in
+          over = c.over;
+          base = base;
+          log = log_is;
+          path = refl;
+          going = keeps.going;
+          cut = c.cut;
+          sealed = refl;
+          root = refl;
+          own = own_is base c.between le c.upto none;
+          unsealed = keeps.unsealed;
+          last = keeps.last;
+        } in
         subst (Learns g me s) (sym (step_takes g me t payload message keeps.going (read ∙ ap Some c.message) passes ∙ moved)) (record {
           client = stands_resting g me s next now c.later next_keeps (refl, record { ready = c.calm.ready; sealed = c.upto; others = NoneOf-first me c.later c.between between_others });
           fates = tt;

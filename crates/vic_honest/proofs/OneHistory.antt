@@ -1,5 +1,5 @@
 -- The completed calls in the order of the log are one legal history in real-time order.
-use Rattle.std.proofs.Common.{◌≡◌, ℕ, suc, zero, ◌+◌, ◌<◌, ◌≤◌, Bool, true, false, cond, not, ◌&&◌, List, [], ◌∷◌, ◌++◌, length, Option, Some, None, ◌⊎◌, inl, inr, refl, sym, ap, subst, ◌∙◌, arith, length-append, append_assoc}
+use Rattle.std.proofs.Common.{◌≡◌, ℕ, suc, ◌<◌, ◌≤◌, Bool, true, false, List, [], ◌∷◌, ◌++◌, length, Option, Some, None, ◌⊎◌, inl, inr, refl, sym, ap, subst, ◌∙◌, arith, append_assoc}
 use Rattle.std.specs.Prelude.{if◌then◌else◌, nat_eq, nat_lt}
 use Rattle.std.specs.List.{AllByRecursion}
 use Rattle.std.proofs.lemmas.Bool.{lt-ltb, eqb-false, ne_eqb, eq-eqb}
@@ -13,10 +13,9 @@ use Rattle.vic_wire.specs.declared.message.ToClient.TheVariants as say
 use Rattle.vic_wire.specs.Conflict.{conflicts}
 use Rattle.vic_wire.specs.Hashes.{Group}
 use Rattle.vic_commute.proofs.Commuting.{Alike, alike_itself, after_same, other_after, reply_alike}
-use Rattle.vic_rules.specs.declared.trace.TraceStep.{TraceStep}
 use Rattle.vic_rules.specs.declared.trace.Shown.{Shown}
 use Rattle.vic_rules.specs.Client.{Standing, Invokes, Commits, Polls, Seals, Syncs, least_above, is_in_the_way, in_the_way, decided, is_done}
-use Rattle.vic_rules.specs.History.{standing, path, AreSteps, Completion, completions}
+use Rattle.vic_rules.specs.History.{standing, path, Completion, completions}
 use Rattle.vic_rules.specs.Views.{confirmed, confirmed_calls, shown_as, left_by, outcome_leaves, Explains, IsLegal}
 use Rattle.vic_rules.specs.Trust.{texts_made}
 use Rattle.vic_laws.proofs.Words.{all_at}
@@ -25,14 +24,14 @@ use Rattle.vic_laws.specs.OrderClaims.{CompletedAs}
 use Rattle.vic_laws.proofs.Calls.{Grows}
 use Rattle.vic_laws.proofs.Complete.{answered_completion}
 use Rattle.vic_laws.proofs.OwnLaid.{OwnOnes, own_ones}
-use Rattle.vic_order.specs.Order.{Ordered, Server, size, sealed_count}
+use Rattle.vic_order.specs.Order.{Ordered, Server, sealed_count}
 use Rattle.vic_order.specs.Fates.{entries, fate, dictionary_by}
-use Rattle.vic_order.specs.Honest.{World, Event, IsHonestRun, world_after}
+use Rattle.vic_order.specs.Honest.{World, world_after}
 use Rattle.vic_honest.proofs.Words.{entries-joined, length-entries, all-second}
 use Rattle.vic_honest.proofs.Standing.{EntryFits, WorldFits, Doing, Rests, Sends, Gets}
 use Rattle.vic_honest.proofs.Owns.{AllOn, AllOn-at, NoneOf, same_end}
 use Rattle.vic_honest.proofs.Deciding.{dictionary-next, none_above, not_chosen, no_conflict}
-use Rattle.vic_honest.proofs.Knowing.{IsOrdered, IsPast, Does, ServerKnows, ClientKnows}
+use Rattle.vic_honest.proofs.Knowing.{IsOrdered, IsPast, Does, ClientKnows}
 use Rattle.vic_honest.proofs.Learning.{IsFated}
 use Rattle.vic_honest.proofs.Known.{WorldKnows}
 use Rattle.vic_honest.proofs.Runs.{leaves_so, run_fits, run_knows}
@@ -88,7 +87,7 @@ confirmed_leave cs o (x ∷ low) fated quiet =
       | Some c ↦ λ e.
           let y : Shown = record { entry = x.entry; outcome = c.outcome } in
           let leaves : left_by (y ∷ v) ≡ (if is_done (fate x low) then after (left_by v) x.entry.op else left_by v) =
-              left-next y v ∙ leaves_so (left_by v) y c.outcome ∙ ap (λ z. if is_done z then after (left_by v) x.entry.op else left_by v) (fated.0 c e) in
+          left-next y v ∙ leaves_so (left_by v) y c.outcome ∙ ap (λ z. if is_done z then after (left_by v) x.entry.op else left_by v) (fated.0 c e) in
           subst (λ d. Alike o d (if is_done (fate x low) then after (dictionary_by low) x.entry.op else dictionary_by low)) (sym leaves)
           (same_step o x.entry.op (left_by v) (dictionary_by low) (is_done (fate x low)) rest)
     ] refl))
@@ -117,8 +116,11 @@ confirmed_legal cs (x ∷ low) fated clear =
     subst IsLegal (sym (calls-next cs x low))
     (elim (confirmed cs (entries (x ∷ low))) as (λ c. confirmed cs (entries (x ∷ low)) ≡ c → IsLegal (shown_as x.entry c ++ v)) [
       | None ↦ λ e. rest
-      | Some c ↦ λ e. (rest, subst (λ z. Explains (left_by v) (record { entry = x.entry; outcome = z }) z) (sym (fated.0 c e))
-          (fate_explained x low (left_by v) (λ free. sym (reply_alike x.entry.op (left_by v) (dictionary_by low) (confirmed_leave cs x.entry.op low fated.1 (clear.0 free))))))
+      | Some c ↦ λ e. (
+        rest,
+        subst (λ z. Explains (left_by v) (record { entry = x.entry; outcome = z }) z) (sym (fated.0 c e))
+            (fate_explained x low (left_by v) (λ free. sym (reply_alike x.entry.op (left_by v) (dictionary_by low) (confirmed_leave cs x.entry.op low fated.1 (clear.0 free))))),
+      )
     ] refl)
 
 -- ---- in a world
@@ -217,30 +219,32 @@ module _ (g : Group) (w : World) (fit : WorldFits g w) (know : WorldKnows g w) w
 
   fated_on : (above low : List Ordered) → w.server.log ≡ above ++ low → Fated cs low
   fated_on above [] is = tt
-  fated_on above (x ∷ low) is =
-      ((λ c e.
+  fated_on above (x ∷ low) is = (
+    (λ c e.
         let tells = confirmed_tells cs (entries (x ∷ low)) c e in
         let f : IsFated w.server.log c = all_at (IsFated w.server.log) cs c know.fates tells.0 in
         let long : length (x ∷ low) ≡ length (f.o ∷ f.below) = sym (length-entries (x ∷ low)) ∙ ap length (sym tells.1 ∙ f.prefix) ∙ length-entries (f.o ∷ f.below) in
         let same : x ∷ low ≡ f.o ∷ f.below = same_end above (x ∷ low) f.newer (f.o ∷ f.below) (sym is ∙ f.is) long in
         f.outcome ∙ ap top_fate (sym same)),
-       fated_on (above ++ x ∷ []) low (is ∙ sym (append_assoc above (x ∷ []) low)))
+    fated_on (above ++ x ∷ []) low (is ∙ sym (append_assoc above (x ∷ []) low)),
+  )
 
   -- a done call has no open one in its way
   quiet_on : (above : List Ordered) (x : Ordered) (low : List Ordered) → w.server.log ≡ above ++ x ∷ low → in_the_way x.entry.client x.entry.op x.sealed_then (entries low) ≡ None
       → (mid rest : List Ordered) → low ≡ mid ++ rest → Quiet cs x.entry.op rest
   quiet_on above x low is free mid [] e = tt
-  quiet_on above x low is free mid (u ∷ rest) e =
-      ((λ none.
+  quiet_on above x low is free mid (u ∷ rest) e = (
+    (λ none.
         let at : w.server.log ≡ (above ++ x ∷ mid) ++ u ∷ rest = is ∙ ap (λ l. above ++ x ∷ l) e ∙ sym (append_assoc above (x ∷ mid) (u ∷ rest)) in
         let opened = unconfirmed_open (above ++ x ∷ mid) u rest at none in
         let past : x.sealed_then ≤ sealed_count w.server = (all-second (IsPast (sealed_count w.server)) above (x ∷ low) (subst (AllByRecursion (IsPast (sealed_count w.server))) is know.server.past)).0 in
         let away : is_in_the_way x.entry.client x.entry.op u.entry ≡ false =
-            none_at x.sealed_then (is_in_the_way x.entry.client x.entry.op) mid u rest (ap (λ l. in_the_way x.entry.client x.entry.op x.sealed_then (entries l)) (sym e) ∙ free) (omega (arith, past, opened.0)) in
+        none_at x.sealed_then (is_in_the_way x.entry.client x.entry.op) mid u rest (ap (λ l. in_the_way x.entry.client x.entry.op x.sealed_then (entries l)) (sym e) ∙ free) (omega (arith, past, opened.0)) in
         let other : nat_eq u.entry.client x.entry.client ≡ false =
-            ne_eqb u.entry.client x.entry.client (λ same. eqb-false x.entry.client u.entry.client (NotOf-at u.entry.client above x mid opened.1) (sym same)) in
+        ne_eqb u.entry.client x.entry.client (λ same. eqb-false x.entry.client u.entry.client (NotOf-at u.entry.client above x mid opened.1) (sym same)) in
         no_conflict (nat_eq u.entry.client x.entry.client) (conflicts u.entry.op x.entry.op) other away),
-       quiet_on above x low is free (mid ++ u ∷ []) rest (e ∙ sym (append_assoc mid (u ∷ []) rest)))
+    quiet_on above x low is free (mid ++ u ∷ []) rest (e ∙ sym (append_assoc mid (u ∷ []) rest)),
+  )
 
   clear_on : (above low : List Ordered) → w.server.log ≡ above ++ low → Clear cs low
   clear_on above [] is = tt

@@ -1,5 +1,5 @@
 -- The confirmed calls of any path show only calls, show a completed call of the path once, and keep real-time order.
-use Rattle.std.proofs.Common.{◌≡◌, ℕ, suc, ◌+◌, ◌<◌, ◌^◌, ◌⊎◌, inl, inr, Bool, true, false, cond, List, [], ◌∷◌, ◌++◌, length, Option, Some, None, nat_eq, refl, sym, ◌∙◌, ap, subst, arith, append_assoc, eq-eqb, eqb-true, count_by, length-append}
+use Rattle.std.proofs.Common.{◌≡◌, ℕ, ◌+◌, ◌<◌, ◌^◌, ◌⊎◌, inl, inr, Bool, true, false, cond, List, [], ◌∷◌, ◌++◌, Some, nat_eq, refl, sym, ◌∙◌, ap, subst, arith, append_assoc, eq-eqb, eqb-true, count_by}
 use Rattle.std.proofs.lemmas.Bool.{cases_Bool, and_parts, and_from}
 use Rattle.std.proofs.lemmas.List.Sums.{sum_by-append, sum_by-cons}
 use Rattle.vic_dict.specs.declared.op.Outcome.{Outcome}
@@ -18,7 +18,7 @@ use Rattle.vic_laws.specs.OrderClaims.{CompletedAs}
 use Rattle.vic_laws.proofs.Words.{in_right}
 use Rattle.vic_laws.proofs.Standings.{earlier_steps}
 use Rattle.vic_laws.proofs.Calls.{Grows, completion_stays, completion_answers, newest_entry}
-use Rattle.vic_laws.proofs.Agreement.{confirmed_by, confirmed_tells, same_completion, ShownAt, shown_at, shown_in, shown_entry, shown_list, splits_at, confirmed_more}
+use Rattle.vic_laws.proofs.Agreement.{confirmed_by, confirmed_tells, same_completion, ShownAt, shown_in, shown_entry, shown_list, splits_at, confirmed_more}
 use Rattle.vic_laws.proofs.Complete.{answered_completion, is_completed, completions_stay, path_has, confirmed_below, not_twice}
 use Rattle.vic_laws.proofs.RealTime.{forged_earlier, not_yet, ends_compare}
 

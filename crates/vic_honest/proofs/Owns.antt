@@ -1,17 +1,17 @@
 -- What a log determines: the root and the seal of each front, and a client's own calls with their fates.
-use Rattle.std.proofs.Common.{◌≡◌, ℕ, suc, zero, ◌+◌, ◌-◌, ◌<◌, ◌≤◌, Bool, true, false, cond, ◌&&◌, List, [], ◌∷◌, ◌++◌, length, drop, Option, Some, None, ◌⊎◌, inl, inr, refl, sym, ap, subst, ◌∙◌, arith, length-append, append_assoc, length-drop}
+use Rattle.std.proofs.Common.{◌≡◌, ℕ, suc, ◌-◌, ◌<◌, ◌≤◌, Bool, true, false, cond, ◌&&◌, List, [], ◌∷◌, ◌++◌, length, drop, inl, inr, refl, sym, ap, subst, ◌∙◌, arith, length-append}
 use Rattle.std.specs.Prelude.{if◌then◌else◌, nat_eq, nat_lt}
 use Rattle.std.specs.List.{AllByRecursion, filter}
 use Rattle.std.proofs.lemmas.Bool.{lt-ltb, le-ltb, cases_lt, cases_Bool}
-use Rattle.std.proofs.lemmas.List.{append-nil, take-append-drop}
+use Rattle.std.proofs.lemmas.List.{append-nil}
 use Rattle.std.proofs.lemmas.List.Elements.{filter-append}
-use Rattle.vic_dict.specs.Lists.{front, newest}
+use Rattle.vic_dict.specs.Lists.{front}
 use Rattle.vic_wire.specs.declared.message.Seal.{Seal}
 use Rattle.vic_wire.specs.Hashes.{Group, tag_of}
 use Rattle.vic_wire.specs.Trees.{dictionary_root}
 use Rattle.vic_rules.specs.declared.state.Own.{Own}
 use Rattle.vic_rules.specs.Client.{is_done, seal_text_on, digest}
-use Rattle.vic_laws.proofs.Words.{all_weaker, all_append}
+use Rattle.vic_laws.proofs.Words.{all_append}
 use Rattle.vic_order.specs.Order.{Ordered, no_seal}
 use Rattle.vic_order.specs.Fates.{entries, fate, dictionary_by}
 use Rattle.vic_honest.proofs.Words.{front-joined, all-first, all-second}
@@ -141,9 +141,9 @@ owns-case me base o below =
     let x : List Own = owns me base below ++ own_of o below ∷ [] in
     elim (cases_Bool (nat_eq o.entry.client me)) [
       | inl mine ↦ elim (cases_lt base (length (o ∷ below))) [
-          | inl higher ↦ is_own mine higher (chosen a b x (owns me base below) mine (lt-ltb base (length (o ∷ below)) higher))
-          | inr low ↦ is_low low (not_second a b x (owns me base below) (le-ltb base (length (o ∷ below)) low))
-        ]
+        | inl higher ↦ is_own mine higher (chosen a b x (owns me base below) mine (lt-ltb base (length (o ∷ below)) higher))
+        | inr low ↦ is_low low (not_second a b x (owns me base below) (le-ltb base (length (o ∷ below)) low))
+      ]
       | inr other ↦ is_others other (not_first a b x (owns me base below) other)
     ]
 
@@ -206,12 +206,12 @@ owns-filter me base higher (o ∷ below) le = elim (owns-case me higher o below)
       ∙ ap (λ xs. xs ++ own_of o below ∷ []) (owns-filter me base higher below le) ∙ sym e
   | is_others other e ↦ ap (filter (above higher)) (owns-other me base o below other) ∙ owns-filter me base higher below le ∙ sym e
   | is_low l e ↦ elim (owns-case me base o below) [
-      | is_own m h f ↦
-          ap (filter (above higher)) f ∙ filter-push higher (owns me base below) (own_of o below) false (le-ltb higher (length (o ∷ below)) l)
-          ∙ append-nil (filter (above higher) (owns me base below)) ∙ owns-filter me base higher below le ∙ sym e
-      | is_others other f ↦ ap (filter (above higher)) f ∙ owns-filter me base higher below le ∙ sym e
-      | is_low l f ↦ ap (filter (above higher)) f ∙ owns-filter me base higher below le ∙ sym e
-    ]
+    | is_own m h f ↦
+        ap (filter (above higher)) f ∙ filter-push higher (owns me base below) (own_of o below) false (le-ltb higher (length (o ∷ below)) l)
+        ∙ append-nil (filter (above higher) (owns me base below)) ∙ owns-filter me base higher below le ∙ sym e
+    | is_others other f ↦ ap (filter (above higher)) f ∙ owns-filter me base higher below le ∙ sym e
+    | is_low l f ↦ ap (filter (above higher)) f ∙ owns-filter me base higher below le ∙ sym e
+  ]
 ]
 
 filter-all : (n : ℕ) (xs : List Own) → AllByRecursion (IsAbove n) xs → filter (above n) xs ≡ xs
@@ -245,13 +245,13 @@ pub owns-more : (me base : ℕ) (P Q : ℕ → Type 0) (log : List Ordered) → 
 owns-more me base P Q [] h f = subst (AllByRecursion (λ x. Q x.position)) (sym (owns-nil me base)) tt
 owns-more me base P Q (o ∷ below) h f =
     let f_below : (new : List Ordered) (x : Ordered) (low : List Ordered) → below ≡ new ++ x ∷ low → nat_eq x.entry.client me ≡ true → P (length (x ∷ low)) → Q (length (x ∷ low)) =
-        λ new x low is. f (o ∷ new) x low (ap (λ l. o ∷ l) is) in
+    λ new x low is. f (o ∷ new) x low (ap (λ l. o ∷ l) is) in
     elim (owns-case me base o below) [
       | is_own m higher e ↦
           let h2 : AllByRecursion (λ x. P x.position) (owns me base below ++ own_of o below ∷ []) = subst (AllByRecursion (λ x. P x.position)) e h in
           subst (AllByRecursion (λ x. Q x.position)) (sym e) (all_append (λ x. Q x.position) (owns me base below) (own_of o below ∷ [])
-            (owns-more me base P Q below (all-first (λ x. P x.position) (owns me base below) (own_of o below ∷ []) h2) f_below)
-            (f [] o below refl m (all-second (λ x. P x.position) (owns me base below) (own_of o below ∷ []) h2).0, tt))
+          (owns-more me base P Q below (all-first (λ x. P x.position) (owns me base below) (own_of o below ∷ []) h2) f_below)
+          (f [] o below refl m (all-second (λ x. P x.position) (owns me base below) (own_of o below ∷ []) h2).0, tt))
       | is_others other e ↦ subst (AllByRecursion (λ x. Q x.position)) (sym e) (owns-more me base P Q below (subst (AllByRecursion (λ x. P x.position)) e h) f_below)
       | is_low l e ↦ subst (AllByRecursion (λ x. Q x.position)) (sym e) (owns-more me base P Q below (subst (AllByRecursion (λ x. P x.position)) e h) f_below)
     ]

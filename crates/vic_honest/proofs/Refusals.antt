@@ -1,11 +1,9 @@
 -- The server refuses only calls that would pass a limit.
-use Rattle.std.proofs.Common.{◌≡◌, ℕ, ◌<◌, ◌≤◌, ◌^◌, Bool, List, [], ◌∷◌, ◌++◌, length, Some, refl, sym, ap, subst, ◌∙◌}
+use Rattle.std.proofs.Common.{◌≡◌, ℕ, ◌<◌, ◌≤◌, ◌^◌, Bool, List, [], ◌∷◌, ◌++◌, length, Some, sym, ap, subst, ◌∙◌}
 use Rattle.vic_dict.specs.declared.op.Op.{Op}
-use Rattle.vic_wire.specs.declared.message.ToClient.{ToClient}
 use Rattle.vic_wire.specs.declared.message.ToClient.TheVariants as say
-use Rattle.vic_wire.specs.declared.message.ToServer.TheVariants as ask
 use Rattle.vic_wire.specs.Hashes.{Group}
-use Rattle.vic_wire.specs.Messages.{request_text, answer_text}
+use Rattle.vic_wire.specs.Messages.{request_text}
 use Rattle.vic_wire.specs.Reading.{read_request}
 use Rattle.vic_rules.specs.declared.state.Awaiting.{Awaiting}
 use Rattle.vic_rules.specs.declared.state.Awaiting.TheVariants as awaits
@@ -13,15 +11,15 @@ use Rattle.vic_rules.specs.Client.{Standing, Sending, Invokes, Commits, Polls, S
 use Rattle.vic_rules.specs.History.{standing}
 use Rattle.vic_rules.specs.Trust.{texts_made}
 use Rattle.vic_order.specs.Order.{Ordered, Server, Answered, serve, serve_read}
-use Rattle.vic_order.specs.Honest.{Event, World, IsHonestRun, world_after}
+use Rattle.vic_order.specs.Honest.{World, world_after}
 use Rattle.vic_spellings.proofs.SpelledRequests.{request_again}
 use Rattle.vic_honest.specs.Claims.{RefusedAtLimit, RefusalsAreLimits}
 use Rattle.vic_honest.proofs.Standing.{WorldFits, ClientFits, Doing, Rests, Sends, Gets, up_by}
 use Rattle.vic_honest.proofs.Worlds.{room_left}
-use Rattle.vic_honest.proofs.Knowing.{ServerKnows, Keeps, Does, ClientKnows, RefusalComes}
+use Rattle.vic_honest.proofs.Knowing.{Keeps, Does, RefusalComes}
 use Rattle.vic_honest.proofs.Answering.{Answers}
 use Rattle.vic_honest.proofs.Requests.{request_answers, invoke_refused}
-use Rattle.vic_honest.proofs.Known.{WorldKnows, no_item, request_spelled, served_as}
+use Rattle.vic_honest.proofs.Known.{WorldKnows, request_spelled}
 use Rattle.vic_honest.proofs.Runs.{run_fits, run_knows}
 
 first_is : (q : List (List ℕ)) (x y : List ℕ) (rest : List (List ℕ)) → q ≡ x ∷ [] → q ≡ y ∷ rest → x ≡ y
@@ -77,7 +75,7 @@ module _ (g : Group) (w : World) (fit : WorldFits g w) (know : WorldKnows g w) (
           let same = first_is (w.up me) (request_text (request_of g me t sending)) payload rest up up_is in
           let room : length t.path < 2 ^ 32 = room_left g (texts_made g w.history) w.server t b.seen b.newer fit.server b.is b.path in
           let read : read_request payload ≡ Some (request_of g me t sending) =
-              ap read_request (sym same) ∙ request_again (request_of g me t sending) (request_spelled g me w.server t seen newer b.fits room keeps sending d) in
+          ap read_request (sym same) ∙ request_again (request_of g me t sending) (request_spelled g me w.server t seen newer b.fits room keeps sending d) in
           refused_by seen newer keeps sending d r (read_as w.server payload sending r read refused) payload read
       by_doing seen newer keeps (Gets m) up d = absurd (none_first (w.up me) payload rest up up_is)
 

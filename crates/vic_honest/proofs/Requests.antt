@@ -1,35 +1,34 @@
 -- Each request of a client that stands well is served, and its answer is right.
-use Rattle.std.proofs.Common.{◌≡◌, ◌≢◌, ℕ, suc, zero, ◌+◌, ◌-◌, ◌*◌, ◌<◌, ◌≤◌, ◌^◌, Bool, true, false, cond, not, ◌&&◌, ◌||◌, List, [], ◌∷◌, ◌++◌, length, take, drop, min, Option, Some, None, ◌⊎◌, inl, inr, refl, sym, ap, subst, ◌∙◌, arith, length-append, length-drop, length-set, append_assoc}
-use Rattle.std.specs.Prelude.{if◌then◌else◌, nat_eq, nat_lt, nat_le, slice_set}
+use Rattle.std.proofs.Common.{◌≡◌, ℕ, suc, ◌+◌, ◌-◌, ◌<◌, ◌≤◌, Bool, true, false, not, ◌&&◌, ◌||◌, List, [], ◌∷◌, ◌++◌, length, take, drop, min, Some, None, inl, inr, refl, sym, ap, subst, ◌∙◌, arith, length-append, length-drop, length-set, append_assoc}
+use Rattle.std.specs.Prelude.{if◌then◌else◌, nat_eq, nat_lt, nat_le}
 use Rattle.std.specs.List.{AllByRecursion}
-use Rattle.std.proofs.lemmas.Bool.{eqb-true, eqb-false, eq-eqb, ne_eqb, lt-ltb, le-ltb, le-leb, leb-true, and_from, not-true, ltb-false, cases_lt, cases_eq, cases_Bool}
+use Rattle.std.proofs.lemmas.Bool.{eqb-true, eqb-false, eq-eqb, ne_eqb, lt-ltb, le-leb, and_from, not-true, cases_eq}
 use Rattle.std.proofs.lemmas.List.{take-append-drop, drop-append-le}
-use Rattle.vic_dict.specs.Lists.{front, newest}
+use Rattle.vic_dict.specs.Lists.{front}
 use Rattle.vic_dict.specs.declared.op.Op.{Op}
-use Rattle.vic_dict.specs.Dictionary.{Dictionary, after}
+use Rattle.vic_dict.specs.Dictionary.{after}
 use Rattle.vic_wire.specs.declared.message.Digest32.{Digest32}
 use Rattle.vic_wire.specs.declared.message.Seal.{Seal}
 use Rattle.vic_wire.specs.declared.message.ToClient.{ToClient}
 use Rattle.vic_wire.specs.declared.message.ToClient.TheVariants as say
-use Rattle.vic_wire.specs.declared.message.ToServer.{ToServer}
 use Rattle.vic_wire.specs.Texts.{invoke_text}
-use Rattle.vic_wire.specs.Hashes.{Group, IsGroup, tag_of}
-use Rattle.vic_wire.specs.Parts.{part_text, part_for, bare_part}
+use Rattle.vic_wire.specs.Hashes.{Group}
+use Rattle.vic_wire.specs.Parts.{part_text, part_for}
 use Rattle.vic_rules.specs.declared.state.Awaiting.TheVariants as awaits
-use Rattle.vic_rules.specs.Client.{Standing, Sending, Invokes, Commits, Polls, Seals, Syncs, request_of, seal_text_on, commit_text_on, digest, tag_for, first_failing, is_write, is_done}
+use Rattle.vic_rules.specs.Client.{Standing, Sending, Invokes, Commits, Polls, Seals, Syncs, request_of, seal_text_on, commit_text_on, digest, tag_for, first_failing, is_done}
 use Rattle.vic_laws.proofs.Words.{all_weaker}
 use Rattle.vic_order.specs.declared.Stage.{Stage}
 use Rattle.vic_order.specs.declared.Stage.TheVariants as stage
-use Rattle.vic_order.specs.Order.{Ordered, Server, Member, Answered, says, becomes, guarded, unless_refused, size, sealed_count, no_seal, or_no_seal, seal_at_position, top_seal, ordered_at, commit_at, commit_in, member, set_member, set_stage, is_ready, is_open_at, is_inside, is_put, is_member, op_weight, weight, entries_above, turn, turn_on, update_part, with_commit, with_seal, owns_committed, applied_to, ordered_next, on_request, serve_read}
+use Rattle.vic_order.specs.Order.{Ordered, Server, Member, Answered, says, becomes, guarded, unless_refused, size, sealed_count, seal_at_position, top_seal, ordered_at, commit_at, member, set_stage, is_ready, is_open_at, is_inside, is_put, is_member, op_weight, weight, entries_above, turn, with_commit, with_seal, owns_committed, applied_to, ordered_next, serve_read}
 use Rattle.vic_order.specs.Fates.{entries, fate, dictionary_by}
 use Rattle.vic_honest.specs.Claims.{limit}
-use Rattle.vic_honest.proofs.Words.{front-joined, front-entries, length-entries, told, above-told}
-use Rattle.vic_honest.proofs.Standing.{Doing, Rests, Sends, Gets}
+use Rattle.vic_honest.proofs.Words.{length-entries, told, above-told}
+use Rattle.vic_honest.proofs.Standing.{Sends}
 use Rattle.vic_honest.proofs.Serving.{passed, test_passed, seal_text-joined}
-use Rattle.vic_honest.proofs.Owns.{AllOn, NoneOf, front-all, same_end, Cut, cut_at, At, item_at, root_on, seal_on, seals_on, length-seals_on, owns, owns-above, IsAbove}
+use Rattle.vic_honest.proofs.Owns.{same_end, Cut, cut_at, root_on, seal_on, seals_on, owns-above, IsAbove}
 use Rattle.vic_honest.proofs.Deciding.{dictionary-next}
-use Rattle.vic_honest.proofs.Knowing.{IsOrdered, IsPast, ServerKnows, Keeps, Calm, InvokeGoes, CommitGoes, SealGoes, ReplyComes, UpdateComes, EntriesCome, RefusalComes, Does}
-use Rattle.vic_honest.proofs.Frame.{Later, same_server, member-same, member-other}
+use Rattle.vic_honest.proofs.Knowing.{IsPast, ServerKnows, Keeps, Calm, InvokeGoes, CommitGoes, SealGoes, Does}
+use Rattle.vic_honest.proofs.Frame.{same_server, member-same, member-other}
 use Rattle.vic_honest.proofs.Answering.{Answers, count_is, top_is, base_is, seal_at-is, ordered_at-is, turn_does}
 
 -- a test that passes refuses nothing
@@ -111,24 +110,24 @@ module _ (g : Group) (s : Server) (k : ServerKnows g s) (me : ℕ) (above : 0 < 
       let member_is : member next me ≡ now = member-same mid me now above within in
       let opened : is_open_at (length t.path) (member s me).stage ≡ true = ap (is_open_at (length t.path)) go.stage ∙ eq-eqb (length seen) (length t.path) (sym length-path) in
       let there : (newer2 : List Ordered) (o2 : Ordered) (below2 : List Ordered) → s.log ≡ newer2 ++ o2 ∷ below2 → nat_eq (length t.path) (length (o2 ∷ below2)) ≡ true → o2 ∷ below2 ≡ go.o ∷ go.below =
-          λ newer2 o2 below2 is e. same_end newer2 (o2 ∷ below2) newer seen (sym is ∙ keeps.log) (sym (eqb-true (length t.path) (length (o2 ∷ below2)) e) ∙ length-path) ∙ go.top in
+      λ newer2 o2 below2 is e. same_end newer2 (o2 ∷ below2) newer seen (sym is ∙ keeps.log) (sym (eqb-true (length t.path) (length (o2 ∷ below2)) e) ∙ length-path) ∙ go.top in
       let knows : ServerKnows g next = record {
-            over = k.over;
-            base = k.base;
-            is = k.is;
-            members = length-set s.members (me - 1) now ∙ k.members;
-            ordered = k.ordered;
-            near = k.near;
-            seals = k.seals;
-            dictionary = k.dictionary;
-            fates = λ newer2 o2 below2 d is.
-                elim (nat_eq (length t.path) (length (o2 ∷ below2))) as (λ b. nat_eq (length t.path) (length (o2 ∷ below2)) ≡ b → (if b then Some done else commit_at s (length (o2 ∷ below2))) ≡ Some d → d ≡ is_done (fate o2 below2)) [
-                  | true ↦ λ e c. let same : done ≡ d = cc in sym same ∙ go.status ∙ ap status_of (sym (there newer2 o2 below2 is e))
-                  | false ↦ λ e c. k.fates newer2 o2 below2 d is c
-                ] refl;
-            unmade = λ n past. ap (λ b. if b then Some done else commit_at s n) (ne_eqb (length t.path) n (λ e. omega (arith, length-path, length-log))) ∙ k.unmade n past;
-            past = k.past;
-          } in
+        over = k.over;
+        base = k.base;
+        is = k.is;
+        members = length-set s.members (me - 1) now ∙ k.members;
+        ordered = k.ordered;
+        near = k.near;
+        seals = k.seals;
+        dictionary = k.dictionary;
+        fates = λ newer2 o2 below2 d is.
+            elim (nat_eq (length t.path) (length (o2 ∷ below2))) as (λ b. nat_eq (length t.path) (length (o2 ∷ below2)) ≡ b → (if b then Some done else commit_at s (length (o2 ∷ below2))) ≡ Some d → d ≡ is_done (fate o2 below2)) [
+              | true ↦ λ e c. let same : done ≡ d = cc in sym same ∙ go.status ∙ ap status_of (sym (there newer2 o2 below2 is e))
+              | false ↦ λ e c. k.fates newer2 o2 below2 d is c
+            ] refl;
+        unmade = λ n past. ap (λ b. if b then Some done else commit_at s n) (ne_eqb (length t.path) n (λ e. omega (arith, length-path, length-log))) ∙ k.unmade n past;
+        past = k.past;
+      } in
       subst Gives (sym (guard_ok s 6 (is_member s me) _ (is_inside-here (stage.Open (length seen)) go.stage refl) ∙ guard_ok s 5 (is_open_at (length t.path) (member s me).stage) a opened)) (record {
         new = [];
         knows = knows;
@@ -179,30 +178,30 @@ module _ (g : Group) (s : Server) (k : ServerKnows g s) (me : ℕ) (above : 0 < 
       let status : go.done ≡ is_done (fate o below) = k.fates (newer ++ go.above) o below go.done in_log go.committed in
       let root_is : t.root ≡ root_on (o ∷ below) = keeps.root ∙ ap root_on own_base in
       let test : (is_ready (member s me).stage && (nat_eq t.sealed (sealed_count s + 1) && owns_committed me (ordered_at s t.sealed) (commit_at s t.sealed))) ≡ true =
-          and_from (is_ready (member s me).stage) (nat_eq t.sealed (sealed_count s + 1) && owns_committed me (ordered_at s t.sealed) (commit_at s t.sealed)) (ap is_ready go.ready)
-          (and_from (nat_eq t.sealed (sealed_count s + 1)) (owns_committed me (ordered_at s t.sealed) (commit_at s t.sealed)) (eq-eqb t.sealed (sealed_count s + 1) (omega (arith, go.position, go.count)))
-            (ap (λ y. owns_committed me y (commit_at s t.sealed)) at ∙ ap (owns_committed me (Some o)) committed ∙ go.mine)) in
+      and_from (is_ready (member s me).stage) (nat_eq t.sealed (sealed_count s + 1) && owns_committed me (ordered_at s t.sealed) (commit_at s t.sealed)) (ap is_ready go.ready)
+      (and_from (nat_eq t.sealed (sealed_count s + 1)) (owns_committed me (ordered_at s t.sealed) (commit_at s t.sealed)) (eq-eqb t.sealed (sealed_count s + 1) (omega (arith, go.position, go.count)))
+      (ap (λ y. owns_committed me y (commit_at s t.sealed)) at ∙ ap (owns_committed me (Some o)) committed ∙ go.mine)) in
       let text_is : text ≡ seal_text_on g (entries (o ∷ below)) (length (o ∷ below)) (root_on (o ∷ below)) =
-          ap (λ p. seal_text_on g p t.sealed t.root) (keeps.path ∙ ap entries go.split) ∙ seal_text-joined g go.above (o ∷ below) t.sealed t.root (omega (arith, go.position))
-          ∙ ap (λ n. seal_text_on g (entries (o ∷ below)) n t.root) go.position ∙ ap (seal_text_on g (entries (o ∷ below)) (length (o ∷ below))) root_is in
+      ap (λ p. seal_text_on g p t.sealed t.root) (keeps.path ∙ ap entries go.split) ∙ seal_text-joined g go.above (o ∷ below) t.sealed t.root (omega (arith, go.position))
+      ∙ ap (λ n. seal_text_on g (entries (o ∷ below)) n t.root) go.position ∙ ap (seal_text_on g (entries (o ∷ below)) (length (o ∷ below))) root_is in
       let knows : ServerKnows g next = record {
-            over = newer ++ go.above;
-            base = o ∷ below;
-            is = in_log;
-            members = k.members;
-            ordered = k.ordered;
-            near = omega (arith, k.near, ap length base_below);
-            seals = ap (λ y. y ∷ s.seals) (seal_made-is g o below t.sealed t.root text go.position root_is text_is) ∙ ap (λ l. seal_on g (o ∷ below) ∷ l) (k.seals ∙ ap (seals_on g) base_below);
-            dictionary = ap (λ y. applied_to s.dictionary y (commit_at s t.sealed)) at ∙ ap (applied_to s.dictionary (Some o)) committed
-                ∙ ap (λ b. if b then after s.dictionary o.entry.op else s.dictionary) status
-                ∙ ap (λ d. if is_done (fate o below) then after d o.entry.op else d) (k.dictionary ∙ ap dictionary_by base_below) ∙ sym (dictionary-next o below);
-            fates = k.fates;
-            unmade = k.unmade;
-            past = all_weaker (IsPast (sealed_count s)) (IsPast (sealed_count next)) (λ y h. omega (arith, h)) s.log k.past;
-          } in
+        over = newer ++ go.above;
+        base = o ∷ below;
+        is = in_log;
+        members = k.members;
+        ordered = k.ordered;
+        near = omega (arith, k.near, ap length base_below);
+        seals = ap (λ y. y ∷ s.seals) (seal_made-is g o below t.sealed t.root text go.position root_is text_is) ∙ ap (λ l. seal_on g (o ∷ below) ∷ l) (k.seals ∙ ap (seals_on g) base_below);
+        dictionary = ap (λ y. applied_to s.dictionary y (commit_at s t.sealed)) at ∙ ap (applied_to s.dictionary (Some o)) committed
+            ∙ ap (λ b. if b then after s.dictionary o.entry.op else s.dictionary) status
+            ∙ ap (λ d. if is_done (fate o below) then after d o.entry.op else d) (k.dictionary ∙ ap dictionary_by base_below) ∙ sym (dictionary-next o below);
+        fates = k.fates;
+        unmade = k.unmade;
+        past = all_weaker (IsPast (sealed_count s)) (IsPast (sealed_count next)) (λ y h. omega (arith, h)) s.log k.past;
+      } in
       let counted : length keeps.base ≡ sealed_count next = omega (arith, ap length own_base, go.count) in
       subst Gives (sym (guard_ok s 6 (is_member s me) _ (is_inside-here stage.Ready go.ready refl)
-        ∙ guard_ok s 5 (is_ready (member s me).stage && (nat_eq t.sealed (sealed_count s + 1) && owns_committed me (ordered_at s t.sealed) (commit_at s t.sealed))) a test)) (record {
+      ∙ guard_ok s 5 (is_ready (member s me).stage && (nat_eq t.sealed (sealed_count s + 1) && owns_committed me (ordered_at s t.sealed) (commit_at s t.sealed))) a test)) (record {
         new = [];
         knows = knows;
         keeps = record {
@@ -255,12 +254,12 @@ module _ (g : Group) (s : Server) (k : ServerKnows g s) (me : ℕ) (above : 0 < 
       let d : Cut k.base n = cut_at k.base n (omega (arith, count)) in
       let log_split : s.log ≡ later ++ (between ++ seen) = keeps.log ∙ ap (λ l. l ++ seen) (sym (take-append-drop past newer)) ∙ append_assoc later between seen in
       let same : d.base ≡ c.base = same_end (k.over ++ d.over) d.base (later ++ c.over) c.base
-          (append_assoc k.over d.over d.base ∙ ap (λ l. k.over ++ l) (sym d.is) ∙ sym k.is ∙ log_split ∙ ap (λ l. later ++ l) c.is ∙ sym (append_assoc later c.over c.base)) (d.long ∙ sym c.long) in
+      (append_assoc k.over d.over d.base ∙ ap (λ l. k.over ++ l) (sym d.is) ∙ sym k.is ∙ log_split ∙ ap (λ l. later ++ l) c.is ∙ sym (append_assoc later c.over c.base)) (d.long ∙ sym c.long) in
       let seal_is : x ≡ seal_on g c.base = seal_at-is g s d.over d.base n (k.seals ∙ ap (seals_on g) d.is) (sym d.long) ∙ ap (seal_on g) same in
       let told_is : entries_above (length t.path) (front e s.log) ≡ told between =
-          ap (λ m. entries_above m (drop past s.log)) length-path ∙ ap (λ l. entries_above (length seen) l) (ap (drop past) keeps.log ∙ drop-append-le past newer seen few) ∙ above-told between seen in
+      ap (λ m. entries_above m (drop past s.log)) length-path ∙ ap (λ l. entries_above (length seen) l) (ap (drop past) keeps.log ∙ drop-append-le past newer seen few) ∙ above-told between seen in
       let test : (is_ready (member s me).stage && nat_le (length t.path) (size s)) ≡ true =
-          and_from (is_ready (member s me).stage) (nat_le (length t.path) (size s)) (ap is_ready calm.ready) (le-leb (length t.path) (size s) (omega (arith, length-path, length-log))) in
+      and_from (is_ready (member s me).stage) (nat_le (length t.path) (size s)) (ap is_ready calm.ready) (le-leb (length t.path) (size s) (omega (arith, length-path, length-log))) in
       subst Gives (sym (guard_ok s 6 (is_member s me) _ (is_inside-here stage.Ready calm.ready refl) ∙ guard_ok s 5 (is_ready (member s me).stage && nat_le (length t.path) (size s)) a test)) (record {
         new = [];
         knows = k;
@@ -297,94 +296,94 @@ module _ (g : Group) (s : Server) (k : ServerKnows g s) (me : ℕ) (above : 0 < 
       let b1 : Bool = nat_le ((size s + 1) - length t.path) 8192 in
       let rest : List (ℕ × Bool) = (4, not (nat_eq (size s) 1048576)) ∷ (2, b2) ∷ (3, b3) ∷ (1, b1) ∷ [] in
       let test : b5 ≡ true =
-          and_from (is_ready (member s me).stage) (nat_lt (member s me).last n && nat_le (length t.path) (size s)) (ap is_ready go.calm.ready)
-          (and_from (nat_lt (member s me).last n) (nat_le (length t.path) (size s)) (lt-ltb (member s me).last n go.new) (le-leb (length t.path) (size s) (omega (arith, length-path, length-log)))) in
+      and_from (is_ready (member s me).stage) (nat_lt (member s me).last n && nat_le (length t.path) (size s)) (ap is_ready go.calm.ready)
+      (and_from (nat_lt (member s me).last n) (nat_le (length t.path) (size s)) (lt-ltb (member s me).last n go.new) (le-leb (length t.path) (size s) (omega (arith, length-path, length-log)))) in
       let at_rest : first_failing ((5, b5) ∷ rest) ≡ first_failing rest = ap (λ b. if b then first_failing rest else Some 5) test in
       let member_is : member next me ≡ now = member-same (record s { log = x ∷ s.log }) me now above within in
       let told_is : entries_above (length t.path) (x ∷ s.log) ≡ told (x ∷ newer) =
-          ap (λ m. entries_above m (x ∷ s.log)) length-path ∙ ap (λ l. entries_above (length seen) (x ∷ l)) keeps.log ∙ above-told (x ∷ newer) seen in
+      ap (λ m. entries_above m (x ∷ s.log)) length-path ∙ ap (λ l. entries_above (length seen) (x ∷ l)) keeps.log ∙ above-told (x ∷ newer) seen in
       subst Gives (sym (guard_ok s 6 (is_member s me) _ (is_inside-here stage.Ready go.calm.ready refl)))
       (passed Gives s (first_failing ((5, b5) ∷ rest)) (becomes next answer)
-        (λ r e. record {
-          new = [];
-          knows = k;
-          keeps = keeps;
-          does = record {
-            number = n;
-            op = o;
-            load = false;
-            awaiting = go.awaiting;
-            limit = failing (λ m. (0 < m) × (m ≤ 4)) rest r ((omega arith, omega arith), ((omega arith, omega arith), ((omega arith, omega arith), ((omega arith, omega arith), tt)))) (sym at_rest ∙ e);
-            calm = go.calm;
-          };
-          others = λ j higher apart. same_server j s;
-        })
-        (λ e.
-          let p4 = test_passed (not (nat_eq (size s) 1048576)) 4 (first_failing ((2, b2) ∷ (3, b3) ∷ (1, b1) ∷ [])) (sym at_rest ∙ e) in
-          let p2 = test_passed b2 2 (first_failing ((3, b3) ∷ (1, b1) ∷ [])) p4.1 in
-          let full : size s - sealed_count s ≡ 1024 → ⊥ = eqb-false (size s - sealed_count s) 1024 (not-true (nat_eq (size s - sealed_count s) 1024) p2.0) in
-          let room : size s + 1 ≤ length k.base + 1024 = more_room (size s) (sealed_count s) (length k.base) count k.near full in
-          record {
-            new = x ∷ [];
-            knows = record {
-              over = x ∷ k.over;
-              base = k.base;
-              is = ap (λ l. x ∷ l) k.is;
-              members = length-set s.members (me - 1) now ∙ k.members;
-              ordered = (record { member = upto; tag = refl; near = omega (arith, room, count) }, k.ordered);
-              near = omega (arith, room);
-              seals = k.seals;
-              dictionary = k.dictionary;
-              fates = new_fates x;
-              unmade = λ m past. k.unmade m (omega arith);
-              past = (omega arith, k.past);
-            };
-            keeps = record {
-              over = keeps.over;
-              base = keeps.base;
-              log = ap (λ l. x ∷ l) keeps.log;
-              path = keeps.path;
-              going = keeps.going;
-              cut = keeps.cut;
-              sealed = keeps.sealed;
-              root = keeps.root;
-              own = keeps.own;
-              unsealed = keeps.unsealed;
-              last = subst (λ m. m.last ≤ t.calls) (sym member_is) (omega (arith, go.number));
-            };
-            does = record {
-              later = [];
-              o = x;
-              between = newer;
-              over = k.over;
-              base = k.base;
-              number = n;
-              op = o;
-              load = false;
-              split = refl;
-              cut = sym keeps.log ∙ k.is;
-              awaiting = go.awaiting;
-              entry = refl;
-              later_others = tt;
-              others = go.calm.others;
-              sealed_then = count;
-              from = omega (arith, go.calm.sealed, count);
-              upto = omega (arith, count);
-              higher = omega (arith, count, length-base, ap length keeps.log);
-              stage = ap (λ m. m.stage) member_is ∙ ap stage.Open (omega (arith, ap length keeps.log));
-              message = ap (λ y. say.Reply y (entries_above (length t.path) (x ∷ s.log)) (part_for s.dictionary o)) (top_is g s k)
-                  ∙ ap (λ ts. say.Reply (seal_on g k.base) ts (part_text s.dictionary)) told_is ∙ ap (λ d. say.Reply (seal_on g k.base) (told (x ∷ newer)) (part_text d)) k.dictionary;
-            };
-            others = λ j higher apart. record {
-              new = x ∷ [];
-              grown = refl;
-              others = (ne_eqb me j (λ same. apart (sym same)), tt);
-              count = omega arith;
-              same = member-other (record s { log = x ∷ s.log }) me j now above higher apart;
-              commits = λ newer2 o2 below2 is theirs. refl;
-              passes = λ newer2 o2 below2 is theirs low. low;
-            };
-          }))
+      (λ r e. record {
+        new = [];
+        knows = k;
+        keeps = keeps;
+        does = record {
+          number = n;
+          op = o;
+          load = false;
+          awaiting = go.awaiting;
+          limit = failing (λ m. (0 < m) × (m ≤ 4)) rest r ((omega arith, omega arith), ((omega arith, omega arith), ((omega arith, omega arith), ((omega arith, omega arith), tt)))) (sym at_rest ∙ e);
+          calm = go.calm;
+        };
+        others = λ j higher apart. same_server j s;
+      })
+      (λ e.
+      let p4 = test_passed (not (nat_eq (size s) 1048576)) 4 (first_failing ((2, b2) ∷ (3, b3) ∷ (1, b1) ∷ [])) (sym at_rest ∙ e) in
+      let p2 = test_passed b2 2 (first_failing ((3, b3) ∷ (1, b1) ∷ [])) p4.1 in
+      let full : size s - sealed_count s ≡ 1024 → ⊥ = eqb-false (size s - sealed_count s) 1024 (not-true (nat_eq (size s - sealed_count s) 1024) p2.0) in
+      let room : size s + 1 ≤ length k.base + 1024 = more_room (size s) (sealed_count s) (length k.base) count k.near full in
+      record {
+        new = x ∷ [];
+        knows = record {
+          over = x ∷ k.over;
+          base = k.base;
+          is = ap (λ l. x ∷ l) k.is;
+          members = length-set s.members (me - 1) now ∙ k.members;
+          ordered = (record { member = upto; tag = refl; near = omega (arith, room, count) }, k.ordered);
+          near = omega (arith, room);
+          seals = k.seals;
+          dictionary = k.dictionary;
+          fates = new_fates x;
+          unmade = λ m past. k.unmade m (omega arith);
+          past = (omega arith, k.past);
+        };
+        keeps = record {
+          over = keeps.over;
+          base = keeps.base;
+          log = ap (λ l. x ∷ l) keeps.log;
+          path = keeps.path;
+          going = keeps.going;
+          cut = keeps.cut;
+          sealed = keeps.sealed;
+          root = keeps.root;
+          own = keeps.own;
+          unsealed = keeps.unsealed;
+          last = subst (λ m. m.last ≤ t.calls) (sym member_is) (omega (arith, go.number));
+        };
+        does = record {
+          later = [];
+          o = x;
+          between = newer;
+          over = k.over;
+          base = k.base;
+          number = n;
+          op = o;
+          load = false;
+          split = refl;
+          cut = sym keeps.log ∙ k.is;
+          awaiting = go.awaiting;
+          entry = refl;
+          later_others = tt;
+          others = go.calm.others;
+          sealed_then = count;
+          from = omega (arith, go.calm.sealed, count);
+          upto = omega (arith, count);
+          higher = omega (arith, count, length-base, ap length keeps.log);
+          stage = ap (λ m. m.stage) member_is ∙ ap stage.Open (omega (arith, ap length keeps.log));
+          message = ap (λ y. say.Reply y (entries_above (length t.path) (x ∷ s.log)) (part_for s.dictionary o)) (top_is g s k)
+              ∙ ap (λ ts. say.Reply (seal_on g k.base) ts (part_text s.dictionary)) told_is ∙ ap (λ d. say.Reply (seal_on g k.base) (told (x ∷ newer)) (part_text d)) k.dictionary;
+        };
+        others = λ j higher apart. record {
+          new = x ∷ [];
+          grown = refl;
+          others = (ne_eqb me j (λ same. apart (sym same)), tt);
+          count = omega arith;
+          same = member-other (record s { log = x ∷ s.log }) me j now above higher apart;
+          commits = λ newer2 o2 below2 is theirs. refl;
+          passes = λ newer2 o2 below2 is theirs low. low;
+        };
+      }))
     where
       more_room : (n c b : ℕ) → c ≡ b → n ≤ b + 1024 → (n - c ≡ 1024 → ⊥) → n + 1 ≤ b + 1024
       more_room n c b e near full = omega arith
@@ -399,12 +398,12 @@ module _ (g : Group) (s : Server) (k : ServerKnows g s) (me : ℕ) (above : 0 < 
   invoke_refused n o go r refused =
       let b5 : Bool = is_ready (member s me).stage && (nat_lt (member s me).last n && nat_le (length t.path) (size s)) in
       let rest : List (ℕ × Bool) =
-          (4, not (nat_eq (size s) 1048576)) ∷ (2, not (nat_eq (size s - sealed_count s) 1024)) ∷ (3, not (is_put o) || nat_le (weight s + op_weight o) 8388608) ∷ (1, nat_le ((size s + 1) - length t.path) 8192) ∷ [] in
+      (4, not (nat_eq (size s) 1048576)) ∷ (2, not (nat_eq (size s - sealed_count s) 1024)) ∷ (3, not (is_put o) || nat_le (weight s + op_weight o) 8388608) ∷ (1, nat_le ((size s + 1) - length t.path) 8192) ∷ [] in
       let next : Server = ordered_next s me n o (tag_for g (invoke_text (record { client = me; seq = n; op = o }))) in
       let ordered : Answered = becomes next (say.Reply (top_seal s) (entries_above (length t.path) next.log) (part_for s.dictionary o)) in
       let test : b5 ≡ true =
-          and_from (is_ready (member s me).stage) (nat_lt (member s me).last n && nat_le (length t.path) (size s)) (ap is_ready go.calm.ready)
-          (and_from (nat_lt (member s me).last n) (nat_le (length t.path) (size s)) (lt-ltb (member s me).last n go.new) (le-leb (length t.path) (size s) (omega (arith, length-path, length-log)))) in
+      and_from (is_ready (member s me).stage) (nat_lt (member s me).last n && nat_le (length t.path) (size s)) (ap is_ready go.calm.ready)
+      (and_from (nat_lt (member s me).last n) (nat_le (length t.path) (size s)) (lt-ltb (member s me).last n go.new) (le-leb (length t.path) (size s) (omega (arith, length-path, length-log)))) in
       let at_rest : first_failing ((5, b5) ∷ rest) ≡ first_failing rest = ap (λ b. if b then first_failing rest else Some 5) test in
       let P : Answered → Type 0 = λ a. a.answer ≡ say.Refused r → limit s (length t.path) o ≡ Some r in
       subst P (sym (guard_ok s 6 (is_member s me) _ (is_inside-here stage.Ready go.calm.ready refl)))

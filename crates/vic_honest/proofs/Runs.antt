@@ -1,27 +1,23 @@
 -- What each honest run shows.
-use Rattle.std.proofs.Common.{◌≡◌, ℕ, ◌+◌, ◌-◌, ◌<◌, ◌≤◌, Bool, true, false, not, ◌||◌, List, [], ◌∷◌, ◌++◌, length, Option, Some, None, refl, sym, ap, subst, ◌∙◌}
+use Rattle.std.proofs.Common.{◌≡◌, ℕ, List, [], ◌∷◌, Option, Some, None, refl, sym, ap, subst, ◌∙◌}
 use Rattle.std.specs.Prelude.{if◌then◌else◌}
-use Rattle.std.specs.List.{AllByRecursion}
-use Rattle.vic_dict.specs.Lists.{IsIn}
-use Rattle.vic_dict.specs.declared.op.Op.{Op}
 use Rattle.vic_dict.specs.declared.op.Outcome.{Outcome}
 use Rattle.vic_dict.specs.declared.op.Outcome.TheVariants as outcome
-use Rattle.vic_dict.specs.Dictionary.{Dictionary, reply, after}
+use Rattle.vic_dict.specs.Dictionary.{Dictionary, after}
 use Rattle.vic_wire.specs.Hashes.{Group}
 use Rattle.vic_wire.specs.Trees.{dictionary_root}
-use Rattle.vic_rules.specs.declared.trace.TraceStep.{TraceStep}
 use Rattle.vic_rules.specs.declared.trace.Shown.{Shown}
 use Rattle.vic_rules.specs.Client.{is_done, decided, in_the_way}
-use Rattle.vic_rules.specs.History.{Completion, completions}
-use Rattle.vic_rules.specs.Views.{IsLegal, left_by, outcome_leaves, Explains}
+use Rattle.vic_rules.specs.History.{completions}
+use Rattle.vic_rules.specs.Views.{left_by, outcome_leaves, Explains}
 use Rattle.vic_laws.proofs.Words.{all_at}
-use Rattle.vic_order.specs.Order.{Ordered, Server, top_seal}
+use Rattle.vic_order.specs.Order.{Ordered}
 use Rattle.vic_order.specs.Fates.{entries, fate, dictionary_by}
 use Rattle.vic_order.specs.Honest.{Event, IsHonestRun, world_after}
-use Rattle.vic_honest.specs.Claims.{TagsWereMade, HistoriesAreLawful, PathsAreFronts, NobodyHalts, ReturnsAreFates, StandsAsFated, RefusedCallsAreFew, SealedDictionary, AbortsLeaveNothing, LogsAreLegal, shown_log}
+use Rattle.vic_honest.specs.Claims.{TagsWereMade, HistoriesAreLawful, PathsAreFronts, NobodyHalts, ReturnsAreFates, RefusedCallsAreFew, SealedDictionary, AbortsLeaveNothing, LogsAreLegal, shown_log}
 use Rattle.vic_honest.proofs.Standing.{WorldFits}
 use Rattle.vic_honest.proofs.Worlds.{all_fit}
-use Rattle.vic_honest.proofs.Owns.{root_on, seal_on}
+use Rattle.vic_honest.proofs.Owns.{root_on}
 use Rattle.vic_honest.proofs.Deciding.{dictionary-next}
 use Rattle.vic_honest.proofs.Checks.{seal_on-root}
 use Rattle.vic_honest.proofs.Answering.{count_is, top_is}
@@ -101,6 +97,7 @@ unfolding left_by dictionary_by
 logs_are_legal [] = (tt, refl)
 logs_are_legal (o ∷ below) =
     let rest = logs_are_legal below in
-    let x : Shown = record { entry = o.entry; outcome = fate o below } in
-    ((rest.0, subst (λ d. Explains d x (fate o below)) (sym rest.1) (fate_explains o below)),
-     leaves_so (left_by (shown_log below)) x (fate o below) ∙ ap (λ d. if is_done (fate o below) then after d o.entry.op else d) rest.1 ∙ sym (dictionary-next o below))
+    let x : Shown = record { entry = o.entry; outcome = fate o below } in (
+      (rest.0, subst (λ d. Explains d x (fate o below)) (sym rest.1) (fate_explains o below)),
+      leaves_so (left_by (shown_log below)) x (fate o below) ∙ ap (λ d. if is_done (fate o below) then after d o.entry.op else d) rest.1 ∙ sym (dictionary-next o below),
+    )

@@ -1,37 +1,32 @@
 -- Every world of an honest run is fit.
-use Rattle.std.proofs.Common.{◌≡◌, ℕ, suc, zero, ◌+◌, ◌<◌, ◌≤◌, ◌^◌, Bool, true, false, cond, ◌&&◌, List, [], ◌∷◌, ◌++◌, length, map, replicate, Option, Some, None, is_none, ◌⊎◌, inl, inr, refl, sym, ap, subst, ◌∙◌, arith, length-append, append_assoc}
-use Rattle.std.specs.Prelude.{if◌then◌else◌, nat_eq}
+use Rattle.std.proofs.Common.{◌≡◌, ℕ, ◌+◌, ◌<◌, ◌≤◌, ◌^◌, true, false, List, [], ◌∷◌, ◌++◌, length, Option, Some, None, is_none, inl, inr, refl, sym, ap, subst, ◌∙◌, arith, length-append, append_assoc}
+use Rattle.std.specs.Prelude.{if◌then◌else◌}
 use Rattle.std.specs.List.{AllByRecursion}
-use Rattle.std.proofs.lemmas.Bool.{eqb-true, eqb-false, eq-eqb, ne_eqb, cases_eq, and_parts}
+use Rattle.std.proofs.lemmas.Bool.{eq-eqb, ne_eqb, cases_eq, and_parts}
 use Rattle.sha2.proofs.Facts256.{length-sha256}
 use Rattle.vic_dict.specs.Lists.{IsIn, AreBytes}
-use Rattle.vic_dict.specs.Dictionary.{nothing, IsProper}
-use Rattle.vic_dict.specs.declared.op.Op.{Op}
 use Rattle.vic_wire.specs.declared.message.ToClient.{ToClient}
-use Rattle.vic_wire.specs.declared.message.ToServer.{ToServer}
 use Rattle.vic_wire.specs.declared.message.Seal.{Seal}
-use Rattle.vic_wire.specs.Hashes.{Group, IsGroup, empty_root}
-use Rattle.vic_wire.specs.Messages.{HasSpelling, HasRequestSpelling, request_text, answer_text}
-use Rattle.vic_wire.specs.Reading.{read_answer, read_request}
+use Rattle.vic_wire.specs.Hashes.{Group, IsGroup}
+use Rattle.vic_wire.specs.Messages.{request_text, answer_text}
 use Rattle.vic_rules.specs.declared.state.Awaiting.TheVariants as awaits
 use Rattle.vic_rules.specs.declared.trace.Input.{Input}
 use Rattle.vic_rules.specs.declared.trace.Input.TheVariants as input
 use Rattle.vic_rules.specs.declared.trace.TraceStep.{TraceStep}
-use Rattle.vic_rules.specs.Client.{Standing, Sending, Invokes, Commits, Polls, Seals, Syncs, Move, at_start, step, MayStep, IsIdle, request_of, payload_of, awaits_nothing, seal_of}
-use Rattle.vic_rules.specs.History.{standing, move_of, AreSteps, IsStep}
-use Rattle.vic_rules.specs.Trust.{IsForged, texts_made, texts_taken, text_sent, checked_texts, taken_by, took}
-use Rattle.vic_order.specs.Order.{Ordered, Server, Answered, fresh_server, ready, serve}
+use Rattle.vic_rules.specs.Client.{Standing, Sending, Invokes, Polls, Syncs, Move, step, MayStep, IsIdle, request_of, payload_of, awaits_nothing, seal_of}
+use Rattle.vic_rules.specs.History.{standing}
+use Rattle.vic_rules.specs.Trust.{IsForged, texts_made, text_sent, checked_texts, taken_by, took}
+use Rattle.vic_order.specs.Order.{Ordered, Server, Answered, serve}
 use Rattle.vic_order.specs.Fates.{entries}
-use Rattle.vic_order.specs.Honest.{Event, Asks, Serves, Takes, World, opening, changed, queued, steps, serves, takes, happens, MayBe, AreHonest, IsHonestRun, world_after}
+use Rattle.vic_order.specs.Honest.{Event, Asks, Serves, Takes, World, opening, changed, queued, steps, serves, takes, happens, MayBe, AreHonest, world_after}
 use Rattle.vic_spellings.proofs.Bytes.{bytes-sha256}
 use Rattle.vic_spellings.proofs.SpelledAnswers.{answer_again}
 use Rattle.vic_roots.proofs.Proper.{proper-nothing}
-use Rattle.vic_laws.proofs.Words.{all_weaker, all_append, in_either, in_left, in_right}
+use Rattle.vic_laws.proofs.Words.{all_weaker, in_right}
 use Rattle.vic_laws.proofs.Standings.{standing_moved, standing_kept}
 use Rattle.vic_honest.proofs.Words.{AreMade, Keeps, length-entries}
 use Rattle.vic_honest.proofs.Serving.{length-tag, seal-grows, Served, payload_served}
-use Rattle.vic_honest.proofs.Taking.{Moved, now_sends, now_rests, payload_taken}
-use Rattle.vic_honest.proofs.Taking as taking
+use Rattle.vic_honest.proofs.Taking.{Moved, now_sends, payload_taken}
 use Rattle.vic_honest.proofs.Standing.{EntryFits, SealFits, ServerFits, StandingFits, RequestGoes, AnswerComes, OfSeal, IsWithin, Doing, Rests, Sends, Gets, Does, IsBusy, up_by, down_by, ClientFits, WorldFits}
 
 -- ---- what stays as more is made and the log grows
