@@ -2,6 +2,7 @@
 use Rattle.std.proofs.Common.{◌≡◌, ℕ, suc, ◌<◌, ◌≤◌, Bool, true, false, List, [], ◌∷◌, ◌++◌, length, Option, Some, None, ◌⊎◌, inl, inr, refl, sym, ap, subst, ◌∙◌, arith, append_assoc}
 use Rattle.std.specs.Prelude.{if◌then◌else◌, nat_eq, nat_lt}
 use Rattle.std.specs.List.{AllByRecursion}
+use Rattle.std.proofs.lemmas.List.{append-nil}
 use Rattle.std.proofs.lemmas.Bool.{lt-ltb, eqb-false, ne_eqb, eq-eqb}
 use Rattle.vic_dict.specs.Lists.{IsIn}
 use Rattle.vic_dict.specs.declared.op.Op.{Op}
@@ -16,13 +17,13 @@ use Rattle.vic_commute.proofs.Commuting.{Alike, alike_itself, after_same, other_
 use Rattle.vic_rules.specs.declared.trace.Shown.{Shown}
 use Rattle.vic_rules.specs.Client.{Standing, Invokes, Commits, Polls, Seals, Syncs, least_above, is_in_the_way, in_the_way, decided, is_done}
 use Rattle.vic_rules.specs.History.{standing, path, Completion, completions}
-use Rattle.vic_rules.specs.Views.{confirmed, confirmed_calls, shown_as, left_by, outcome_leaves, Explains, IsLegal}
+use Rattle.vic_rules.specs.Views.{confirmed, confirmed_calls, last_prefix, view_of, shown_as, left_by, outcome_leaves, Explains, IsLegal}
 use Rattle.vic_rules.specs.Trust.{texts_made}
 use Rattle.vic_laws.proofs.Words.{all_at}
 use Rattle.vic_laws.proofs.Agreement.{confirmed_tells}
 use Rattle.vic_laws.specs.OrderClaims.{CompletedAs}
 use Rattle.vic_laws.proofs.Calls.{Grows}
-use Rattle.vic_laws.proofs.Complete.{answered_completion}
+use Rattle.vic_laws.proofs.Complete.{answered_completion, confirmed_below}
 use Rattle.vic_laws.proofs.OwnLaid.{OwnOnes, own_ones}
 use Rattle.vic_order.specs.Order.{Ordered, Server, sealed_count}
 use Rattle.vic_order.specs.Fates.{entries, fate, dictionary_by}
@@ -36,7 +37,7 @@ use Rattle.vic_honest.proofs.Learning.{IsFated}
 use Rattle.vic_honest.proofs.Known.{WorldKnows}
 use Rattle.vic_honest.proofs.Runs.{leaves_so, run_fits, run_knows}
 use Rattle.vic_honest.proofs.OnePath.{only_calls_at, shows_once, in_order_at}
-use Rattle.vic_honest.specs.Claims.{CallsAreOneHistory}
+use Rattle.vic_honest.specs.Claims.{CallsAreOneHistory, ViewsAreFronts}
 
 -- ---- what a log's confirmed calls leave
 
@@ -272,3 +273,24 @@ one_history g events run =
           shows_once g w.history fit.steps e o c (entries w.server.log) (world_has g w know c.by c.there);
       only = only_calls_at g w.history fit.steps (entries w.server.log);
     }
+
+-- ---- views
+
+-- the path up to a client's last completed call is a front of the log
+last_front : (me : ℕ) (log : List Ordered) (cs : List Completion) → AllByRecursion (IsFated log) cs → Grows (last_prefix me cs) (entries log)
+unfolding last_prefix
+last_front me log [] h = (entries log, sym (append-nil (entries log)))
+last_front me log (c ∷ cs) h =
+    elim (nat_eq c.client me) as (λ b. Grows (if b then c.prefix else last_prefix me cs) (entries log)) [
+      | true ↦ (entries h.0.newer, ap entries h.0.is ∙ entries-joined h.0.newer (h.0.o ∷ h.0.below) ∙ ap (λ p. entries h.0.newer ++ p) (sym h.0.prefix))
+      | false ↦ last_front me log cs h.1
+    ]
+
+pub views_are_fronts : ViewsAreFronts
+unfolding view_of
+views_are_fronts g events run me =
+    let w : World = world_after g events in
+    let cs : List Completion = completions g w.history in
+    let grown = last_front me w.server.log cs (run_knows g events run).fates in
+    let shown = confirmed_below cs grown.0 (last_prefix me cs) in
+    (shown.0, ap (confirmed_calls cs) grown.1 ∙ shown.1)

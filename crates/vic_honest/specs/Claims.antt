@@ -13,7 +13,7 @@ use Rattle.vic_rules.specs.declared.trace.TraceStep.{TraceStep}
 use Rattle.vic_rules.specs.declared.trace.Shown.{Shown}
 use Rattle.vic_rules.specs.Client.{first_failing, is_done}
 use Rattle.vic_rules.specs.History.{IsLawful, standing, Completion, completions}
-use Rattle.vic_rules.specs.Views.{confirmed_calls, IsLegal, left_by, IsInRealTime, HasAll, ShowsOnlyCalls}
+use Rattle.vic_rules.specs.Views.{confirmed_calls, view_of, IsLegal, left_by, IsInRealTime, HasAll, ShowsOnlyCalls}
 use Rattle.vic_rules.specs.Trust.{IsForged}
 use Rattle.vic_order.specs.Order.{Ordered, Server, size, sealed_count, top_seal, is_put, op_weight, weight, serve}
 use Rattle.vic_order.specs.Fates.{entries, fate, dictionary_by}
@@ -122,3 +122,8 @@ pub record IsOneHistory (g : Group) (h : List TraceStep) (v : List Shown) : Type
 abbrev pub CallsAreOneHistory : Type 0
 CallsAreOneHistory = (g : Group) (events : List Event) → IsHonestRun g events
     → IsOneHistory g (world_after g events).history (completed_in g (world_after g events).history (world_after g events).server.log)
+
+-- each client's view is what that history was at some time
+abbrev pub ViewsAreFronts : Type 0
+ViewsAreFronts = (g : Group) (events : List Event) → IsHonestRun g events → (me : ℕ)
+    → (newer : List Shown) × (completed_in g (world_after g events).history (world_after g events).server.log ≡ newer ++ view_of g me (world_after g events).history)

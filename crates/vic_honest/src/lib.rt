@@ -4,7 +4,7 @@
 //! and each is the contract of a function without parameters and with an empty body.
 #![tactic(auto)]
 
-ghost use Rattle.vic_honest.specs.Claims.{TagsWereMade, HistoriesAreLawful, PathsAreFronts, NobodyHalts, ReturnsAreFates, RefusedCallsAreFew, SealedDictionary, AbortsLeaveNothing, LogsAreLegal, CallsAreOneHistory, RefusalsAreLimits};
+ghost use Rattle.vic_honest.specs.Claims.{TagsWereMade, HistoriesAreLawful, PathsAreFronts, NobodyHalts, ReturnsAreFates, RefusedCallsAreFew, SealedDictionary, AbortsLeaveNothing, LogsAreLegal, CallsAreOneHistory, ViewsAreFronts, RefusalsAreLimits};
 
 /// Every tag that a client takes was made by a client before.
 pub fn tags_were_made()
@@ -59,4 +59,9 @@ pub fn calls_are_one_history()
 /// The server refuses nothing but calls that would pass one of its limits, with the number of that limit.
 pub fn refusals_are_limits()
     ensures { RefusalsAreLimits }
+{}
+
+/// The view of each client is what that history was at some time.
+pub fn views_are_fronts()
+    ensures { ViewsAreFronts }
 {}
