@@ -3,5 +3,17 @@ pub mod Standing
 pub mod Spoken
 pub mod Serving
 pub mod Taking
+pub mod Owns
+pub mod Deciding
 pub mod Worlds
+pub mod Knowing
+pub mod Checks
+pub mod Frame
+pub mod Answering
+pub mod Requests
+pub mod Learning
+pub mod Known
 pub mod Runs
+pub mod OnePath
+pub mod OneHistory
+pub mod Refusals

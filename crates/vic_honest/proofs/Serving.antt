@@ -1,29 +1,23 @@
 -- The server serves the request that a client sent: it stays fit, and its answer follows the client's path.
-use Rattle.std.proofs.Common.{◌≡◌, ℕ, suc, ◌+◌, ◌-◌, ◌*◌, ◌<◌, ◌≤◌, ◌^◌, Bool, true, false, cond, not, ◌&&◌, ◌||◌, List, [], ◌∷◌, ◌++◌, length, map, take, drop, min, replicate, Option, Some, None, ◌⊎◌, inl, inr, refl, sym, ap, subst, ◌∙◌, arith, length-append, length-drop, append_assoc}
+use Rattle.std.proofs.Common.{◌≡◌, ℕ, suc, ◌+◌, ◌-◌, ◌<◌, ◌≤◌, Bool, true, false, not, ◌&&◌, ◌||◌, List, [], ◌∷◌, ◌++◌, length, map, take, drop, min, Option, Some, None, inl, inr, refl, sym, ap, subst, ◌∙◌, arith, length-append, length-drop}
 use Rattle.std.specs.Prelude.{if◌then◌else◌, nat_eq, nat_lt, nat_le}
 use Rattle.std.specs.List.{AllByRecursion}
-use Rattle.std.specs.FinMap as map
 use Rattle.std.proofs.lemmas.List.{append-nil, take-append-drop, drop-append-le, map-append}
-use Rattle.std.proofs.lemmas.Bool.{eqb-true, eqb-false, leb-true, and_parts, not-true, cases_cond}
+use Rattle.std.proofs.lemmas.Bool.{eqb-false, leb-true, not-true}
 use Rattle.sha2.proofs.Facts256.{length-sha256}
 use Rattle.vic_dict.specs.Lists.{IsIn, AreBytes, front, newest}
 use Rattle.vic_dict.specs.declared.op.Op.{Op}
-use Rattle.vic_dict.specs.Dictionary.{Dictionary, IsProper, after}
+use Rattle.vic_dict.specs.Dictionary.{Dictionary, IsProper}
 use Rattle.vic_wire.specs.declared.message.Seal.{Seal}
 use Rattle.vic_wire.specs.declared.message.Tagged.{Tagged}
 use Rattle.vic_wire.specs.declared.message.Digest32.{Digest32}
-use Rattle.vic_wire.specs.declared.message.ToServer.{ToServer}
-use Rattle.vic_wire.specs.declared.message.ToServer.TheVariants as ask
 use Rattle.vic_wire.specs.declared.message.ToClient.{ToClient}
 use Rattle.vic_wire.specs.declared.message.ToClient.TheVariants as say
 use Rattle.vic_wire.specs.Texts.{invoke_text, seal_text}
-use Rattle.vic_wire.specs.Hashes.{Group, IsGroup, chain, tag_of, hash, empty_root}
-use Rattle.vic_wire.specs.Messages.{IsEntry, IsSeal, IsTagged, HasSpelling, HasRequestSpelling, request_text, answer_text, seal_field, entries_field}
+use Rattle.vic_wire.specs.Hashes.{Group, IsGroup, chain, tag_of}
+use Rattle.vic_wire.specs.Messages.{IsEntry, IsTagged, HasSpelling, request_text, answer_text, seal_field, entries_field}
 use Rattle.vic_wire.specs.Parts.{part_text, part_for, bare_part}
-use Rattle.vic_wire.specs.Reading.{read_request}
 use Rattle.vic_rules.specs.Client.{Standing, Sending, Invokes, Commits, Polls, Seals, Syncs, request_of, seal_of, entries_of, seal_text_on, commit_text_on, digest, tag_for, first_failing, is_write}
-use Rattle.vic_rules.specs.Trust.{text_sent}
-use Rattle.vic_rules.specs.declared.trace.Input.TheVariants as input
 use Rattle.vic_spellings.proofs.Bytes.{bytes-cons, bytes-append, bytes-replicate, bytes-sha256}
 use Rattle.vic_spellings.proofs.Steps.{bytes-nil}
 use Rattle.vic_spellings.proofs.Seals.{first_is_seal}
@@ -32,9 +26,9 @@ use Rattle.vic_roots.proofs.Proper.{proper-after}
 use Rattle.vic_roots.proofs.Again.{part-bytes}
 use Rattle.vic_laws.proofs.Words.{all_weaker, all_append, in_either}
 use Rattle.vic_order.specs.declared.Stage.TheVariants as stage
-use Rattle.vic_order.specs.Order.{Ordered, Server, Answered, says, becomes, guarded, unless_refused, size, sealed_count, no_seal, or_no_seal, seal_at_position, top_seal, ordered_at, commit_at, member, set_stage, is_ready, is_open_at, is_put, is_member, op_weight, weight, tagged, entries_above, turn, turn_on, update_part, with_commit, with_seal, owns_committed, applied_to, ordered_next, on_request, serve_read, serve}
+use Rattle.vic_order.specs.Order.{Ordered, Server, Answered, says, becomes, guarded, unless_refused, size, sealed_count, no_seal, seal_at_position, top_seal, ordered_at, commit_at, member, set_stage, is_ready, is_open_at, is_put, is_member, op_weight, weight, tagged, entries_above, turn, turn_on, update_part, with_commit, with_seal, owns_committed, applied_to, ordered_next, on_request, serve_read, serve}
 use Rattle.vic_order.specs.Fates.{entries}
-use Rattle.vic_honest.proofs.Words.{front-joined, front-entries, entries-joined, length-entries, told, above-told, length-told, all-first, all-second, all-drop, newest_seal, all-newest, AreMade}
+use Rattle.vic_honest.proofs.Words.{front-entries, length-entries, told, above-told, length-told, all-first, all-drop, newest_seal, all-newest, AreMade}
 use Rattle.vic_honest.proofs.Spoken.{TaggedBytes, seal_bytes, entries_bytes, tag_bytes}
 use Rattle.vic_honest.proofs.Standing.{EntryFits, SealFits, ServerFits, StandingFits, RequestGoes, AnswerComes, OfSeal}
 
@@ -73,7 +67,7 @@ first_seal_fits g made log = record {
 -- ---- guarded answers
 
 module _ (P : Answered → Type 0) (s : Server) where
-  passed : (first : Option ℕ) (a : Answered) → ((r : ℕ) → first ≡ Some r → P (says s (say.Refused r))) → (first ≡ None → P a) → P (unless_refused s first a)
+  pub passed : (first : Option ℕ) (a : Answered) → ((r : ℕ) → first ≡ Some r → P (says s (say.Refused r))) → (first ≡ None → P a) → P (unless_refused s first a)
   passed (Some r) a refuses goes = refuses r refl
   passed None a refuses goes = goes refl
 
@@ -89,7 +83,7 @@ reason_is (c ∷ cs) r h e =
     ] e
 
 -- a test that passed, and those after it
-test_passed : (b : Bool) (n : ℕ) (rest : Option ℕ) → (if b then rest else Some n) ≡ None → (b ≡ true) × (rest ≡ None)
+pub test_passed : (b : Bool) (n : ℕ) (rest : Option ℕ) → (if b then rest else Some n) ≡ None → (b ≡ true) × (rest ≡ None)
 test_passed true n rest e = (refl, e)
 test_passed false n rest e = absurd cc
 

@@ -1,24 +1,17 @@
 -- What the server says is bytes.
-use Rattle.std.proofs.Common.{◌≡◌, ℕ, ◌<◌, ◌≤◌, Bool, true, false, cond, ◌&&◌, T, List, [], ◌∷◌, ◌++◌, length, Some, refl, sym, ap, subst, ◌∙◌, arith}
+use Rattle.std.proofs.Common.{ℕ, ◌<◌, true, false, List, [], ◌∷◌, ◌++◌, length, arith}
 use Rattle.std.specs.Prelude.{if◌then◌else◌, nat_eq}
 use Rattle.std.specs.List.{AllByRecursion, flat_map}
 use Rattle.std.specs.Int.{w16, w32, to_be_bytes}
-use Rattle.std.specs.Ordering.{nat_cmp, eq_by_cmp, is_lt, is_eq}
-use Rattle.std.specs.FinMap as map
-use Rattle.std.specs.FinMap.{find, is_sorted}
-use Rattle.std.specs.FinMap.Entries.{below_all}
-use Rattle.std.proofs.lemmas.Cmp.{nat_list_cmp_total, tied_itself}
 use Rattle.vic_dict.specs.Lists.{AreBytes}
 use Rattle.vic_dict.specs.declared.op.Op.{Op}
 use Rattle.vic_dict.specs.declared.op.Op.TheVariants as op
 use Rattle.vic_dict.specs.declared.op.Entry.{Entry}
-use Rattle.vic_dict.specs.Dictionary.{Dictionary, IsProper, Fits, AreBytesIn}
+use Rattle.vic_dict.specs.Dictionary.{Fits, AreBytesIn}
 use Rattle.vic_wire.specs.declared.message.Seal.{Seal}
 use Rattle.vic_wire.specs.declared.message.Tagged.{Tagged}
 use Rattle.vic_wire.specs.Texts.{short_text, op_text, entry_text}
-use Rattle.vic_wire.specs.Trees.{Pair}
 use Rattle.vic_wire.specs.Messages.{IsEntry, seal_field, tagged_field, entries_field}
-use Rattle.vic_wire.specs.Parts.{part_text, pair_text}
 use Rattle.vic_wire.specs.Hashes.{tag_of, masked_key, hash}
 use Rattle.vic_spellings.proofs.Steps.{bytes-nil}
 use Rattle.vic_spellings.proofs.Bytes.{bytes-cons, bytes-append, bytes-w16, bytes-w32, bytes-sha256}

@@ -1,10 +1,9 @@
 -- The invariant of an honest run.
-use Rattle.std.specs.Prelude.{◌≡◌, ℕ, ◌+◌, ◌<◌, ◌≤◌, ◌^◌, Bool, false, List, [], ◌∷◌, ◌++◌, length, map, Option, Some, None}
+use Rattle.std.specs.Prelude.{◌≡◌, ℕ, ◌<◌, ◌≤◌, ◌^◌, false, List, [], ◌∷◌, ◌++◌, length, map, Option, Some, None}
 use Rattle.std.specs.List.{AllByRecursion}
 use Rattle.vic_dict.specs.Lists.{IsIn, AreBytes}
 use Rattle.vic_dict.specs.Dictionary.{IsProper}
 use Rattle.vic_wire.specs.declared.message.Seal.{Seal}
-use Rattle.vic_wire.specs.declared.message.Tagged.{Tagged}
 use Rattle.vic_wire.specs.declared.message.ToClient.{ToClient}
 use Rattle.vic_wire.specs.Texts.{invoke_text}
 use Rattle.vic_wire.specs.Hashes.{Group}

@@ -1,41 +1,39 @@
 -- A client steps: it sends or rests, and what it takes was made.
-use Rattle.std.proofs.Common.{◌≡◌, ℕ, suc, zero, ◌+◌, ◌<◌, ◌≤◌, ◌^◌, Bool, true, false, cond, ◌&&◌, List, [], ◌∷◌, ◌++◌, length, map, Option, Some, None, is_none, ◌⊎◌, inl, inr, refl, sym, ap, subst, ◌∙◌, arith, length-append, append_assoc}
+use Rattle.std.proofs.Common.{◌≡◌, ℕ, suc, zero, ◌+◌, ◌≤◌, Bool, true, false, ◌&&◌, List, [], ◌∷◌, ◌++◌, length, map, Option, Some, None, is_none, ◌⊎◌, inl, inr, refl, sym, ap, subst, ◌∙◌, arith, length-append, append_assoc}
 use Rattle.std.specs.Prelude.{if◌then◌else◌, nat_eq}
 use Rattle.std.specs.List.{AllByRecursion}
-use Rattle.std.proofs.lemmas.Bool.{eqb-true, eqb-false}
+use Rattle.std.proofs.lemmas.Bool.{eqb-false}
 use Rattle.std.proofs.lemmas.List.{append-nil}
 use Rattle.sha2.proofs.Facts256.{length-sha256}
 use Rattle.vic_dict.specs.Lists.{IsIn, AreBytes}
 use Rattle.vic_dict.specs.Dictionary.{Dictionary}
-use Rattle.vic_dict.specs.declared.op.Op.{Op}
 use Rattle.vic_dict.specs.declared.op.Entry.{Entry}
 use Rattle.vic_wire.specs.declared.message.Seal.{Seal}
 use Rattle.vic_wire.specs.declared.message.Tagged.{Tagged}
 use Rattle.vic_wire.specs.declared.message.ToClient.{ToClient}
 use Rattle.vic_wire.specs.declared.message.ToClient.TheVariants as say
 use Rattle.vic_wire.specs.Texts.{invoke_text}
-use Rattle.vic_wire.specs.Hashes.{Group, hash}
-use Rattle.vic_wire.specs.Trees.{Tree, Pair, tree_of, tree_by, root_of, dictionary_root}
-use Rattle.vic_wire.specs.Messages.{HasSpelling, HasRequestSpelling, request_text, answer_text}
+use Rattle.vic_wire.specs.Hashes.{Group}
+use Rattle.vic_wire.specs.Trees.{Pair, tree_of, tree_by, root_of, dictionary_root}
+use Rattle.vic_wire.specs.Messages.{HasRequestSpelling}
 use Rattle.vic_wire.specs.Parts.{Part, read_part, root_after}
 use Rattle.vic_wire.specs.Reading.{read_answer}
 use Rattle.vic_rules.specs.declared.state.Own.{Own}
 use Rattle.vic_rules.specs.declared.state.Awaiting.{Awaiting}
 use Rattle.vic_rules.specs.declared.state.Awaiting.TheVariants as awaits
-use Rattle.vic_rules.specs.declared.trace.Input.{Input}
 use Rattle.vic_rules.specs.declared.trace.Input.TheVariants as input
-use Rattle.vic_rules.specs.Client.{Standing, Sending, Invokes, Commits, Polls, Seals, Syncs, Move, step, moves, halts, MayStep, request_of, payload_of, awaits_nothing, seal_of, entries_of, seal_text_on, newest_first, grown, replied, updated, taken, taken_or_halts, on_payload, verdict, new_root, is_write, is_done, decision}
+use Rattle.vic_rules.specs.Client.{Standing, Sending, Commits, Seals, Move, step, request_of, payload_of, awaits_nothing, seal_text_on, newest_first, grown, replied, updated, taken, taken_or_halts, on_payload, verdict, new_root, is_write, is_done, decision}
 use Rattle.vic_rules.specs.Trust.{taken_by, checked_texts, seal_texts, text_sent}
 use Rattle.vic_order.specs.Order.{Ordered}
 use Rattle.vic_order.specs.Fates.{entries}
 use Rattle.vic_order.specs.Honest.{queued}
 use Rattle.vic_spellings.proofs.Bytes.{bytes-sha256}
-use Rattle.vic_laws.proofs.Words.{all_weaker, all_append, in_either, in_left, in_right}
-use Rattle.vic_laws.proofs.Steps.{Kind, Quiet, Called, Replied, Updated, Listed, call_of, is_quiet, is_called, is_replied, is_updated, is_listed}
+use Rattle.vic_laws.proofs.Words.{all_weaker, all_append, in_either, in_left}
+use Rattle.vic_laws.proofs.Steps.{Kind, Quiet, Replied, Updated, Listed, call_of, is_quiet, is_called, is_replied, is_updated, is_listed}
 use Rattle.vic_laws.proofs.StepKinds.{step_kind}
 use Rattle.vic_honest.proofs.Words.{entries-joined, length-entries, told, newest-told, AreMade}
 use Rattle.vic_honest.proofs.Serving.{length-tag, seal_text-joined}
-use Rattle.vic_honest.proofs.Standing.{SealFits, StandingFits, RequestGoes, AnswerComes, OfSeal, IsWithin, Doing, Rests, Sends, Gets, Does, IsBusy, ClientFits}
+use Rattle.vic_honest.proofs.Standing.{SealFits, StandingFits, AnswerComes, IsWithin, Rests, Sends, ClientFits}
 
 -- ---- roots are digests
 

@@ -1,37 +1,32 @@
 -- Every world of an honest run is fit.
-use Rattle.std.proofs.Common.{◌≡◌, ℕ, suc, zero, ◌+◌, ◌<◌, ◌≤◌, ◌^◌, Bool, true, false, cond, ◌&&◌, List, [], ◌∷◌, ◌++◌, length, map, replicate, Option, Some, None, is_none, ◌⊎◌, inl, inr, refl, sym, ap, subst, ◌∙◌, arith, length-append, append_assoc}
-use Rattle.std.specs.Prelude.{if◌then◌else◌, nat_eq}
+use Rattle.std.proofs.Common.{◌≡◌, ℕ, ◌+◌, ◌<◌, ◌≤◌, ◌^◌, true, false, List, [], ◌∷◌, ◌++◌, length, Option, Some, None, is_none, inl, inr, refl, sym, ap, subst, ◌∙◌, arith, length-append, append_assoc}
+use Rattle.std.specs.Prelude.{if◌then◌else◌}
 use Rattle.std.specs.List.{AllByRecursion}
-use Rattle.std.proofs.lemmas.Bool.{eqb-true, eqb-false, eq-eqb, ne_eqb, cases_eq, and_parts}
+use Rattle.std.proofs.lemmas.Bool.{eq-eqb, ne_eqb, cases_eq, and_parts}
 use Rattle.sha2.proofs.Facts256.{length-sha256}
 use Rattle.vic_dict.specs.Lists.{IsIn, AreBytes}
-use Rattle.vic_dict.specs.Dictionary.{nothing, IsProper}
-use Rattle.vic_dict.specs.declared.op.Op.{Op}
 use Rattle.vic_wire.specs.declared.message.ToClient.{ToClient}
-use Rattle.vic_wire.specs.declared.message.ToServer.{ToServer}
 use Rattle.vic_wire.specs.declared.message.Seal.{Seal}
-use Rattle.vic_wire.specs.Hashes.{Group, IsGroup, empty_root}
-use Rattle.vic_wire.specs.Messages.{HasSpelling, HasRequestSpelling, request_text, answer_text}
-use Rattle.vic_wire.specs.Reading.{read_answer, read_request}
+use Rattle.vic_wire.specs.Hashes.{Group, IsGroup}
+use Rattle.vic_wire.specs.Messages.{request_text, answer_text}
 use Rattle.vic_rules.specs.declared.state.Awaiting.TheVariants as awaits
 use Rattle.vic_rules.specs.declared.trace.Input.{Input}
 use Rattle.vic_rules.specs.declared.trace.Input.TheVariants as input
 use Rattle.vic_rules.specs.declared.trace.TraceStep.{TraceStep}
-use Rattle.vic_rules.specs.Client.{Standing, Sending, Invokes, Commits, Polls, Seals, Syncs, Move, at_start, step, MayStep, IsIdle, request_of, payload_of, awaits_nothing, seal_of}
-use Rattle.vic_rules.specs.History.{standing, move_of, AreSteps, IsStep}
-use Rattle.vic_rules.specs.Trust.{IsForged, texts_made, texts_taken, text_sent, checked_texts, taken_by, took}
-use Rattle.vic_order.specs.Order.{Ordered, Server, Answered, fresh_server, ready, serve}
+use Rattle.vic_rules.specs.Client.{Standing, Sending, Invokes, Polls, Syncs, Move, step, MayStep, IsIdle, request_of, payload_of, awaits_nothing, seal_of}
+use Rattle.vic_rules.specs.History.{standing}
+use Rattle.vic_rules.specs.Trust.{IsForged, texts_made, text_sent, checked_texts, taken_by, took}
+use Rattle.vic_order.specs.Order.{Ordered, Server, Answered, serve}
 use Rattle.vic_order.specs.Fates.{entries}
-use Rattle.vic_order.specs.Honest.{Event, Asks, Serves, Takes, World, opening, changed, queued, steps, serves, takes, happens, MayBe, AreHonest, IsHonestRun, world_after}
+use Rattle.vic_order.specs.Honest.{Event, Asks, Serves, Takes, World, opening, changed, queued, steps, serves, takes, happens, MayBe, AreHonest, world_after}
 use Rattle.vic_spellings.proofs.Bytes.{bytes-sha256}
 use Rattle.vic_spellings.proofs.SpelledAnswers.{answer_again}
 use Rattle.vic_roots.proofs.Proper.{proper-nothing}
-use Rattle.vic_laws.proofs.Words.{all_weaker, all_append, in_either, in_left, in_right}
+use Rattle.vic_laws.proofs.Words.{all_weaker, in_right}
 use Rattle.vic_laws.proofs.Standings.{standing_moved, standing_kept}
 use Rattle.vic_honest.proofs.Words.{AreMade, Keeps, length-entries}
 use Rattle.vic_honest.proofs.Serving.{length-tag, seal-grows, Served, payload_served}
-use Rattle.vic_honest.proofs.Taking.{Moved, now_sends, now_rests, payload_taken}
-use Rattle.vic_honest.proofs.Taking as taking
+use Rattle.vic_honest.proofs.Taking.{Moved, now_sends, payload_taken}
 use Rattle.vic_honest.proofs.Standing.{EntryFits, SealFits, ServerFits, StandingFits, RequestGoes, AnswerComes, OfSeal, IsWithin, Doing, Rests, Sends, Gets, Does, IsBusy, up_by, down_by, ClientFits, WorldFits}
 
 -- ---- what stays as more is made and the log grows
@@ -86,12 +81,12 @@ module _ (g : Group) (before made : List (List ℕ)) (keeps : Keeps before made)
 -- ---- a client's step
 
 -- the step that the client makes
-abbrev step_of : Group → World → ℕ → Input → TraceStep
+abbrev pub step_of : Group → World → ℕ → Input → TraceStep
 step_of g w me i =
     let v = step g me (standing g me w.history) i in
     record { client = me; input = i; sent = payload_of g me v.next v.sends; returned = v.returns }
 
-abbrev move : Group → World → ℕ → Input → Move
+abbrev pub move : Group → World → ℕ → Input → Move
 move g w me i = step g me (standing g me w.history) i
 
 made_more : (g : Group) (w : World) (me : ℕ) (i : Input) → texts_made g (step_of g w me i ∷ w.history) ≡ text_sent g me (move g w me i).next (move g w me i).sends ++ texts_made g w.history
@@ -151,7 +146,7 @@ module _ (g : Group) (w : World) (fit : WorldFits g w) (me : ℕ) (above : 0 < m
 
 -- ---- asking
 
-third : {A B C : Type 0} → A × B × C → C
+pub third : {A B C : Type 0} → A × B × C → C
 third h = h.2
 
 same_fits : (t next : Standing) → next.path ≡ t.path → next.sealed ≡ t.sealed → next.own ≡ t.own → next.root ≡ t.root → next.calls ≡ t.calls → StandingFits t → StandingFits next
@@ -163,20 +158,20 @@ same_fits t next path sealed own root calls fits = record {
   calls = omega (arith, fits.calls);
 }
 
-ask_bounds : (g : Group) (w : World) (me : ℕ) (i : Input) → MayBe g w (Asks me i) → (0 < me) × (me ≤ g.count)
+pub ask_bounds : (g : Group) (w : World) (me : ℕ) (i : Input) → MayBe g w (Asks me i) → (0 < me) × (me ≤ g.count)
 ask_bounds g w me (input.Call o) may = (may.0, may.1)
 ask_bounds g w me input.Poll may = (may.0, may.1)
 ask_bounds g w me input.Sync may = (may.0, may.1)
 ask_bounds g w me (input.Payload payload) may = absurd may
 
 -- a client that awaits nothing has nothing under way
-idle_rests : (g : Group) (me : ℕ) (t : Standing) (up down : List (List ℕ)) (doing : Doing) → awaits_nothing t.awaiting ≡ true → IsBusy t doing → up ≡ up_by g me t doing → down ≡ down_by doing
+pub idle_rests : (g : Group) (me : ℕ) (t : Standing) (up down : List (List ℕ)) (doing : Doing) → awaits_nothing t.awaiting ≡ true → IsBusy t doing → up ≡ up_by g me t doing → down ≡ down_by doing
     → (up ≡ []) × (down ≡ [])
 idle_rests g me t up down Rests idle busy up_is down_is = (up_is, down_is)
 idle_rests g me t up down (Sends sending) idle busy up_is down_is = absurd cc
 idle_rests g me t up down (Gets m) idle busy up_is down_is = absurd cc
 
-room_left : (g : Group) (made : List (List ℕ)) (s : Server) (t : Standing) (seen newer : List Ordered) → ServerFits g made s → s.log ≡ newer ++ seen → t.path ≡ entries seen → length t.path < 2 ^ 32
+pub room_left : (g : Group) (made : List (List ℕ)) (s : Server) (t : Standing) (seen newer : List Ordered) → ServerFits g made s → s.log ≡ newer ++ seen → t.path ≡ entries seen → length t.path < 2 ^ 32
 room_left g made s t seen newer fits is path = omega (arith, fits.room, ap length is, length-append newer seen, ap length path, length-entries seen)
 
 module _ (g : Group) (w : World) (fit : WorldFits g w) (me : ℕ) (above : 0 < me) (upto : me ≤ g.count) where
