@@ -3,4 +3,11 @@ pub mod Standing
 pub mod Spoken
 pub mod Serving
 pub mod Taking
+pub mod Owns
+pub mod Deciding
 pub mod Worlds
+pub mod Knowing
+pub mod Checks
+pub mod Frame
+pub mod Answering
+pub mod Runs

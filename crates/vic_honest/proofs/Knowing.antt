@@ -1,0 +1,199 @@
+-- The invariant by which no client halts: what each client keeps, and what is under way for it, by the server's log.
+use Rattle.std.specs.Prelude.{◌≡◌, ℕ, ◌+◌, ◌<◌, ◌≤◌, ◌^◌, Bool, true, false, List, [], ◌∷◌, ◌++◌, length, Option, Some, None, nat_eq}
+use Rattle.std.specs.List.{AllByRecursion}
+use Rattle.vic_dict.specs.declared.op.Op.{Op}
+use Rattle.vic_dict.specs.Dictionary.{Fits, AreBytesIn}
+use Rattle.vic_wire.specs.declared.message.ToClient.{ToClient}
+use Rattle.vic_wire.specs.declared.message.ToClient.TheVariants as say
+use Rattle.vic_wire.specs.Texts.{invoke_text}
+use Rattle.vic_wire.specs.Hashes.{Group, tag_of}
+use Rattle.vic_wire.specs.Messages.{HasSpelling}
+use Rattle.vic_wire.specs.Parts.{part_text}
+use Rattle.vic_rules.specs.declared.state.Own.{Own}
+use Rattle.vic_rules.specs.declared.state.Awaiting.TheVariants as awaits
+use Rattle.vic_rules.specs.Client.{Standing, Sending, Invokes, Commits, Polls, Seals, Syncs, is_done}
+use Rattle.vic_rules.specs.History.{standing}
+use Rattle.vic_order.specs.declared.Stage.TheVariants as stage
+use Rattle.vic_order.specs.Order.{Ordered, Server, size, sealed_count, commit_at, member}
+use Rattle.vic_order.specs.Fates.{entries, fate, dictionary_by}
+use Rattle.vic_order.specs.Honest.{World}
+use Rattle.vic_honest.proofs.Words.{told}
+use Rattle.vic_honest.proofs.Standing.{Doing, Rests, Sends, Gets, up_by, down_by}
+use Rattle.vic_honest.proofs.Owns.{AllOn, NoneOf, root_on, seal_on, seals_on, owns, IsAbove}
+
+-- ---- the server
+
+-- each entry was made by a member, and ordered within the limits
+pub record IsOrdered (g : Group) (o : Ordered) (below : List Ordered) : Type 0 where
+  pub member : o.entry.client ≤ g.count
+  pub tag : o.tag.bytes ≡ tag_of g.key (invoke_text o.entry)
+  pub near : length (o ∷ below) ≤ o.sealed_then + 1024
+
+-- the log is sealed up to its base
+pub record ServerKnows (g : Group) (s : Server) : Type 0 where
+  pub over : List Ordered
+  pub base : List Ordered
+  pub is : s.log ≡ over ++ base
+  pub members : length s.members ≡ g.count
+  pub ordered : AllOn (IsOrdered g) s.log
+  pub near : size s ≤ length base + 1024
+  pub seals : s.seals ≡ seals_on g base
+  pub dictionary : s.dictionary ≡ dictionary_by base
+  pub fates : (newer : List Ordered) (o : Ordered) (below : List Ordered) (done : Bool) → s.log ≡ newer ++ o ∷ below → commit_at s (length (o ∷ below)) ≡ Some done → done ≡ is_done (fate o below)
+  pub unmade : (n : ℕ) → size s < n → commit_at s n ≡ None
+
+-- ---- a client
+
+-- what it keeps is that of its path
+pub record Keeps (me : ℕ) (s : Server) (t : Standing) (seen newer : List Ordered) : Type 0 where
+  pub over : List Ordered
+  pub base : List Ordered
+  pub log : s.log ≡ newer ++ seen
+  pub path : t.path ≡ entries seen
+  pub going : t.halted ≡ None
+  pub cut : seen ≡ over ++ base
+  pub sealed : t.sealed ≡ length base
+  pub root : t.root ≡ root_on base
+  pub own : t.own ≡ owns me (length base) seen
+  pub unsealed : AllByRecursion (IsAbove (sealed_count s)) t.own
+  pub last : (member s me).last ≤ t.calls
+
+-- its calls are all on its path, and the server awaits no commit of it
+pub record Calm (me : ℕ) (s : Server) (t : Standing) (newer : List Ordered) : Type 0 where
+  pub ready : (member s me).stage ≡ stage.Ready
+  pub sealed : t.sealed ≤ sealed_count s
+  pub others : NoneOf me newer
+
+pub record InvokeGoes (me : ℕ) (s : Server) (t : Standing) (newer : List Ordered) (n : ℕ) (o : Op) : Type 0 where
+  pub awaiting : t.awaiting ≡ awaits.Reply n o false
+  pub number : n ≡ t.calls
+  pub new : (member s me).last < n
+  pub fits : Fits o × AreBytesIn o
+  pub calm : Calm me s t newer
+
+-- the last entry of its path is its own, with its fate
+pub record CommitGoes (me : ℕ) (s : Server) (t : Standing) (seen newer : List Ordered) (done : Bool) : Type 0 where
+  pub o : Ordered
+  pub below : List Ordered
+  pub awaiting : t.awaiting ≡ awaits.Turn
+  pub top : seen ≡ o ∷ below
+  pub mine : nat_eq o.entry.client me ≡ true
+  pub status : done ≡ is_done (fate o below)
+  pub sealed : t.sealed ≤ sealed_count s
+  pub others : NoneOf me newer
+  pub stage : (member s me).stage ≡ stage.Open (length seen)
+
+-- the first entry that isn't sealed is its own and committed, and it has sealed it
+pub record SealGoes (me : ℕ) (s : Server) (t : Standing) (seen newer : List Ordered) : Type 0 where
+  pub above : List Ordered
+  pub o : Ordered
+  pub below : List Ordered
+  pub done : Bool
+  pub awaiting : t.awaiting ≡ awaits.Turn
+  pub split : seen ≡ above ++ o ∷ below
+  pub mine : nat_eq o.entry.client me ≡ true
+  pub count : sealed_count s ≡ length below
+  pub position : t.sealed ≡ length (o ∷ below)
+  pub committed : commit_at s (length (o ∷ below)) ≡ Some done
+  pub ready : (member s me).stage ≡ stage.Ready
+  pub others : NoneOf me newer
+
+-- the Reply to its call o, which was ordered on between ++ seen, sealed up to the base
+pub record ReplyComes (g : Group) (me : ℕ) (s : Server) (t : Standing) (seen newer : List Ordered) (m : ToClient) : Type 0 where
+  pub later : List Ordered
+  pub o : Ordered
+  pub between : List Ordered
+  pub over : List Ordered
+  pub base : List Ordered
+  pub number : ℕ
+  pub op : Op
+  pub load : Bool
+  pub split : newer ≡ later ++ o ∷ between
+  pub cut : between ++ seen ≡ over ++ base
+  pub awaiting : t.awaiting ≡ awaits.Reply number op load
+  pub entry : o.entry ≡ record { client = me; seq = number; op = op }
+  pub later_others : NoneOf me later
+  pub others : NoneOf me between
+  pub sealed_then : o.sealed_then ≡ length base
+  pub from : t.sealed ≤ length base
+  pub upto : length base ≤ sealed_count s
+  pub higher : sealed_count s < length (o ∷ (between ++ seen))
+  pub stage : (member s me).stage ≡ stage.Open (length (o ∷ (between ++ seen)))
+  pub message : m ≡ say.Reply (seal_on g base) (told (o ∷ between)) (part_text (dictionary_by base))
+
+-- the turn: only this client can seal next, so the sealed count stays while the Update is under way
+pub record UpdateComes (g : Group) (me : ℕ) (s : Server) (t : Standing) (seen newer : List Ordered) (m : ToClient) : Type 0 where
+  pub above : List Ordered
+  pub o : Ordered
+  pub below : List Ordered
+  pub done : Bool
+  pub awaiting : t.awaiting ≡ awaits.Turn
+  pub split : seen ≡ above ++ o ∷ below
+  pub mine : nat_eq o.entry.client me ≡ true
+  pub count : sealed_count s ≡ length below
+  pub committed : commit_at s (length (o ∷ below)) ≡ Some done
+  pub calm : Calm me s t newer
+  pub message : m ≡ say.Update (seal_on g below) (part_text (dictionary_by below))
+
+-- the answer to a Sync
+pub record EntriesCome (g : Group) (me : ℕ) (s : Server) (t : Standing) (seen newer : List Ordered) (m : ToClient) : Type 0 where
+  pub later : List Ordered
+  pub between : List Ordered
+  pub over : List Ordered
+  pub base : List Ordered
+  pub split : newer ≡ later ++ between
+  pub cut : between ++ seen ≡ over ++ base
+  pub awaiting : t.awaiting ≡ awaits.Entries
+  pub from : t.sealed ≤ length base
+  pub upto : length base ≤ sealed_count s
+  pub near : length (between ++ seen) ≤ length base + 1024
+  pub calm : Calm me s t newer
+  pub message : m ≡ say.Entries (seal_on g base) (told between)
+
+-- the server was full or the client too far behind
+pub record RefusalComes (me : ℕ) (s : Server) (t : Standing) (newer : List Ordered) (r : ℕ) : Type 0 where
+  pub number : ℕ
+  pub op : Op
+  pub load : Bool
+  pub awaiting : t.awaiting ≡ awaits.Reply number op load
+  pub limit : (0 < r) × (r ≤ 4)
+  pub calm : Calm me s t newer
+
+abbrev pub Does : Group → ℕ → Server → Standing → List Ordered → List Ordered → Doing → Type 0
+Does g me s t seen newer Rests = (t.awaiting ≡ awaits.Nothing) × Calm me s t newer
+Does g me s t seen newer (Sends (Invokes n o)) = InvokeGoes me s t newer n o
+Does g me s t seen newer (Sends (Commits done)) = CommitGoes me s t seen newer done
+Does g me s t seen newer (Sends Polls) = (t.awaiting ≡ awaits.Turn) × Calm me s t newer
+Does g me s t seen newer (Sends Seals) = SealGoes me s t seen newer
+Does g me s t seen newer (Sends Syncs) = (t.awaiting ≡ awaits.Entries) × Calm me s t newer
+Does g me s t seen newer (Gets say.Hi) = ⊥
+Does g me s t seen newer (Gets (say.Reply seal es part)) = ReplyComes g me s t seen newer (say.Reply seal es part)
+Does g me s t seen newer (Gets say.Wait) = (t.awaiting ≡ awaits.Turn) × Calm me s t newer
+Does g me s t seen newer (Gets (say.Update seal part)) = UpdateComes g me s t seen newer (say.Update seal part)
+Does g me s t seen newer (Gets (say.Entries seal es)) = EntriesCome g me s t seen newer (say.Entries seal es)
+Does g me s t seen newer (Gets (say.Refused r)) = RefusalComes me s t newer r
+Does g me s t seen newer (Gets say.Kept) = ⊥
+Does g me s t seen newer (Gets (say.Content c)) = ⊥
+Does g me s t seen newer (Gets say.Gone) = ⊥
+Does g me s t seen newer (Gets say.Absent) = ⊥
+
+abbrev pub IsSpelled : Doing → Type 0
+IsSpelled Rests = Unit {0}
+IsSpelled (Sends sending) = Unit {0}
+IsSpelled (Gets m) = HasSpelling m
+
+pub record ClientKnows (g : Group) (me : ℕ) (s : Server) (t : Standing) (up down : List (List ℕ)) : Type 0 where
+  pub seen : List Ordered
+  pub newer : List Ordered
+  pub keeps : Keeps me s t seen newer
+  pub doing : Doing
+  pub up_is : up ≡ up_by g me t doing
+  pub down_is : down ≡ down_by doing
+  pub spelled : IsSpelled doing
+  pub does : Does g me s t seen newer doing
+
+-- ---- the world
+
+pub record WorldKnows (g : Group) (w : World) : Type 0 where
+  pub server : ServerKnows g w.server
+  pub clients : (me : ℕ) → 0 < me → me ≤ g.count → ClientKnows g me w.server (standing g me w.history) (w.up me) (w.down me)
