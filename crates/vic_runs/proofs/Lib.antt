@@ -6,3 +6,4 @@ pub mod Counting
 pub mod Reached
 pub mod Lines
 pub mod Runs
+pub mod Payloads
