@@ -8,14 +8,13 @@ ghost use Rattle.vic_wire.specs.Reading.{allowed, update_at, answer_of_kind, rea
 ghost use Rattle.vic_fields.specs.Giving.{Gives};
 ghost use Rattle.vic_frames.specs.Kinds.{answer_at, reply_at, listed_at, refused_at};
 
-use crate::fields::{found_or_none, put_entries, put_seal, take_entries, take_seal, whole};
+use crate::fields::{
+    CONTENT_LIMIT, found_or_none, put_entries, put_seal, take_entries, take_seal, whole,
+};
 use std::alloc::Global;
 use vic_dict::{Bytes, NoMemory};
 use vic_fields::{Cut, CutFault, put_bytes, put_u8};
 use vic_wire::ToClient;
-
-/// The longest content that is kept.
-const CONTENT_LIMIT: usize = 8_388_608;
 
 // ---- reading
 

@@ -11,14 +11,11 @@ ghost use Rattle.vic_wire.specs.Reading.{allowed, mode_of, hello_at, invoke_at, 
 ghost use Rattle.vic_fields.specs.Giving.{Gives};
 ghost use Rattle.vic_frames.specs.Kinds.{request_at};
 
-use crate::fields::{found_or_none, whole};
+use crate::fields::{CONTENT_LIMIT, found_or_none, whole};
 use std::alloc::Global;
 use vic_dict::{Bytes, Mode, NoMemory, Op};
 use vic_fields::{Cut, CutFault, put_bytes, put_digest, put_op, put_u8, put_u32};
 use vic_wire::{Digest32, ToServer};
-
-/// The longest content that is kept.
-const CONTENT_LIMIT: usize = 8_388_608;
 
 // ---- reading
 

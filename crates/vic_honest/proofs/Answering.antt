@@ -41,7 +41,7 @@ front-seals_on g [] old = ap (λ n. front n (seals_on g old)) (sym (length-seals
 front-seals_on g (o ∷ new) old =
     front-joined (length old) (seal_on g (o ∷ (new ++ old)) ∷ []) (seals_on g (new ++ old)) (omega (arith, length-seals_on g (new ++ old), length-append new old)) ∙ front-seals_on g new old
 
-seal_at-is : (g : Group) (s : Server) (new old : List Ordered) (n : ℕ) → s.seals ≡ seals_on g (new ++ old) → n ≡ length old → seal_at_position s n ≡ seal_on g old
+pub seal_at-is : (g : Group) (s : Server) (new old : List Ordered) (n : ℕ) → s.seals ≡ seals_on g (new ++ old) → n ≡ length old → seal_at_position s n ≡ seal_on g old
 seal_at-is g s new old n seals at =
     ap (λ k. or_no_seal (newest (front k s.seals))) at ∙ ap (λ xs. or_no_seal (newest (front (length old) xs))) seals ∙ ap (λ xs. or_no_seal (newest xs)) (front-seals_on g new old) ∙ newest-seals_on g old
 
@@ -88,7 +88,7 @@ pub top_is : (g : Group) (s : Server) (k : ServerKnows g s) → top_seal s ≡ s
 top_is g s k = seal_at-is g s [] k.base (sealed_count s) k.seals (count_is g s k)
 
 -- the older part of the log that is as long as what is sealed
-base_is : (g : Group) (s : Server) (k : ServerKnows g s) (newer below : List Ordered) → s.log ≡ newer ++ below → sealed_count s ≡ length below → k.base ≡ below
+pub base_is : (g : Group) (s : Server) (k : ServerKnows g s) (newer below : List Ordered) → s.log ≡ newer ++ below → sealed_count s ≡ length below → k.base ≡ below
 base_is g s k newer below is count = same_end k.over k.base newer below (sym k.is ∙ is) (sym (count_is g s k) ∙ count)
 
 update_part-is : (d : Dictionary) (o : Op) (done : Bool) → update_part d o done ≡ part_text d
@@ -124,5 +124,5 @@ module _ (g : Group) (me : ℕ) (u : Server) (k : ServerKnows g u) (t : Standing
       ] refl
 
   -- the turn that is told is right
-  turn_does : Does g me u t seen newer (Gets (turn u me))
+  pub turn_does : Does g me u t seen newer (Gets (turn u me))
   turn_does = turn_by (ordered_at u (sealed_count u + 1)) (commit_at u (sealed_count u + 1)) refl refl

@@ -40,7 +40,7 @@ use Rattle.vic_honest.proofs.Knowing.{IsOrdered}
 
 -- ---- dictionaries by logs
 
-nothing_is : dictionary_by [] ≡ nothing
+pub nothing_is : dictionary_by [] ≡ nothing
 unfolding dictionary_by
 nothing_is = refl
 

@@ -27,16 +27,16 @@ neither_one : (a b : Option ℕ) → or_this a b ≡ None → (a ≡ None) × (b
 neither_one (Some u) b e = absurd cc
 neither_one None b e = (refl, e)
 
-none_above : (base : ℕ) (test : Entry → Bool) (e : Entry) (path : List Entry) → least_above base test (e ∷ path) ≡ None
+pub none_above : (base : ℕ) (test : Entry → Bool) (e : Entry) (path : List Entry) → least_above base test (e ∷ path) ≡ None
     → (least_above base test path ≡ None) × ((if nat_lt base (length (e ∷ path)) && test e then Some (length (e ∷ path)) else None) ≡ None)
 unfolding least_above
 none_above base test e path h = neither_one (least_above base test path) (if nat_lt base (length (e ∷ path)) && test e then Some (length (e ∷ path)) else None) h
 
-not_chosen : (a b : Bool) (u : ℕ) → a ≡ true → (if a && b then Some u else None) ≡ None → b ≡ false
+pub not_chosen : (a b : Bool) (u : ℕ) → a ≡ true → (if a && b then Some u else None) ≡ None → b ≡ false
 not_chosen a true u e h = let f = sym (ap (λ c. if c && true then Some u else None) e) ∙ h in absurd cc
 not_chosen a false u e h = refl
 
-no_conflict : (mine conflict : Bool) → mine ≡ false → (not mine && conflict) ≡ false → conflict ≡ false
+pub no_conflict : (mine conflict : Bool) → mine ≡ false → (not mine && conflict) ≡ false → conflict ≡ false
 no_conflict true conflict e h = absurd cc
 no_conflict false conflict e h = h
 

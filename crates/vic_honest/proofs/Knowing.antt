@@ -12,11 +12,9 @@ use Rattle.vic_wire.specs.Parts.{part_text}
 use Rattle.vic_rules.specs.declared.state.Own.{Own}
 use Rattle.vic_rules.specs.declared.state.Awaiting.TheVariants as awaits
 use Rattle.vic_rules.specs.Client.{Standing, Sending, Invokes, Commits, Polls, Seals, Syncs, is_done}
-use Rattle.vic_rules.specs.History.{standing}
 use Rattle.vic_order.specs.declared.Stage.TheVariants as stage
 use Rattle.vic_order.specs.Order.{Ordered, Server, size, sealed_count, commit_at, member}
 use Rattle.vic_order.specs.Fates.{entries, fate, dictionary_by}
-use Rattle.vic_order.specs.Honest.{World}
 use Rattle.vic_honest.proofs.Words.{told}
 use Rattle.vic_honest.proofs.Standing.{Doing, Rests, Sends, Gets, up_by, down_by}
 use Rattle.vic_honest.proofs.Owns.{AllOn, NoneOf, root_on, seal_on, seals_on, owns, IsAbove}
@@ -28,6 +26,10 @@ pub record IsOrdered (g : Group) (o : Ordered) (below : List Ordered) : Type 0 w
   pub member : o.entry.client ≤ g.count
   pub tag : o.tag.bytes ≡ tag_of g.key (invoke_text o.entry)
   pub near : length (o ∷ below) ≤ o.sealed_then + 1024
+
+-- it was ordered when no more was sealed
+abbrev pub IsPast : ℕ → Ordered → Type 0
+IsPast count o = o.sealed_then ≤ count
 
 -- the log is sealed up to its base
 pub record ServerKnows (g : Group) (s : Server) : Type 0 where
@@ -41,6 +43,7 @@ pub record ServerKnows (g : Group) (s : Server) : Type 0 where
   pub dictionary : s.dictionary ≡ dictionary_by base
   pub fates : (newer : List Ordered) (o : Ordered) (below : List Ordered) (done : Bool) → s.log ≡ newer ++ o ∷ below → commit_at s (length (o ∷ below)) ≡ Some done → done ≡ is_done (fate o below)
   pub unmade : (n : ℕ) → size s < n → commit_at s n ≡ None
+  pub past : AllByRecursion (IsPast (sealed_count s)) s.log
 
 -- ---- a client
 
@@ -191,9 +194,3 @@ pub record ClientKnows (g : Group) (me : ℕ) (s : Server) (t : Standing) (up do
   pub down_is : down ≡ down_by doing
   pub spelled : IsSpelled doing
   pub does : Does g me s t seen newer doing
-
--- ---- the world
-
-pub record WorldKnows (g : Group) (w : World) : Type 0 where
-  pub server : ServerKnows g w.server
-  pub clients : (me : ℕ) → 0 < me → me ≤ g.count → ClientKnows g me w.server (standing g me w.history) (w.up me) (w.down me)

@@ -10,4 +10,8 @@ pub mod Knowing
 pub mod Checks
 pub mod Frame
 pub mod Answering
+pub mod Requests
+pub mod Learning
+pub mod Known
 pub mod Runs
+pub mod OneHistory

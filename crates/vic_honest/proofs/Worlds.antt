@@ -86,12 +86,12 @@ module _ (g : Group) (before made : List (List ℕ)) (keeps : Keeps before made)
 -- ---- a client's step
 
 -- the step that the client makes
-abbrev step_of : Group → World → ℕ → Input → TraceStep
+abbrev pub step_of : Group → World → ℕ → Input → TraceStep
 step_of g w me i =
     let v = step g me (standing g me w.history) i in
     record { client = me; input = i; sent = payload_of g me v.next v.sends; returned = v.returns }
 
-abbrev move : Group → World → ℕ → Input → Move
+abbrev pub move : Group → World → ℕ → Input → Move
 move g w me i = step g me (standing g me w.history) i
 
 made_more : (g : Group) (w : World) (me : ℕ) (i : Input) → texts_made g (step_of g w me i ∷ w.history) ≡ text_sent g me (move g w me i).next (move g w me i).sends ++ texts_made g w.history
@@ -151,7 +151,7 @@ module _ (g : Group) (w : World) (fit : WorldFits g w) (me : ℕ) (above : 0 < m
 
 -- ---- asking
 
-third : {A B C : Type 0} → A × B × C → C
+pub third : {A B C : Type 0} → A × B × C → C
 third h = h.2
 
 same_fits : (t next : Standing) → next.path ≡ t.path → next.sealed ≡ t.sealed → next.own ≡ t.own → next.root ≡ t.root → next.calls ≡ t.calls → StandingFits t → StandingFits next
@@ -163,20 +163,20 @@ same_fits t next path sealed own root calls fits = record {
   calls = omega (arith, fits.calls);
 }
 
-ask_bounds : (g : Group) (w : World) (me : ℕ) (i : Input) → MayBe g w (Asks me i) → (0 < me) × (me ≤ g.count)
+pub ask_bounds : (g : Group) (w : World) (me : ℕ) (i : Input) → MayBe g w (Asks me i) → (0 < me) × (me ≤ g.count)
 ask_bounds g w me (input.Call o) may = (may.0, may.1)
 ask_bounds g w me input.Poll may = (may.0, may.1)
 ask_bounds g w me input.Sync may = (may.0, may.1)
 ask_bounds g w me (input.Payload payload) may = absurd may
 
 -- a client that awaits nothing has nothing under way
-idle_rests : (g : Group) (me : ℕ) (t : Standing) (up down : List (List ℕ)) (doing : Doing) → awaits_nothing t.awaiting ≡ true → IsBusy t doing → up ≡ up_by g me t doing → down ≡ down_by doing
+pub idle_rests : (g : Group) (me : ℕ) (t : Standing) (up down : List (List ℕ)) (doing : Doing) → awaits_nothing t.awaiting ≡ true → IsBusy t doing → up ≡ up_by g me t doing → down ≡ down_by doing
     → (up ≡ []) × (down ≡ [])
 idle_rests g me t up down Rests idle busy up_is down_is = (up_is, down_is)
 idle_rests g me t up down (Sends sending) idle busy up_is down_is = absurd cc
 idle_rests g me t up down (Gets m) idle busy up_is down_is = absurd cc
 
-room_left : (g : Group) (made : List (List ℕ)) (s : Server) (t : Standing) (seen newer : List Ordered) → ServerFits g made s → s.log ≡ newer ++ seen → t.path ≡ entries seen → length t.path < 2 ^ 32
+pub room_left : (g : Group) (made : List (List ℕ)) (s : Server) (t : Standing) (seen newer : List Ordered) → ServerFits g made s → s.log ≡ newer ++ seen → t.path ≡ entries seen → length t.path < 2 ^ 32
 room_left g made s t seen newer fits is path = omega (arith, fits.room, ap length is, length-append newer seen, ap length path, length-entries seen)
 
 module _ (g : Group) (w : World) (fit : WorldFits g w) (me : ℕ) (above : 0 < me) (upto : me ≤ g.count) where

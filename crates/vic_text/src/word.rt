@@ -1,6 +1,6 @@
 //! The words of a line: splitting at spaces, byte words and numbers.
 
-ghost use Rattle.std.specs.Prelude.{◌≡◌, ◌<◌, [], ◌∷◌, length, MatchOption, IfOk, IsTrue, min, not, nat_eq, ◌||◌, None, Some, if◌then◌else◌};
+ghost use Rattle.std.specs.Prelude.{◌≡◌, ◌<◌, ◌+◌, [], ◌∷◌, length, MatchOption, IfSome, IfOk, IsTrue, min, not, nat_eq, ◌||◌, None, Some, if◌then◌else◌};
 ghost use Rattle.std.specs.List.{list_all};
 ghost use Rattle.std.specs.Str.{bytes_eq};
 ghost use Rattle.vic_script.specs.Words.{is_plain as plain_test, is_lower_hex as hex_test, is_digit as digit_test, is_number as number_test, number_of as number_by, word_bytes, hex_word, word_client};
@@ -41,7 +41,8 @@ pub fn split_word(text: &[u8]) -> Option<(&[u8], &[u8])>
 /// The first line of a script and what stands behind the byte 0a after it; None where there is none.
 pub fn split_line(text: &[u8]) -> Option<(&[u8], &[u8])>
     requires { 0 < length text.now }
-    ensures { MatchOption result (lines_of text.now ≡ text.now ∷ []) (λ x. lines_of text.now ≡ x.0.now ∷ lines_of x.1.now) }
+    ensures lines { MatchOption result (lines_of text.now ≡ text.now ∷ []) (λ x. lines_of text.now ≡ x.0.now ∷ lines_of x.1.now) }
+    ensures length { IfSome result (λ x. length x.0.now + length x.1.now + 1 ≡ length text.now) }
 {
     let place = place_of(text, b'\n')?;
     Some((&text[..place], &text[place + 1..]))

@@ -1,0 +1,213 @@
+-- The completed calls in the order of the log are one legal history in real-time order.
+use Rattle.std.proofs.Common.{◌≡◌, ℕ, suc, zero, ◌+◌, ◌<◌, ◌≤◌, Bool, true, false, cond, not, ◌&&◌, List, [], ◌∷◌, ◌++◌, length, Option, Some, None, ◌⊎◌, inl, inr, refl, sym, ap, subst, ◌∙◌, arith, length-append, append_assoc}
+use Rattle.std.specs.Prelude.{if◌then◌else◌, nat_eq, nat_lt}
+use Rattle.std.specs.List.{AllByRecursion}
+use Rattle.std.proofs.lemmas.Bool.{lt-ltb, eqb-false, ne_eqb, eq-eqb}
+use Rattle.vic_dict.specs.Lists.{IsIn}
+use Rattle.vic_dict.specs.declared.op.Op.{Op}
+use Rattle.vic_dict.specs.declared.op.Entry.{Entry}
+use Rattle.vic_dict.specs.declared.op.Outcome.{Outcome}
+use Rattle.vic_dict.specs.declared.op.Outcome.TheVariants as outcome
+use Rattle.vic_dict.specs.Dictionary.{Dictionary, reply, after}
+use Rattle.vic_wire.specs.declared.message.ToClient.TheVariants as say
+use Rattle.vic_wire.specs.Conflict.{conflicts}
+use Rattle.vic_wire.specs.Hashes.{Group}
+use Rattle.vic_commute.proofs.Commuting.{Alike, alike_itself, after_same, other_after, reply_alike}
+use Rattle.vic_rules.specs.declared.trace.TraceStep.{TraceStep}
+use Rattle.vic_rules.specs.declared.trace.Shown.{Shown}
+use Rattle.vic_rules.specs.Client.{Standing, Invokes, Commits, Polls, Seals, Syncs, least_above, is_in_the_way, in_the_way, decided, is_done}
+use Rattle.vic_rules.specs.History.{standing, path, AreSteps, Completion, completions}
+use Rattle.vic_rules.specs.Views.{confirmed, confirmed_calls, shown_as, left_by, outcome_leaves, Explains, IsLegal}
+use Rattle.vic_laws.proofs.Words.{all_at}
+use Rattle.vic_laws.proofs.Agreement.{confirmed_tells}
+use Rattle.vic_laws.proofs.OwnLaid.{OwnOnes, own_ones}
+use Rattle.vic_order.specs.Order.{Ordered, Server, size, sealed_count}
+use Rattle.vic_order.specs.Fates.{entries, fate, dictionary_by}
+use Rattle.vic_order.specs.Honest.{World}
+use Rattle.vic_honest.proofs.Words.{entries-joined, length-entries, all-second}
+use Rattle.vic_honest.proofs.Standing.{EntryFits, WorldFits, Doing, Rests, Sends, Gets}
+use Rattle.vic_honest.proofs.Owns.{AllOn, AllOn-at, NoneOf, same_end}
+use Rattle.vic_honest.proofs.Deciding.{dictionary-next, none_above, not_chosen, no_conflict}
+use Rattle.vic_honest.proofs.Knowing.{IsOrdered, IsPast, Does, ServerKnows, ClientKnows}
+use Rattle.vic_honest.proofs.Learning.{IsFated}
+use Rattle.vic_honest.proofs.Known.{WorldKnows}
+use Rattle.vic_honest.proofs.Runs.{leaves_so}
+
+-- ---- what a log's confirmed calls leave
+
+-- what confirms an entry has its fate
+abbrev pub Fated : List Completion → List Ordered → Type 0
+Fated cs [] = Unit {0}
+Fated cs (x ∷ low) = ((c : Completion) → confirmed cs (entries (x ∷ low)) ≡ Some c → c.outcome ≡ fate x low) × Fated cs low
+
+-- an entry that isn't confirmed doesn't conflict with the operation
+abbrev pub Quiet : List Completion → Op → List Ordered → Type 0
+Quiet cs o [] = Unit {0}
+Quiet cs o (x ∷ low) = (confirmed cs (entries (x ∷ low)) ≡ None → conflicts x.entry.op o ≡ false) × Quiet cs o low
+
+calls-next : (cs : List Completion) (x : Ordered) (low : List Ordered) → confirmed_calls cs (entries (x ∷ low)) ≡ shown_as x.entry (confirmed cs (entries (x ∷ low))) ++ confirmed_calls cs (entries low)
+unfolding confirmed_calls
+calls-next cs x low = refl
+
+left-next : (x : Shown) (v : List Shown) → left_by (x ∷ v) ≡ outcome_leaves (left_by v) x x.outcome
+unfolding left_by
+left-next x v = refl
+
+calls-nil : (cs : List Completion) → confirmed_calls cs [] ≡ []
+unfolding confirmed_calls
+calls-nil cs = refl
+
+left-nil : left_by (confirmed_calls [] []) ≡ dictionary_by []
+unfolding confirmed_calls left_by dictionary_by
+left-nil = refl
+
+left_nothing : left_by [] ≡ dictionary_by []
+unfolding left_by dictionary_by
+left_nothing = refl
+
+same_step : (o op : Op) (d e : Dictionary) (done : Bool) → Alike o d e → Alike o (if done then after d op else d) (if done then after e op else e)
+same_step o op d e true alike = after_same o op d e alike
+same_step o op d e false alike = alike
+
+quiet_step : (o op : Op) (d e : Dictionary) (done : Bool) → conflicts op o ≡ false → Alike o d e → Alike o d (if done then after e op else e)
+quiet_step o op d e true apart alike = other_after o op d e apart alike
+quiet_step o op d e false apart alike = alike
+
+-- the confirmed calls leave what is alike, at the operation, to what all entries leave
+confirmed_leave : (cs : List Completion) (o : Op) (log : List Ordered) → Fated cs log → Quiet cs o log → Alike o (left_by (confirmed_calls cs (entries log))) (dictionary_by log)
+confirmed_leave cs o [] fated quiet = subst (λ v. Alike o (left_by v) (dictionary_by [])) (sym (calls-nil cs)) (subst (Alike o (left_by [])) left_nothing (alike_itself o (left_by [])))
+confirmed_leave cs o (x ∷ low) fated quiet =
+    let rest = confirmed_leave cs o low fated.1 quiet.1 in
+    let v : List Shown = confirmed_calls cs (entries low) in
+    subst (λ w. Alike o (left_by w) (dictionary_by (x ∷ low))) (sym (calls-next cs x low))
+    (subst (Alike o (left_by (shown_as x.entry (confirmed cs (entries (x ∷ low))) ++ v))) (sym (dictionary-next x low))
+    (elim (confirmed cs (entries (x ∷ low))) as (λ c. confirmed cs (entries (x ∷ low)) ≡ c → Alike o (left_by (shown_as x.entry c ++ v)) (if is_done (fate x low) then after (dictionary_by low) x.entry.op else dictionary_by low)) [
+      | None ↦ λ e. quiet_step o x.entry.op (left_by v) (dictionary_by low) (is_done (fate x low)) (quiet.0 e) rest
+      | Some c ↦ λ e.
+          let y : Shown = record { entry = x.entry; outcome = c.outcome } in
+          let leaves : left_by (y ∷ v) ≡ (if is_done (fate x low) then after (left_by v) x.entry.op else left_by v) =
+              left-next y v ∙ leaves_so (left_by v) y c.outcome ∙ ap (λ z. if is_done z then after (left_by v) x.entry.op else left_by v) (fated.0 c e) in
+          subst (λ d. Alike o d (if is_done (fate x low) then after (dictionary_by low) x.entry.op else dictionary_by low)) (sym leaves)
+          (same_step o x.entry.op (left_by v) (dictionary_by low) (is_done (fate x low)) rest)
+    ] refl))
+
+-- ---- legality
+
+-- each confirmed call that is done has no unconfirmed one in its way
+abbrev pub Clear : List Completion → List Ordered → Type 0
+Clear cs [] = Unit {0}
+Clear cs (x ∷ low) = (in_the_way x.entry.client x.entry.op x.sealed_then (entries low) ≡ None → Quiet cs x.entry.op low) × Clear cs low
+
+explained : (w : Option ℕ) (d e : Dictionary) (x : Shown) → (w ≡ None → reply e x.entry.op ≡ reply d x.entry.op) → Explains d x (decided w e x.entry.op)
+explained None d e x same = same refl
+explained (Some u) d e x same = tt
+
+fate_explained : (x : Ordered) (low : List Ordered) (d : Dictionary) → (in_the_way x.entry.client x.entry.op x.sealed_then (entries low) ≡ None → reply (dictionary_by low) x.entry.op ≡ reply d x.entry.op)
+    → Explains d (record { entry = x.entry; outcome = fate x low }) (fate x low)
+unfolding fate
+fate_explained x low d same = explained (in_the_way x.entry.client x.entry.op x.sealed_then (entries low)) d (dictionary_by low) (record { entry = x.entry; outcome = fate x low }) same
+
+pub confirmed_legal : (cs : List Completion) (log : List Ordered) → Fated cs log → Clear cs log → IsLegal (confirmed_calls cs (entries log))
+confirmed_legal cs [] fated clear = subst IsLegal (sym (calls-nil cs)) tt
+confirmed_legal cs (x ∷ low) fated clear =
+    let rest = confirmed_legal cs low fated.1 clear.1 in
+    let v : List Shown = confirmed_calls cs (entries low) in
+    subst IsLegal (sym (calls-next cs x low))
+    (elim (confirmed cs (entries (x ∷ low))) as (λ c. confirmed cs (entries (x ∷ low)) ≡ c → IsLegal (shown_as x.entry c ++ v)) [
+      | None ↦ λ e. rest
+      | Some c ↦ λ e. (rest, subst (λ z. Explains (left_by v) (record { entry = x.entry; outcome = z }) z) (sym (fated.0 c e))
+          (fate_explained x low (left_by v) (λ free. sym (reply_alike x.entry.op (left_by v) (dictionary_by low) (confirmed_leave cs x.entry.op low fated.1 (clear.0 free))))))
+    ] refl)
+
+-- ---- in a world
+
+-- an item of a joined list stands in the one part or in the other
+in_part : (newer seen above : List Ordered) (u : Ordered) (low : List Ordered) → newer ++ seen ≡ above ++ u ∷ low
+    → ((over : List Ordered) × (seen ≡ over ++ u ∷ low)) ⊎ ((between : List Ordered) × ((newer ≡ above ++ u ∷ between) × (low ≡ between ++ seen)))
+in_part [] seen above u low e = inl (above, e)
+in_part (x ∷ newer) seen [] u low e = let top : x ≡ u = cc in let rest : newer ++ seen ≡ low = cc in inr (newer, (ap (λ y. y ∷ newer) top, sym rest))
+in_part (x ∷ newer) seen (y ∷ above) u low e =
+    let top : x ≡ y = cc in
+    let rest : newer ++ seen ≡ above ++ u ∷ low = cc in
+    elim (in_part newer seen above u low rest) [
+      | inl a ↦ inl a
+      | inr b ↦ inr (b.0, (ap (λ l. x ∷ l) b.1.0 ∙ ap (λ z. z ∷ (above ++ u ∷ b.0)) top, b.1.1))
+    ]
+
+NotOf-at : (me : ℕ) (above : List Ordered) (u : Ordered) (low : List Ordered) → NoneOf me (above ++ u ∷ low) → nat_eq u.entry.client me ≡ false
+NotOf-at me [] u low h = h.0
+NotOf-at me (x ∷ above) u low h = NotOf-at me above u low h.1
+
+-- the one own entry of a list
+one_own : (me : ℕ) (above : List Ordered) (u : Ordered) (low later : List Ordered) (o : Ordered) (between : List Ordered) → NoneOf me later → NoneOf me between → nat_eq u.entry.client me ≡ true
+    → above ++ u ∷ low ≡ later ++ o ∷ between → (above ≡ later) × (u ∷ low ≡ o ∷ between)
+one_own me [] u low [] o between a b mine e = (refl, e)
+one_own me [] u low (z ∷ later) o between a b mine e = let top : u ≡ z = cc in let other : nat_eq u.entry.client me ≡ false = subst (λ y. nat_eq y.entry.client me ≡ false) (sym top) a.0 in absurd cc
+one_own me (n ∷ above) u low [] o between a b mine e =
+    let rest : above ++ u ∷ low ≡ between = cc in let other = NotOf-at me above u low (subst (NoneOf me) (sym rest) b) in absurd cc
+one_own me (n ∷ above) u low (z ∷ later) o between a b mine e =
+    let top : n ≡ z = cc in
+    let rest : above ++ u ∷ low ≡ later ++ o ∷ between = cc in
+    let r = one_own me above u low later o between a.1 b mine rest in (ap (λ l. n ∷ l) r.0 ∙ ap (λ y. y ∷ later) top, r.1)
+
+abbrev IsOpen : ℕ → Server → List Ordered → Ordered → List Ordered → Type 0
+IsOpen me s above u low = (sealed_count s < length (u ∷ low)) × NoneOf me above
+
+none_open : (me : ℕ) (s : Server) (newer above : List Ordered) (u : Ordered) (between low : List Ordered) → NoneOf me newer → newer ≡ above ++ u ∷ between → nat_eq u.entry.client me ≡ true → IsOpen me s above u low
+none_open me s newer above u between low none e mine = let other = NotOf-at me above u between (subst (NoneOf me) e none) in absurd cc
+
+-- an own entry that the client hasn't seen is the one whose Reply is under way
+unseen_open : (g : Group) (me : ℕ) (s : Server) (t : Standing) (seen newer above : List Ordered) (u : Ordered) (between low : List Ordered) (doing : Doing) → Does g me s t seen newer doing
+    → newer ≡ above ++ u ∷ between → low ≡ between ++ seen → nat_eq u.entry.client me ≡ true → IsOpen me s above u low
+unseen_open g me s t seen newer above u between low Rests d e f mine = none_open me s newer above u between low d.1.others e mine
+unseen_open g me s t seen newer above u between low (Sends (Invokes n o)) d e f mine = none_open me s newer above u between low d.calm.others e mine
+unseen_open g me s t seen newer above u between low (Sends (Commits done)) d e f mine = none_open me s newer above u between low d.others e mine
+unseen_open g me s t seen newer above u between low (Sends Polls) d e f mine = none_open me s newer above u between low d.1.others e mine
+unseen_open g me s t seen newer above u between low (Sends Seals) d e f mine = none_open me s newer above u between low d.others e mine
+unseen_open g me s t seen newer above u between low (Sends Syncs) d e f mine = none_open me s newer above u between low d.1.others e mine
+unseen_open g me s t seen newer above u between low (Gets say.Hi) d e f mine = absurd d
+unseen_open g me s t seen newer above u between low (Gets (say.Reply seal es part)) d e f mine =
+    let one = one_own me above u between d.later d.o d.between d.later_others d.others mine (sym e ∙ d.split) in
+    let long : length (u ∷ low) ≡ length (d.o ∷ (d.between ++ seen)) = ap (λ l. suc (length l)) f ∙ ap (λ l. length (l ++ seen)) one.1 in
+    (omega (arith, d.higher, long), subst (NoneOf me) (sym one.0) d.later_others)
+unseen_open g me s t seen newer above u between low (Gets say.Wait) d e f mine = none_open me s newer above u between low d.1.others e mine
+unseen_open g me s t seen newer above u between low (Gets (say.Update seal part)) d e f mine = none_open me s newer above u between low d.calm.others e mine
+unseen_open g me s t seen newer above u between low (Gets (say.Entries seal es)) d e f mine = none_open me s newer above u between low d.calm.others e mine
+unseen_open g me s t seen newer above u between low (Gets (say.Refused r)) d e f mine = none_open me s newer above u between low d.calm.others e mine
+unseen_open g me s t seen newer above u between low (Gets say.Kept) d e f mine = absurd d
+unseen_open g me s t seen newer above u between low (Gets (say.Content c)) d e f mine = absurd d
+unseen_open g me s t seen newer above u between low (Gets say.Gone) d e f mine = absurd d
+unseen_open g me s t seen newer above u between low (Gets say.Absent) d e f mine = absurd d
+
+own_one_at : (cs : List Completion) (me : ℕ) (above : List Entry) (e : Entry) (p : List Entry) → OwnOnes cs me (above ++ e ∷ p) → e.client ≡ me → (c : Completion) × (confirmed cs (e ∷ p) ≡ Some c)
+own_one_at cs me [] e p h mine = h.0 mine
+own_one_at cs me (x ∷ above) e p h mine = own_one_at cs me above e p h.1 mine
+
+-- a search that finds nothing finds nothing at each place
+none_at : (base : ℕ) (test : Entry → Bool) (above : List Ordered) (u : Ordered) (low : List Ordered) → least_above base test (entries (above ++ u ∷ low)) ≡ None → base < length (u ∷ low) → test u.entry ≡ false
+none_at base test [] u low e higher =
+    let lt : nat_lt base (length (u.entry ∷ entries low)) ≡ true = lt-ltb base (length (u.entry ∷ entries low)) (omega (arith, length-entries low)) in
+    not_chosen (nat_lt base (length (u.entry ∷ entries low))) (test u.entry) (length (u.entry ∷ entries low)) lt (none_above base test u.entry (entries low) e).1
+none_at base test (x ∷ above) u low e higher = none_at base test above u low (none_above base test x.entry (entries (above ++ u ∷ low)) e).0 higher
+
+module _ (g : Group) (w : World) (fit : WorldFits g w) (know : WorldKnows g w) where
+  abbrev cs : List Completion
+  cs = completions g w.history
+
+  abbrev made_log : List Ordered
+  made_log = w.server.log
+
+  -- an entry that isn't confirmed is its client's open call
+  unconfirmed_open : (above : List Ordered) (u : Ordered) (low : List Ordered) → w.server.log ≡ above ++ u ∷ low → confirmed cs (entries (u ∷ low)) ≡ None → IsOpen u.entry.client w.server above u low
+  unconfirmed_open above u low is none = ?
+
+  fated_on : (above low : List Ordered) → w.server.log ≡ above ++ low → Fated cs low
+  fated_on above [] is = tt
+  fated_on above (x ∷ low) is = ?
+
+  clear_on : (above low : List Ordered) → w.server.log ≡ above ++ low → Clear cs low
+  clear_on above [] is = tt
+  clear_on above (x ∷ low) is = ?
+
+  pub world_legal : IsLegal (confirmed_calls cs (entries w.server.log))
+  world_legal = confirmed_legal cs w.server.log (fated_on [] w.server.log refl) (clear_on [] w.server.log refl)
