@@ -7,3 +7,4 @@ pub mod Reached
 pub mod Lines
 pub mod Runs
 pub mod Payloads
+pub mod Outcomes

@@ -71,11 +71,14 @@ module _ (s : Scene) (n : ℕ) (r : IsReached s n) where
 
 -- what holds of each client's queue holds of each queue that is read: queue 0 is the first client's, and past the last there is none
 any-queue : (queues : List Queue) (count : ℕ) → length queues ≡ count → 0 < count → ((i : ℕ) → 0 < i → i ≤ count → AllByRecursion AreBytes (queue_of queues i)) → (i : ℕ) → AllByRecursion AreBytes (queue_of queues i)
-any-queue queues count is some each zero = each 1 (omega arith) (omega (arith, some))
-any-queue queues count is some each (suc i) =
-    elim (cases_lt i count) [
-      | inl upto ↦ each (suc i) (omega arith) (omega (arith, upto))
-      | inr past ↦ subst (AllByRecursion AreBytes) (sym (ap (λ o. unwrap_or o []) (slice_get_past queues i (omega (arith, is, past))))) tt
+any-queue queues count is some each i =
+    elim (cases_lt count i) [
+      | inl past ↦ subst (AllByRecursion AreBytes) (sym (ap (λ o. unwrap_or o []) (slice_get_past queues (i - 1) (omega (arith, is, past))))) tt
+      | inr upto ↦
+          elim (cases_lt 0 i) [
+            | inl above ↦ each i above upto
+            | inr none ↦ let e : 0 ≡ i = omega (arith, none) in subst (λ k. AllByRecursion AreBytes (queue_of queues k)) e (each 1 (omega arith) (omega (arith, some)))
+          ]
     ]
 
 -- the requests that wait are bytes, and so are the answers
