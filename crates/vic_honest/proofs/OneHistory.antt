@@ -18,6 +18,7 @@ use Rattle.vic_rules.specs.declared.trace.Shown.{Shown}
 use Rattle.vic_rules.specs.Client.{Standing, Invokes, Commits, Polls, Seals, Syncs, least_above, is_in_the_way, in_the_way, decided, is_done}
 use Rattle.vic_rules.specs.History.{standing, path, AreSteps, Completion, completions}
 use Rattle.vic_rules.specs.Views.{confirmed, confirmed_calls, shown_as, left_by, outcome_leaves, Explains, IsLegal}
+use Rattle.vic_rules.specs.Trust.{texts_made}
 use Rattle.vic_laws.proofs.Words.{all_at}
 use Rattle.vic_laws.proofs.Agreement.{confirmed_tells}
 use Rattle.vic_laws.proofs.OwnLaid.{OwnOnes, own_ones}
@@ -56,10 +57,6 @@ left-next x v = refl
 calls-nil : (cs : List Completion) → confirmed_calls cs [] ≡ []
 unfolding confirmed_calls
 calls-nil cs = refl
-
-left-nil : left_by (confirmed_calls [] []) ≡ dictionary_by []
-unfolding confirmed_calls left_by dictionary_by
-left-nil = refl
 
 left_nothing : left_by [] ≡ dictionary_by []
 unfolding left_by dictionary_by
@@ -190,24 +187,59 @@ none_at base test [] u low e higher =
     not_chosen (nat_lt base (length (u.entry ∷ entries low))) (test u.entry) (length (u.entry ∷ entries low)) lt (none_above base test u.entry (entries low) e).1
 none_at base test (x ∷ above) u low e higher = none_at base test above u low (none_above base test x.entry (entries (above ++ u ∷ low)) e).0 higher
 
+abbrev top_fate : List Ordered → Outcome
+top_fate [] = outcome.Refused 0
+top_fate (o ∷ below) = fate o below
+
 module _ (g : Group) (w : World) (fit : WorldFits g w) (know : WorldKnows g w) where
   abbrev cs : List Completion
   cs = completions g w.history
 
-  abbrev made_log : List Ordered
-  made_log = w.server.log
-
   -- an entry that isn't confirmed is its client's open call
   unconfirmed_open : (above : List Ordered) (u : Ordered) (low : List Ordered) → w.server.log ≡ above ++ u ∷ low → confirmed cs (entries (u ∷ low)) ≡ None → IsOpen u.entry.client w.server above u low
-  unconfirmed_open above u low is none = ?
+  unconfirmed_open above u low is none =
+      let me : ℕ = u.entry.client in
+      let entry : EntryFits (texts_made g w.history) u = (all-second (EntryFits (texts_made g w.history)) above (u ∷ low) (subst (AllByRecursion (EntryFits (texts_made g w.history))) is fit.server.log)).0 in
+      let upto : me ≤ g.count = (AllOn-at (IsOrdered g) above u low (subst (AllOn (IsOrdered g)) is know.server.ordered)).member in
+      let c : ClientKnows g me w.server (standing g me w.history) (w.up me) (w.down me) = know.clients me entry.spelled.client.0 upto in
+      elim (in_part c.newer c.seen above u low (sym c.keeps.log ∙ is)) [
+        | inl a ↦
+            let at : path g me w.history ≡ entries a.0 ++ u.entry ∷ entries low = c.keeps.path ∙ ap entries a.1 ∙ entries-joined a.0 (u ∷ low) in
+            let found = own_one_at cs me (entries a.0) u.entry (entries low) (subst (OwnOnes cs me) at (own_ones g w.history fit.steps me)) refl in
+            let both = sym none ∙ found.1 in absurd cc
+        | inr b ↦ unseen_open g me w.server (standing g me w.history) c.seen c.newer above u b.0 low c.doing c.does b.1.0 b.1.1 (eq-eqb me me refl)
+      ]
 
   fated_on : (above low : List Ordered) → w.server.log ≡ above ++ low → Fated cs low
   fated_on above [] is = tt
-  fated_on above (x ∷ low) is = ?
+  fated_on above (x ∷ low) is =
+      ((λ c e.
+        let tells = confirmed_tells cs (entries (x ∷ low)) c e in
+        let f : IsFated w.server.log c = all_at (IsFated w.server.log) cs c know.fates tells.0 in
+        let long : length (x ∷ low) ≡ length (f.o ∷ f.below) = sym (length-entries (x ∷ low)) ∙ ap length (sym tells.1 ∙ f.prefix) ∙ length-entries (f.o ∷ f.below) in
+        let same : x ∷ low ≡ f.o ∷ f.below = same_end above (x ∷ low) f.newer (f.o ∷ f.below) (sym is ∙ f.is) long in
+        f.outcome ∙ ap top_fate (sym same)),
+       fated_on (above ++ x ∷ []) low (is ∙ sym (append_assoc above (x ∷ []) low)))
+
+  -- a done call has no open one in its way
+  quiet_on : (above : List Ordered) (x : Ordered) (low : List Ordered) → w.server.log ≡ above ++ x ∷ low → in_the_way x.entry.client x.entry.op x.sealed_then (entries low) ≡ None
+      → (mid rest : List Ordered) → low ≡ mid ++ rest → Quiet cs x.entry.op rest
+  quiet_on above x low is free mid [] e = tt
+  quiet_on above x low is free mid (u ∷ rest) e =
+      ((λ none.
+        let at : w.server.log ≡ (above ++ x ∷ mid) ++ u ∷ rest = is ∙ ap (λ l. above ++ x ∷ l) e ∙ sym (append_assoc above (x ∷ mid) (u ∷ rest)) in
+        let opened = unconfirmed_open (above ++ x ∷ mid) u rest at none in
+        let past : x.sealed_then ≤ sealed_count w.server = (all-second (IsPast (sealed_count w.server)) above (x ∷ low) (subst (AllByRecursion (IsPast (sealed_count w.server))) is know.server.past)).0 in
+        let away : is_in_the_way x.entry.client x.entry.op u.entry ≡ false =
+            none_at x.sealed_then (is_in_the_way x.entry.client x.entry.op) mid u rest (ap (λ l. in_the_way x.entry.client x.entry.op x.sealed_then (entries l)) (sym e) ∙ free) (omega (arith, past, opened.0)) in
+        let other : nat_eq u.entry.client x.entry.client ≡ false =
+            ne_eqb u.entry.client x.entry.client (λ same. eqb-false x.entry.client u.entry.client (NotOf-at u.entry.client above x mid opened.1) (sym same)) in
+        no_conflict (nat_eq u.entry.client x.entry.client) (conflicts u.entry.op x.entry.op) other away),
+       quiet_on above x low is free (mid ++ u ∷ []) rest (e ∙ sym (append_assoc mid (u ∷ []) rest)))
 
   clear_on : (above low : List Ordered) → w.server.log ≡ above ++ low → Clear cs low
   clear_on above [] is = tt
-  clear_on above (x ∷ low) is = ?
+  clear_on above (x ∷ low) is = ((λ free. quiet_on above x low is free [] low refl), clear_on (above ++ x ∷ []) low (is ∙ sym (append_assoc above (x ∷ []) low)))
 
   pub world_legal : IsLegal (confirmed_calls cs (entries w.server.log))
   world_legal = confirmed_legal cs w.server.log (fated_on [] w.server.log refl) (clear_on [] w.server.log refl)
