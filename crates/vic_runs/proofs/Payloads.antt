@@ -1,5 +1,5 @@
 -- What waits in the queues of a scene that is reached.
-use Rattle.std.proofs.Common.{◌≡◌, ℕ, zero, suc, ◌+◌, ◌-◌, ◌<◌, ◌≤◌, List, [], ◌∷◌, length, Option, Some, None, ◌⊎◌, inl, inr, refl, sym, ap, subst, ◌∙◌, arith, get_or}
+use Rattle.std.proofs.Common.{◌≡◌, ℕ, zero, suc, ◌+◌, ◌-◌, ◌<◌, ◌≤◌, List, [], ◌∷◌, length, Option, Some, None, ◌⊎◌, inl, inr, refl, sym, ap, subst, ◌∙◌, arith, length-append}
 use Rattle.std.specs.List.{AllByRecursion}
 use Rattle.std.specs.Prelude.{unwrap_or}
 use Rattle.std.proofs.lemmas.Bool.{cases_lt}
@@ -9,14 +9,15 @@ use Rattle.vic_wire.specs.Hashes.{Group}
 use Rattle.vic_rules.specs.Client.{Standing, Sending, Invokes, Commits, Polls, Seals, Syncs, request_of}
 use Rattle.vic_rules.specs.History.{standing}
 use Rattle.vic_rules.specs.Trust.{texts_made}
-use Rattle.vic_order.specs.Order.{Ordered}
+use Rattle.vic_order.specs.Order.{Ordered, size}
 use Rattle.vic_order.specs.Honest.{World, world_after}
 use Rattle.vic_spellings.specs.Spellings.{RequestHoldsBytes}
 use Rattle.vic_spellings.proofs.Holding.{request-bytes}
 use Rattle.vic_honest.proofs.Spoken.{tag_bytes}
 use Rattle.vic_honest.proofs.Standing.{Doing, Rests, Sends, Gets, StandingFits, RequestGoes, AnswerComes, Does, ClientFits, WorldFits, up_by, down_by}
-use Rattle.vic_honest.proofs.Worlds.{all_fit}
-use Rattle.vic_script.specs.Scenes.{Queue, Scene, queue_of}
+use Rattle.vic_honest.proofs.Words.{length-entries}
+use Rattle.vic_honest.proofs.Runs.{run_fits, run_knows}
+use Rattle.vic_script.specs.Scenes.{Queue, Scene, queue_of, stands}
 use Rattle.vic_runs.proofs.Reached.{IsReached}
 
 sent-bytes : (g : Group) (me : ℕ) (t : Standing) (sending : Sending) → StandingFits t → RequestHoldsBytes (request_of g me t sending)
@@ -44,7 +45,7 @@ module _ (g : Group) (made : List (List ℕ)) (me : ℕ) (log : List Ordered) (t
   up-few (Gets m) = omega arith
 
 reached-fits : (s : Scene) (n : ℕ) (r : IsReached s n) → WorldFits s.group (world_after s.group r.events)
-reached-fits s n r = all_fit s.group r.honest.group r.events r.honest.steps
+reached-fits s n r = run_fits s.group r.events r.honest
 
 module _ (s : Scene) (n : ℕ) (r : IsReached s n) where
   abbrev world : World
@@ -87,3 +88,24 @@ reached-up_bytes s n r i = any-queue s.up s.group.count r.shows.up_count r.hones
 
 pub reached-down_bytes : (s : Scene) (n : ℕ) → IsReached s n → (i : ℕ) → AllByRecursion AreBytes (queue_of s.down i)
 reached-down_bytes s n r i = any-queue s.down s.group.count r.shows.down_count r.honest.group.count.0 (client-down s n r) i
+
+-- ---- bounds
+
+-- the server's log has room
+pub reached-room : (s : Scene) (n : ℕ) → IsReached s n → size s.server ≤ 1048576
+reached-room s n r = subst (λ v. size v ≤ 1048576) r.shows.server (reached-fits s n r).server.room
+
+-- the server has as many members as the group
+pub reached-members : (s : Scene) (n : ℕ) → IsReached s n → length s.server.members ≡ s.group.count
+reached-members s n r = subst (λ v. length v.members ≡ s.group.count) r.shows.server (run_knows s.group r.events r.honest).server.members
+
+-- what a client keeps is within its path
+pub reached-standing : (s : Scene) (n : ℕ) → IsReached s n → (i : ℕ) → 0 < i → i ≤ s.group.count → StandingFits (stands s i)
+reached-standing s n r i above upto = subst (λ h. StandingFits (standing s.group i h)) r.shows.history ((reached-fits s n r).clients i above upto).fits
+
+pub reached-path : (s : Scene) (n : ℕ) → IsReached s n → (i : ℕ) → 0 < i → i ≤ s.group.count → length (stands s i).path ≤ 1048576
+reached-path s n r i above upto =
+    let f = reached-fits s n r in
+    let c = f.clients i above upto in
+    let upto_log : length (standing s.group i (world_after s.group r.events).history).path ≤ 1048576 = omega (arith, f.server.room, ap length c.is, length-append c.newer c.seen, ap length c.path, length-entries c.seen) in
+    subst (λ h. length (standing s.group i h).path ≤ 1048576) r.shows.history upto_log

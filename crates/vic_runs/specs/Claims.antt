@@ -1,16 +1,18 @@
 -- The laws of scripts, one by one.
-use Rattle.std.specs.Prelude.{◌≡◌, ℕ, ◌<◌, ◌≤◌, ◌↔◌, true, false, List, Some}
-use Rattle.vic_dict.specs.Lists.{AreBytes}
+use Rattle.std.specs.Prelude.{◌≡◌, ℕ, ◌<◌, ◌≤◌, ◌↔◌, true, false, List, Some, None}
+use Rattle.vic_dict.specs.declared.op.Outcome.TheVariants as outcome
+use Rattle.vic_dict.specs.Lists.{IsIn, AreBytes}
 use Rattle.vic_dict.specs.Dictionary.{Fits, AreBytesIn}
 use Rattle.vic_wire.specs.Hashes.{Group}
 use Rattle.vic_rules.specs.declared.trace.TraceStep.{TraceStep}
-use Rattle.vic_rules.specs.History.{IsLawful}
+use Rattle.vic_rules.specs.History.{IsLawful, Completion, completions}
 use Rattle.vic_rules.specs.Trust.{IsForged}
 use Rattle.vic_rules.specs.Headline.{Headline}
 use Rattle.vic_order.specs.Honest.{Event, IsHonestRun, world_after}
 use Rattle.vic_script.specs.declared.line.Line.{Line}
 use Rattle.vic_script.specs.declared.line.Line.TheVariants as line
-use Rattle.vic_script.specs.Scenes.{Scene}
+use Rattle.vic_honest.specs.Claims.{StandsAsFated}
+use Rattle.vic_script.specs.Scenes.{Scene, stands}
 use Rattle.vic_script.specs.Run.{run_of, group_of, history_of}
 use Rattle.vic_script.specs.Print.{is_forged}
 
@@ -54,3 +56,16 @@ pub record IsGood (script : List ℕ) : Type 0 where
 
 abbrev pub ClaimsHold : Type 0
 ClaimsHold = (script : List ℕ) → AreBytes script → IsGood script
+
+-- every completed call is an entry of the server's log, and its outcome is what becomes of that entry
+abbrev pub OutcomesAreFates : Type 0
+OutcomesAreFates = (script : List ℕ) → AreBytes script → (s : Scene) → (run_of script).scene ≡ Some s → (c : Completion) → IsIn (completions s.group s.history) c → StandsAsFated s.server.log c
+
+-- no client has halted, and no step returned that a check failed; a call that is refused names one of four limits
+pub record GoesOn (s : Scene) : Type 0 where
+  pub stands_so : (i : ℕ) → 0 < i → i ≤ s.group.count → (stands s i).halted ≡ None
+  pub returns_so : (x : TraceStep) → IsIn s.history x → (check : ℕ) → x.returned ≡ Some (outcome.Halted check) → ⊥
+  pub refuses_so : (x : TraceStep) → IsIn s.history x → (number : ℕ) → x.returned ≡ Some (outcome.Refused number) → (0 < number) × (number ≤ 4)
+
+abbrev pub NobodyHalts : Type 0
+NobodyHalts = (script : List ℕ) → AreBytes script → (s : Scene) → (run_of script).scene ≡ Some s → GoesOn s

@@ -6,7 +6,7 @@
 //! group's views to every script.
 #![tactic(auto)]
 
-ghost use Rattle.vic_runs.specs.Claims.{RunsAreLawful, NothingIsForged, ForgedIs, RunsAreHonest, ClaimsHold};
+ghost use Rattle.vic_runs.specs.Claims.{RunsAreLawful, NothingIsForged, ForgedIs, RunsAreHonest, ClaimsHold, OutcomesAreFates, NobodyHalts};
 
 /// The history of a script is one of clients that step by the rules.
 pub fn runs_are_lawful()
@@ -31,4 +31,14 @@ pub fn runs_are_honest()
 /// The claim on a group's views, of every script.
 pub fn claims_hold()
     ensures { ClaimsHold }
+{}
+
+/// Each call that a script completes returns what becomes of it in the server's log.
+pub fn outcomes_are_fates()
+    ensures { OutcomesAreFates }
+{}
+
+/// In the run of a script no client halts.
+pub fn nobody_halts()
+    ensures { NobodyHalts }
 {}
