@@ -8,3 +8,4 @@ pub mod Lines
 pub mod Runs
 pub mod Payloads
 pub mod Outcomes
+pub mod Halted

@@ -17,7 +17,8 @@ passed : (k : ℕ) (b : Bool) (others : List (ℕ × Bool)) → first_failing ((
 passed k true others e = (refl, e)
 passed k false others e = absurd cc
 
-client_is : (s : Scene) (i : ℕ) → is_client s i ≡ true → (0 < i) × (i ≤ s.group.count)
+-- a number that passes the test is a client's
+pub client_is : (s : Scene) (i : ℕ) → is_client s i ≡ true → (0 < i) × (i ≤ s.group.count)
 client_is s i e = let p = and_parts (nat_lt 0 i) (nat_le i s.group.count) e in (ltb-true _ _ p.0, leb-true _ _ p.1)
 
 waits_is : (queue : Queue) → nat_lt 0 (length queue) ≡ true → queue ≡ [] → ⊥

@@ -1,5 +1,5 @@
 -- What the clients of a scene that is reached return.
-use Rattle.std.proofs.Common.{◌≡◌, ℕ, ◌<◌, ◌≤◌, List, [], ◌∷◌, ◌++◌, Option, Some, None, ◌⊎◌, inl, inr, refl, sym, ap, subst, ◌∙◌, arith}
+use Rattle.std.proofs.Common.{◌≡◌, ℕ, ◌<◌, ◌≤◌, List, [], ◌∷◌, ◌++◌, Option, Some, None, inl, refl, sym, subst, arith}
 use Rattle.vic_dict.specs.Lists.{IsIn}
 use Rattle.vic_dict.specs.declared.op.Outcome.{Outcome}
 use Rattle.vic_dict.specs.declared.op.Outcome.TheVariants as outcome
@@ -11,7 +11,6 @@ use Rattle.vic_rules.specs.History.{Completion, completion, completions, path}
 use Rattle.vic_laws.proofs.Words.{in_left}
 use Rattle.vic_order.specs.Order.{Ordered}
 use Rattle.vic_order.specs.Fates.{entries, fate}
-use Rattle.vic_order.specs.Honest.{world_after}
 use Rattle.vic_honest.specs.Claims.{StandsAsFated, SealedSo}
 use Rattle.vic_honest.proofs.Runs.{all_go_on, all_fated, all_refusals, all_sealed}
 use Rattle.vic_script.specs.Scenes.{Queue, Scene, queue_of, stands, steps, taken, takes, returned_in}

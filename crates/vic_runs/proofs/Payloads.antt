@@ -1,5 +1,5 @@
 -- What waits in the queues of a scene that is reached.
-use Rattle.std.proofs.Common.{◌≡◌, ℕ, zero, suc, ◌+◌, ◌-◌, ◌<◌, ◌≤◌, List, [], ◌∷◌, length, Option, Some, None, ◌⊎◌, inl, inr, refl, sym, ap, subst, ◌∙◌, arith, length-append}
+use Rattle.std.proofs.Common.{◌≡◌, ℕ, ◌+◌, ◌-◌, ◌<◌, ◌≤◌, List, [], length, inl, inr, sym, ap, subst, ◌∙◌, arith, length-append}
 use Rattle.std.specs.List.{AllByRecursion}
 use Rattle.std.specs.Prelude.{unwrap_or}
 use Rattle.std.proofs.lemmas.Bool.{cases_lt}
@@ -14,7 +14,7 @@ use Rattle.vic_order.specs.Honest.{World, world_after}
 use Rattle.vic_spellings.specs.Spellings.{RequestHoldsBytes}
 use Rattle.vic_spellings.proofs.Holding.{request-bytes}
 use Rattle.vic_honest.proofs.Spoken.{tag_bytes}
-use Rattle.vic_honest.proofs.Standing.{Doing, Rests, Sends, Gets, StandingFits, RequestGoes, AnswerComes, Does, ClientFits, WorldFits, up_by, down_by}
+use Rattle.vic_honest.proofs.Standing.{Doing, Rests, Sends, Gets, StandingFits, Does, WorldFits, up_by, down_by}
 use Rattle.vic_honest.proofs.Words.{length-entries}
 use Rattle.vic_honest.proofs.Runs.{run_fits, run_knows}
 use Rattle.vic_script.specs.Scenes.{Queue, Scene, queue_of, stands}
@@ -67,8 +67,12 @@ module _ (s : Scene) (n : ℕ) (r : IsReached s n) where
   pub reached-few : (i : ℕ) → 0 < i → i ≤ s.group.count → length (queue_of s.up i) + length (queue_of s.down i) ≤ 1
   reached-few i above upto =
       let c = (reached-fits s n r).clients i above upto in
-      omega (arith, up-few s.group (texts_made s.group world.history) i world.server.log (standing s.group i world.history) c.seen c.newer c.doing,
-        ap length (sym c.up_is ∙ r.shows.up i above upto), ap length (sym c.down_is ∙ r.shows.down i above upto))
+      omega (
+        arith,
+        up-few s.group (texts_made s.group world.history) i world.server.log (standing s.group i world.history) c.seen c.newer c.doing,
+        ap length (sym c.up_is ∙ r.shows.up i above upto),
+        ap length (sym c.down_is ∙ r.shows.down i above upto),
+      )
 
 -- what holds of each client's queue holds of each queue that is read: queue 0 is the first client's, and past the last there is none
 any-queue : (queues : List Queue) (count : ℕ) → length queues ≡ count → 0 < count → ((i : ℕ) → 0 < i → i ≤ count → AllByRecursion AreBytes (queue_of queues i)) → (i : ℕ) → AllByRecursion AreBytes (queue_of queues i)

@@ -32,7 +32,7 @@ reached_in-more (Some s) n m more h = reached-more s n m more h
 
 -- ---- a line
 
-abbrev TriedReaches : Tried → ℕ → Type 0
+abbrev pub TriedReaches : Tried → ℕ → Type 0
 TriedReaches (Fails k) n = Unit {0}
 TriedReaches (Does s text) n = IsReached s n
 
@@ -49,7 +49,7 @@ tried-first (line.Serve i) n fits = tt
 tried-first (line.Take i) n fits = tt
 tried-first (line.Run i) n fits = tt
 
-tried : (scene : Option Scene) (l : Option Line) (n : ℕ) → ReachedIn scene n → n + 1 < 2 ^ 32 → FitsIn l → TriedReaches (try_line scene l) (n + 1)
+pub tried : (scene : Option Scene) (l : Option Line) (n : ℕ) → ReachedIn scene n → n + 1 < 2 ^ 32 → FitsIn l → TriedReaches (try_line scene l) (n + 1)
 tried None None n h few fits = tt
 tried None (Some l) n h few fits = tried-first l n fits
 tried (Some s) None n h few fits = tt
@@ -89,7 +89,7 @@ reached-play total before number n (Some was) (text ∷ texts) h few bytes =
     (tried (Some was) (line_of kind text) n h (omega (arith, few)) (text_fits kind text bytes.0))
     (λ s r. reached_in-more (rest s).scene (n + 1 + length texts) m (omega arith) (reached-play total place (number + 1) (n + 1) (Some s) texts r (omega (arith, few)) bytes.1)))
 
-bytes-take : (n : ℕ) (bs : List ℕ) → AreBytes bs → AreBytes (take n bs)
+pub bytes-take : (n : ℕ) (bs : List ℕ) → AreBytes bs → AreBytes (take n bs)
 bytes-take zero bs h = bytes-nil
 bytes-take (suc n) [] h = bytes-nil
 bytes-take (suc n) (b ∷ bs) h = bytes-cons b (take n bs) (h 0) (bytes-take n bs (bytes-rest b bs h))
@@ -97,7 +97,7 @@ bytes-take (suc n) (b ∷ bs) h = bytes-cons b (take n bs) (h 0) (bytes-take n b
 reached-known : (known : List ℕ) → AreBytes known → length known < 2 ^ 32 → ReachedIn (play (length known) 0 1 None (lines_of known)).scene (0 + length (lines_of known))
 reached-known known bytes few = reached-play (length known) 0 1 0 None (lines_of known) tt (omega (arith, few, length-lines_of known)) (lines-bytes known bytes)
 
-length-taken : (n : ℕ) (bs : List ℕ) → length (take n bs) ≤ n
+pub length-taken : (n : ℕ) (bs : List ℕ) → length (take n bs) ≤ n
 length-taken n bs = omega (arith, length-take n bs)
 
 -- a script of bytes reaches the scene that it leaves
@@ -152,4 +152,4 @@ all_honest script bytes =
 pub all_hold : ClaimsHold
 all_hold script bytes =
     let lawful = all_lawful script bytes in
-    record { lawful = lawful; honest = never_forged script bytes; views = every_history_holds (group_of script) (history_of script) lawful }
+    record { lawful = lawful; honest = never_forged script bytes; tags_made = (none_forged script bytes).0; views = every_history_holds (group_of script) (history_of script) lawful }

@@ -13,7 +13,7 @@ use Rattle.vic_script.specs.declared.line.Line.{Line}
 use Rattle.vic_script.specs.declared.line.Line.TheVariants as line
 use Rattle.vic_honest.specs.Claims.{StandsAsFated}
 use Rattle.vic_script.specs.Scenes.{Scene, stands}
-use Rattle.vic_script.specs.Run.{run_of, group_of, history_of}
+use Rattle.vic_script.specs.Run.{Bad, run_of, group_of, history_of, bad_line_of}
 use Rattle.vic_script.specs.Print.{is_forged}
 
 -- the operation of a call is within its lengths and is bytes, and a group has 1 to 64 clients
@@ -52,6 +52,7 @@ RunsAreHonest = (script : List ℕ) → AreBytes script → IsRunOf script
 pub record IsGood (script : List ℕ) : Type 0 where
   pub lawful : IsLawful (group_of script) (history_of script)
   pub honest : IsForged (group_of script) (history_of script) → ⊥
+  pub tags_made : is_forged (group_of script) (history_of script) ≡ false
   pub views : Headline (group_of script) (history_of script)
 
 abbrev pub ClaimsHold : Type 0
@@ -69,3 +70,7 @@ pub record GoesOn (s : Scene) : Type 0 where
 
 abbrev pub NobodyHalts : Type 0
 NobodyHalts = (script : List ℕ) → AreBytes script → (s : Scene) → (run_of script).scene ≡ Some s → GoesOn s
+
+-- no line is bad for that its client has halted
+abbrev pub NoLineIsHalted : Type 0
+NoLineIsHalted = (script : List ℕ) → AreBytes script → (b : Bad) → bad_line_of script ≡ Some b → b.kind ≡ 3 → ⊥

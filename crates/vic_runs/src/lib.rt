@@ -6,7 +6,7 @@
 //! group's views to every script.
 #![tactic(auto)]
 
-ghost use Rattle.vic_runs.specs.Claims.{RunsAreLawful, NothingIsForged, ForgedIs, RunsAreHonest, ClaimsHold, OutcomesAreFates, NobodyHalts};
+ghost use Rattle.vic_runs.specs.Claims.{RunsAreLawful, NothingIsForged, ForgedIs, RunsAreHonest, ClaimsHold, OutcomesAreFates, NobodyHalts, NoLineIsHalted};
 
 /// The history of a script is one of clients that step by the rules.
 pub fn runs_are_lawful()
@@ -41,4 +41,9 @@ pub fn outcomes_are_fates()
 /// In the run of a script no client halts.
 pub fn nobody_halts()
     ensures { NobodyHalts }
+{}
+
+/// No line of a script is bad for that its client has halted.
+pub fn no_line_is_halted()
+    ensures { NoLineIsHalted }
 {}
