@@ -1,0 +1,4 @@
+pub mod Walks
+pub mod Tags
+pub mod Paths
+pub mod Verdicts

@@ -1,0 +1,7 @@
+use Rattle.vic_rules.specs.Client.{onto}
+use Rattle.vic_checks.proofs.Tags.{sealed_by}
+use Rattle.vic_checks.proofs.seals.holds_on.Goals as goal
+
+pub returns : goal.returns
+returns c = λ g p k s.
+    sealed_by g (onto c.args.items.now p) c.args.seal.now c.args.key.now c.hash_at-hash.result.bytes c.seal_holds.result k (c.hash_at-hash.ensures g p s) c.seal_holds.ensures

@@ -1,0 +1,109 @@
+//! The checks, in their order.
+
+ghost use Rattle.std.specs.Prelude.{◌≡◌, ◌+◌, IfSome, IsTrue, option_copied, Some};
+ghost use Rattle.vic_wire.specs.Messages.{HasSpelling};
+ghost use Rattle.vic_rules.specs.Client.{Standing, verdict_on, goes_on as base_holds, keeps_own as own_kept, has_turn as turn, is_next as next, seal_of};
+ghost use Rattle.vic_checks.specs.State.{group_of, StandsForState, failed_at};
+ghost use Rattle.vic_checks.specs.Parted.{part_of, part_in, IsAbove, IsLow};
+
+use crate::form::has_form;
+use crate::members::{has_members, has_tags};
+use crate::seals::{is_proved, is_sealed};
+use crate::state::{OwnList, State, Verdict};
+use vic_dict::PlainDict;
+use vic_wire::ToClient;
+
+// Whether the seal isn't older than the highest one.
+fn goes_on(sealed: u32, message: &ToClient) -> bool
+    ensures exact { (s : Standing) → s.sealed ≡ sealed → result ≡ base_holds s (seal_of message.now) }
+    ensures above { IsTrue result → IsAbove sealed message.now }
+{
+    match message {
+        ToClient::Reply { seal, .. }
+        | ToClient::Update { seal, .. }
+        | ToClient::Entries { seal, .. } => sealed <= seal.position,
+        _ => true,
+    }
+}
+
+// Whether no own call that isn't sealed stands at or below the seal. It costs what these calls cost.
+fn keeps_own(own: &OwnList, message: &ToClient) -> bool
+    ensures { (s : Standing) → s.own ≡ own.now → result ≡ own_kept s (seal_of message.now) }
+{
+    match message {
+        ToClient::Reply { seal, .. }
+        | ToClient::Update { seal, .. }
+        | ToClient::Entries { seal, .. } => own.are_above(seal.position),
+        _ => true,
+    }
+}
+
+// Whether the oldest own call that isn't sealed stands at a position.
+fn is_next(own: &OwnList, position: u32) -> bool
+    ensures { result ≡ next position own.now }
+{
+    match own.first() {
+        Some(call) => call.position == position,
+        None => false,
+    }
+}
+
+// Whether it is the client's turn, where the answer says so.
+fn has_turn(own: &OwnList, message: &ToClient) -> bool
+    requires { IsLow message.now }
+    ensures { (s : Standing) → s.own ≡ own.now → result ≡ turn s message.now }
+{
+    match message {
+        ToClient::Update { seal, .. } => is_next(own, seal.position + 1),
+        _ => true,
+    }
+}
+
+// The verdict on an answer that could be read.
+fn judge_message(state: &State, message: &ToClient, part: Option<&PlainDict>) -> Verdict
+    requires spelled { HasSpelling message.now }
+    requires part { option_copied part ≡ part_of message.now }
+    ensures { (s : Standing) → StandsForState state.now s → failed_at result ≡ verdict_on (group_of state.now) state.now.id s (Some message.now) }
+{
+    let length = state.window.length();
+    let is_part = part.is_some();
+    if !has_form(length, &state.awaiting, message, is_part) {
+        return Verdict::Halt(1);
+    }
+    if !has_members(state.count, state.id, &state.awaiting, message) {
+        return Verdict::Halt(2);
+    }
+    if !has_tags(&state.key, message) {
+        return Verdict::Halt(3);
+    }
+    if !goes_on(state.window.sealed(), message) {
+        return Verdict::Halt(4);
+    }
+    if !is_sealed(&state.key, &state.window, message) {
+        return Verdict::Halt(5);
+    }
+    if !keeps_own(&state.own, message) {
+        return Verdict::Halt(6);
+    }
+    if !is_proved(message, part) {
+        return Verdict::Halt(7);
+    }
+    if !has_turn(&state.own, message) {
+        return Verdict::Halt(8);
+    }
+    Verdict::Pass
+}
+
+/// The verdict on an answer: `message` is what its bytes spell, if they spell one, and `part` what the bytes of the part that
+/// it carries spell, if they do. It takes no memory. It costs what the answer's entries, its part and the own calls that
+/// aren't sealed cost.
+pub fn judge(state: &State, message: Option<&ToClient>, part: Option<&PlainDict>) -> Verdict
+    requires spelled { IfSome (option_copied message) HasSpelling }
+    requires part { option_copied part ≡ part_in (option_copied message) }
+    ensures { (s : Standing) → StandsForState state.now s → failed_at result ≡ verdict_on (group_of state.now) state.now.id s (option_copied message.entry) }
+{
+    match message {
+        Some(message) => judge_message(state, message, part),
+        None => Verdict::Halt(1),
+    }
+}

@@ -1,0 +1,123 @@
+//! The seal of an answer: that it holds on the client's path, and that the part has its root.
+
+ghost use Rattle.std.specs.Prelude.{◌≡◌, ◌+◌, ◌<◌, ◌≤◌, ◌||◌, ℕ, List, length, nat_eq, Option, Some, option_copied};
+ghost use Rattle.std.specs.List.{AllByRecursion};
+ghost use Rattle.std.specs.Str.{bytes_eq};
+ghost use Rattle.vic_dict.specs.declared.op.Entry.{Entry as AnEntry};
+ghost use Rattle.vic_dict.specs.Lists.{front};
+ghost use Rattle.vic_wire.specs.Hashes.{Group, chain, tag_of};
+ghost use Rattle.vic_wire.specs.Texts.{seal_text};
+ghost use Rattle.vic_wire.specs.Messages.{HasSpelling, IsTagged};
+ghost use Rattle.vic_chain.specs.Held.{held_length, ShowsPath};
+ghost use Rattle.vic_rules.specs.Client.{Standing, onto, seal_of, entries_of, is_sealed as sealed, is_proved as proved, shows};
+ghost use Rattle.vic_checks.specs.Parted.{part_of, IsWithin, IsAbove};
+
+use sha2::Digest;
+use vic_chain::{Window, chain_step};
+use vic_dict::PlainDict;
+use vic_proof::plain_root;
+use vic_tag::GroupKey;
+use vic_tag::key::same_digest;
+use vic_wire::{Digest32, Seal, Tagged, ToClient};
+
+// The hash of a path with these entries put onto it, from the hash of the path.
+fn hash_onto(from: &Digest32, items: &[Tagged]) -> Digest32
+    requires { AllByRecursion IsTagged items.now }
+    ensures { (g : Group) (p : List AnEntry) → from.now.bytes ≡ chain g p → result.bytes ≡ chain g (onto items.now p) }
+{
+    let mut hash = *from;
+    for item in items {
+        hash = chain_step(&hash, &item.entry);
+    }
+    hash
+}
+
+// The hash at a position from the window's seal on, on the window's path with these entries put onto it. It costs what the
+// entries up to the position cost.
+fn hash_at(window: &Window, items: &[Tagged], position: u32) -> Digest32
+    requires above { window.now.sealed ≤ position }
+    requires within { position ≤ held_length window.now + length items.now }
+    requires spelled { AllByRecursion IsTagged items.now }
+    ensures { (g : Group) (p : List AnEntry) → ShowsPath g p window.now → result.bytes ≡ chain g (front position (onto items.now p)) }
+{
+    let length = window.length();
+    if position <= length {
+        return window.hash_at(position);
+    }
+    let newer = (position - length) as usize;
+    hash_onto(&window.hash_at(length), &items[..newer])
+}
+
+// Whether the tag of a seal holds for this hash.
+fn seal_holds(key: &GroupKey, seal: &Seal, hash: &Digest32) -> bool
+    ensures { result ≡ (nat_eq seal.now.position 0 || bytes_eq seal.now.tag.bytes (tag_of key.now (seal_text seal.now.position hash.now.bytes seal.now.root.bytes))) }
+{
+    if seal.position == 0 {
+        return true;
+    }
+    let mut hasher = key.begin();
+    hasher.update([19u8].as_slice());
+    hasher.update(seal.position.to_be_bytes().as_slice());
+    hasher.update(hash.bytes.as_slice());
+    hasher.update(seal.root.bytes.as_slice());
+    same_digest(&key.end(hasher), &seal.tag)
+}
+
+// Whether the tag of a seal holds on the window's path with these entries put onto it.
+fn holds_on(key: &GroupKey, window: &Window, items: &[Tagged], seal: &Seal) -> bool
+    requires above { window.now.sealed ≤ seal.now.position }
+    requires within { seal.now.position ≤ held_length window.now + length items.now }
+    requires spelled { AllByRecursion IsTagged items.now }
+    ensures { (g : Group) (p : List AnEntry) → g.key ≡ key.now → ShowsPath g p window.now → result ≡ sealed g (onto items.now p) (Some seal.now) }
+{
+    let hash = hash_at(window, items, seal.position);
+    seal_holds(key, seal, &hash)
+}
+
+// The same on the window's path as it is.
+fn holds_there(key: &GroupKey, window: &Window, seal: &Seal) -> bool
+    requires above { window.now.sealed ≤ seal.now.position }
+    requires within { seal.now.position ≤ held_length window.now }
+    ensures { (g : Group) (p : List AnEntry) → g.key ≡ key.now → ShowsPath g p window.now → result ≡ sealed g p (Some seal.now) }
+{
+    let hash = window.hash_at(seal.position);
+    seal_holds(key, seal, &hash)
+}
+
+/// Whether the tag of the answer's seal holds on the client's path with the answer's entries. It costs what the entries cost.
+pub fn is_sealed(key: &GroupKey, window: &Window, message: &ToClient) -> bool
+    requires spelled { HasSpelling message.now }
+    requires above { IsAbove window.now.sealed message.now }
+    requires within { IsWithin (held_length window.now) message.now }
+    ensures { (g : Group) (p : List AnEntry) → g.key ≡ key.now → ShowsPath g p window.now
+        → result ≡ sealed g (onto (entries_of message.now) p) (seal_of message.now) }
+{
+    match message {
+        ToClient::Reply { seal, entries, .. } => holds_on(key, window, entries.as_slice(), seal),
+        ToClient::Update { seal, .. } => holds_there(key, window, seal),
+        ToClient::Entries { seal, entries } => holds_on(key, window, entries.as_slice(), seal),
+        _ => true,
+    }
+}
+
+// Whether the part has this root.
+fn has_root(part: Option<&PlainDict>, root: &Digest32) -> bool
+    ensures { result ≡ shows (option_copied part.entry) root.now.bytes }
+{
+    match part {
+        Some(part) => same_digest(&plain_root(part), root),
+        None => false,
+    }
+}
+
+/// Whether the part, if the answer carries one, has the root of the answer's seal. A whole list of pairs shows every
+/// operation. `part` is what the bytes of the answer's part spell. It costs what the part costs.
+pub fn is_proved(message: &ToClient, part: Option<&PlainDict>) -> bool
+    requires { option_copied part ≡ part_of message.now }
+    ensures { (s : Standing) → result ≡ proved s message.now }
+{
+    match message {
+        ToClient::Reply { seal, .. } | ToClient::Update { seal, .. } => has_root(part, &seal.root),
+        _ => true,
+    }
+}
