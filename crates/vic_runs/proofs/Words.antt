@@ -1,0 +1,211 @@
+-- The lines and words of a script of bytes are bytes, and the lines that they spell fit.
+use Rattle.std.proofs.Common.{◌≡◌, ℕ, suc, ◌<◌, ◌≤◌, Bool, true, false, ◌&&◌, List, [], ◌∷◌, length, Option, Some, None, Result, Ok, Err, refl, subst, arith}
+use Rattle.std.specs.Prelude.{if◌then◌else◌, nat_eq, nat_lt, nat_le, option_map, codes}
+use Rattle.std.specs.Str.{bytes_eq}
+use Rattle.std.specs.List.{AllByRecursion, list_all}
+use Rattle.std.specs.Result.{result_ok}
+use Rattle.std.proofs.lemmas.Bool.{and_parts, ltb-true, leb-true}
+use Rattle.hex.specs.Hex.{decode_of}
+use Rattle.hex.specs.declared.error.FromHexError.{FromHexError}
+use Rattle.hex.proofs.HexLemmas.{decode_of-ok}
+use Rattle.vic_dict.specs.declared.op.Op.{Op}
+use Rattle.vic_dict.specs.declared.op.Op.TheVariants as op
+use Rattle.vic_dict.specs.declared.op.Mode.{Mode}
+use Rattle.vic_dict.specs.Lists.{AreBytes}
+use Rattle.vic_dict.specs.Dictionary.{Fits, AreBytesIn}
+use Rattle.vic_spellings.proofs.Steps.{bytes-nil, bytes-rest}
+use Rattle.vic_spellings.proofs.Bytes.{bytes-cons}
+use Rattle.vic_script.specs.declared.line.Line.{Line}
+use Rattle.vic_script.specs.declared.line.Line.TheVariants as line
+use Rattle.vic_script.specs.Words.{is_plain, is_lower_hex, is_percent, hex_word, word_bytes, word_number, word_client}
+use Rattle.vic_script.specs.Lines.{put_first, lines_of, words_of, within, key_of, value_of, prefix_of, put_of, op_of, call_of, clients_of, named, header_of, event_of, or_line, line_in, line_of}
+use Rattle.vic_runs.specs.Claims.{FitsLine}
+
+-- ---- lines and words
+
+put_first-bytes : (b : ℕ) (pieces : List (List ℕ)) → b < 256 → AllByRecursion AreBytes pieces → AllByRecursion AreBytes (put_first b pieces)
+put_first-bytes b [] few h = (bytes-cons b [] few bytes-nil, tt)
+put_first-bytes b (piece ∷ pieces) few h = (bytes-cons b piece few h.0, h.1)
+
+length-put_first : (b n : ℕ) (pieces : List (List ℕ)) → length pieces ≤ n → length (put_first b pieces) ≤ suc n
+length-put_first b n [] h = omega arith
+length-put_first b n (piece ∷ pieces) h = omega (arith, h)
+
+bytes-either : (b : Bool) (x y : List (List ℕ)) → AllByRecursion AreBytes x → AllByRecursion AreBytes y → AllByRecursion AreBytes (if b then x else y)
+bytes-either true x y h k = h
+bytes-either false x y h k = k
+
+few-either : (b : Bool) (n : ℕ) (x y : List (List ℕ)) → length x ≤ n → length y ≤ n → length (if b then x else y) ≤ n
+few-either true n x y h k = h
+few-either false n x y h k = k
+
+-- each line of a script of bytes is bytes
+pub lines-bytes : (bs : List ℕ) → AreBytes bs → AllByRecursion AreBytes (lines_of bs)
+unfolding lines_of
+lines-bytes [] h = tt
+lines-bytes (b ∷ bs) h =
+    let rest = lines-bytes bs (bytes-rest b bs h) in
+    bytes-either (nat_eq b 10) ([] ∷ lines_of bs) (put_first b (lines_of bs)) (bytes-nil, rest) (put_first-bytes b (lines_of bs) (h 0) rest)
+
+-- a script has at most as many lines as bytes
+pub length-lines_of : (bs : List ℕ) → length (lines_of bs) ≤ length bs
+unfolding lines_of
+length-lines_of [] = omega arith
+length-lines_of (b ∷ bs) =
+    let rest = length-lines_of bs in
+    few-either (nat_eq b 10) (suc (length bs)) ([] ∷ lines_of bs) (put_first b (lines_of bs)) (omega (arith, rest)) (length-put_first b (length bs) (lines_of bs) rest)
+
+words-bytes : (text : List ℕ) → AreBytes text → AllByRecursion AreBytes (words_of text)
+unfolding words_of
+words-bytes [] h = (bytes-nil, tt)
+words-bytes (b ∷ bs) h =
+    let rest = words-bytes bs (bytes-rest b bs h) in
+    bytes-either (nat_eq b 32) ([] ∷ words_of bs) (put_first b (words_of bs)) (bytes-nil, rest) (put_first-bytes b (words_of bs) (h 0) rest)
+
+-- ---- byte words
+
+abbrev BytesIn : Option (List ℕ) → Type 0
+BytesIn None = Unit {0}
+BytesIn (Some bytes) = AreBytes bytes
+
+bytes_in-either : (b : Bool) (x y : Option (List ℕ)) → BytesIn x → BytesIn y → BytesIn (if b then x else y)
+bytes_in-either true x y h k = h
+bytes_in-either false x y h k = k
+
+decoded-bytes : (r : Result (List ℕ) FromHexError) → ((bytes : List ℕ) → r ≡ Ok bytes → AreBytes bytes) → BytesIn (result_ok r)
+decoded-bytes (Ok bytes) h = h bytes refl
+decoded-bytes (Err e) h = tt
+
+word-bytes : (word : List ℕ) → AreBytes word → BytesIn (word_bytes word)
+word-bytes [] h = tt
+word-bytes (c ∷ cs) h =
+    bytes_in-either (is_percent c) (hex_word cs) (if list_all is_plain (c ∷ cs) then Some (c ∷ cs) else None)
+    (bytes_in-either (list_all is_lower_hex cs) (result_ok (decode_of cs)) None (decoded-bytes (decode_of cs) (λ bytes e. (decode_of-ok cs bytes e).3)) tt)
+    (bytes_in-either (list_all is_plain (c ∷ cs)) (Some (c ∷ cs)) None h tt)
+
+-- bytes of a word, of which there are few enough
+abbrev FewIn : ℕ → ℕ → Option (List ℕ) → Type 0
+FewIn least most None = Unit {0}
+FewIn least most (Some bytes) = AreBytes bytes × ((least ≤ length bytes) × (length bytes ≤ most))
+
+few-in : (least most : ℕ) (bytes : List ℕ) → AreBytes bytes → (b : Bool) → (b ≡ true → (least ≤ length bytes) × (length bytes ≤ most)) → FewIn least most (if b then Some bytes else None)
+few-in least most bytes h true few = (h, few refl)
+few-in least most bytes h false few = tt
+
+within-few : (least most : ℕ) (o : Option (List ℕ)) → BytesIn o → FewIn least most (within least most o)
+within-few least most None h = tt
+within-few least most (Some bytes) h =
+    few-in least most bytes h (nat_le least (length bytes) && nat_le (length bytes) most)
+    (λ e. let p = and_parts _ _ e in (leb-true _ _ p.0, leb-true _ _ p.1))
+
+-- ---- operations
+
+abbrev FitsOp : Option Op → Type 0
+FitsOp None = Unit {0}
+FitsOp (Some o) = Fits o × AreBytesIn o
+
+op-either : (b : Bool) (x y : Option Op) → FitsOp x → FitsOp y → FitsOp (if b then x else y)
+op-either true x y h k = h
+op-either false x y h k = k
+
+get-fits : (k : Option (List ℕ)) → FewIn 1 255 k → FitsOp (option_map op.Get k)
+get-fits None h = tt
+get-fits (Some k) h = ((omega (arith, h.1.0), omega (arith, h.1.1)), h.0)
+
+del-fits : (k : Option (List ℕ)) → FewIn 1 255 k → FitsOp (option_map op.Del k)
+del-fits None h = tt
+del-fits (Some k) h = ((omega (arith, h.1.0), omega (arith, h.1.1)), h.0)
+
+list-fits : (p : Option (List ℕ)) → FewIn 0 255 p → FitsOp (option_map op.List p)
+list-fits None h = tt
+list-fits (Some p) h = (omega (arith, h.1.1), h.0)
+
+put-fits : (k v : Option (List ℕ)) → FewIn 1 255 k → FewIn 0 64 v → FitsOp (put_of k v)
+put-fits (Some k) (Some v) h l = (((omega (arith, h.1.0), omega (arith, h.1.1)), omega (arith, l.1.1)), (h.0, l.0))
+put-fits (Some k) None h l = tt
+put-fits None v h l = tt
+
+op-fits : (words : List (List ℕ)) → AllByRecursion AreBytes words → FitsOp (op_of words)
+op-fits [] h = tt
+op-fits (name ∷ []) h = tt
+op-fits (name ∷ a ∷ []) h =
+    let key = within-few 1 255 (word_bytes a) (word-bytes a h.1.0) in
+    let prefix = within-few 0 255 (word_bytes a) (word-bytes a h.1.0) in
+    let lists : Option Op = if bytes_eq name (codes "list") then option_map op.List (prefix_of a) else None in
+    let dels : Option Op = if bytes_eq name (codes "del") then option_map op.Del (key_of a) else lists in
+    op-either (bytes_eq name (codes "get")) (option_map op.Get (key_of a)) dels (get-fits (key_of a) key)
+    (op-either (bytes_eq name (codes "del")) (option_map op.Del (key_of a)) lists (del-fits (key_of a) key)
+    (op-either (bytes_eq name (codes "list")) (option_map op.List (prefix_of a)) None (list-fits (prefix_of a) prefix) tt))
+op-fits (name ∷ a ∷ b ∷ []) h =
+    op-either (bytes_eq name (codes "put")) (put_of (key_of a) (value_of b)) None
+    (put-fits (key_of a) (value_of b) (within-few 1 255 (word_bytes a) (word-bytes a h.1.0)) (within-few 0 64 (word_bytes b) (word-bytes b h.1.1.0))) tt
+op-fits (name ∷ a ∷ b ∷ c ∷ others) h = tt
+
+-- ---- lines
+
+-- the line, if there is one, fits
+abbrev pub FitsIn : Option Line → Type 0
+FitsIn None = Unit {0}
+FitsIn (Some l) = FitsLine l
+
+line-either : (b : Bool) (x y : Option Line) → FitsIn x → FitsIn y → FitsIn (if b then x else y)
+line-either true x y h k = h
+line-either false x y h k = k
+
+line-mapped : (f : ℕ → Line) (o : Option ℕ) → ((n : ℕ) → FitsLine (f n)) → FitsIn (option_map f o)
+line-mapped f None h = tt
+line-mapped f (Some n) h = h n
+
+named-fits : (name a : List ℕ) → FitsIn (named name a)
+named-fits name a =
+    let client : Option ℕ = word_client a in
+    let runs : Option Line = if bytes_eq name (codes "run") then option_map line.Run client else None in
+    let takes : Option Line = if bytes_eq name (codes "take") then option_map line.Take client else runs in
+    let serves : Option Line = if bytes_eq name (codes "serve") then option_map line.Serve client else takes in
+    let syncs : Option Line = if bytes_eq name (codes "sync") then option_map line.Sync client else serves in
+    line-either (bytes_eq name (codes "poll")) (option_map line.Poll client) syncs (line-mapped line.Poll client (λ n. tt))
+    (line-either (bytes_eq name (codes "sync")) (option_map line.Sync client) serves (line-mapped line.Sync client (λ n. tt))
+    (line-either (bytes_eq name (codes "serve")) (option_map line.Serve client) takes (line-mapped line.Serve client (λ n. tt))
+    (line-either (bytes_eq name (codes "take")) (option_map line.Take client) runs (line-mapped line.Take client (λ n. tt))
+    (line-either (bytes_eq name (codes "run")) (option_map line.Run client) None (line-mapped line.Run client (λ n. tt)) tt))))
+
+call-fits : (i : Option ℕ) (o : Option Op) → FitsOp o → FitsIn (call_of i o)
+call-fits (Some i) (Some o) h = h
+call-fits (Some i) None h = tt
+call-fits None o h = tt
+
+clients-in : (n : ℕ) (b : Bool) → (b ≡ true → (0 < n) × (n ≤ 64)) → FitsIn (if b then Some (line.Clients n) else None)
+clients-in n true h = h refl
+clients-in n false h = tt
+
+clients-fit : (o : Option ℕ) → FitsIn (clients_of o)
+clients-fit None = tt
+clients-fit (Some n) = clients-in n (nat_lt 0 n && nat_le n 64) (λ e. let p = and_parts _ _ e in (ltb-true _ _ p.0, leb-true _ _ p.1))
+
+header-fits : (words : List (List ℕ)) → FitsIn (header_of words)
+header-fits [] = tt
+header-fits (name ∷ []) = tt
+header-fits (name ∷ a ∷ []) = line-either (bytes_eq name (codes "clients")) (clients_of (word_number a)) None (clients-fit (word_number a)) tt
+header-fits (name ∷ a ∷ b ∷ others) = tt
+
+event-fits : (words : List (List ℕ)) → AllByRecursion AreBytes words → FitsIn (event_of words)
+event-fits [] h = tt
+event-fits (name ∷ []) h = tt
+event-fits (name ∷ a ∷ []) h = named-fits name a
+event-fits (name ∷ a ∷ b ∷ others) h = line-either (bytes_eq name (codes "call")) (call_of (word_client a) (op_of (b ∷ others))) None (call-fits (word_client a) (op_of (b ∷ others)) (op-fits (b ∷ others) h.1.1)) tt
+
+or-fits : (x y : Option Line) → FitsIn x → FitsIn y → FitsIn (or_line x y)
+or-fits (Some l) y h k = h
+or-fits None y h k = k
+
+words-fit : (kind : Option Mode) (words : List (List ℕ)) → AllByRecursion AreBytes words → FitsIn (line_in kind words)
+words-fit None words h = header-fits words
+words-fit (Some kind) words h = or-fits (header_of words) (event_of words) (header-fits words) (event-fits words h)
+
+-- what a text of bytes spells fits
+pub text_fits : (kind : Option Mode) (text : List ℕ) → AreBytes text → FitsIn (line_of kind text)
+unfolding line_of
+text_fits kind text h = words-fit kind (words_of text) (words-bytes text h)
+
+pub line_fits : (kind : Option Mode) (text : List ℕ) (l : Line) → AreBytes text → line_of kind text ≡ Some l → FitsLine l
+line_fits kind text l h e = subst FitsIn e (text_fits kind text h)

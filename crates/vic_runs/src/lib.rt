@@ -1,0 +1,49 @@
+//! The laws of scripts: the run of every script of bytes is a run of clients with one honest server, so what holds of honest
+//! runs and of lawful histories holds of it.
+//!
+//! This crate has no code of its own. `specs/Claims.antt` states the laws over the definitions of `vic_script`, and each is the
+//! contract of a function without parameters and with an empty body. The contract of [`claims_hold`] carries the claim on a
+//! group's views to every script.
+#![tactic(auto)]
+
+ghost use Rattle.vic_runs.specs.Claims.{RunsAreLawful, NothingIsForged, ForgedIs, RunsAreHonest, ClaimsHold, OutcomesAreFates, NobodyHalts, NoLineIsHalted};
+
+/// The history of a script is one of clients that step by the rules.
+pub fn runs_are_lawful()
+    ensures { RunsAreLawful }
+{}
+
+/// In the run of a script every tag that a client takes was made by a client before.
+pub fn nothing_is_forged()
+    ensures { NothingIsForged }
+{}
+
+/// The test for forged histories says what it is for.
+pub fn forged_is()
+    ensures { ForgedIs }
+{}
+
+/// The run of a script is a run of clients with one honest server.
+pub fn runs_are_honest()
+    ensures { RunsAreHonest }
+{}
+
+/// The claim on a group's views, of every script.
+pub fn claims_hold()
+    ensures { ClaimsHold }
+{}
+
+/// Each call that a script completes returns what becomes of it in the server's log.
+pub fn outcomes_are_fates()
+    ensures { OutcomesAreFates }
+{}
+
+/// In the run of a script no client halts.
+pub fn nobody_halts()
+    ensures { NobodyHalts }
+{}
+
+/// No line of a script is bad for that its client has halted.
+pub fn no_line_is_halted()
+    ensures { NoLineIsHalted }
+{}
