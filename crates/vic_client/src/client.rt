@@ -5,14 +5,6 @@ ghost use Rattle.vic_client.specs.Kept.{StandsFor};
 
 use std::marker::Model;
 use vic_checks::State;
-use vic_dict::{Bytes, Outcome};
-
-/// What a client makes of a payload: what it sends, and the outcome of its call, where it is over.
-#[derive(Debug, Drop)]
-pub struct Step {
-    pub send: Option<Bytes>,
-    pub returned: Option<Outcome>,
-}
 
 /// A client of a group.
 #[derive(Debug, Drop)]

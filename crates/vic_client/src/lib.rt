@@ -7,7 +7,8 @@
 
 pub mod client;
 mod sending;
+pub mod step;
 mod taking;
 
 pub use client::Client;
-pub use client::Step;
+pub use step::Step;

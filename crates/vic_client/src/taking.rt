@@ -1,26 +1,24 @@
 //! What a client makes of an answer that passed the checks.
 
-ghost use Rattle.std.specs.Prelude.{◌≡◌, ◌+◌, ◌≤◌, ◌<◌, ℕ, length, IfOk, OnOk, OnErr, Some, None};
+ghost use Rattle.std.specs.Prelude.{◌≡◌, ◌+◌, ◌≤◌, ◌<◌, ◌∷◌, [], ◌++◌, length, IfOk, OnOk, OnErr};
 ghost use Rattle.std.specs.List.{AllByRecursion};
-ghost use Rattle.vic_dict.specs.declared.op.Entry.{Entry as AnEntry};
-ghost use Rattle.vic_dict.specs.Lists.{front};
-ghost use Rattle.vic_dict.specs.Dictionary.{Fits, after};
-ghost use Rattle.vic_wire.specs.declared.message.Tagged.{Tagged as ATagged};
+ghost use Rattle.vic_dict.specs.Dictionary.{Fits};
 ghost use Rattle.vic_wire.specs.Hashes.{Group};
-ghost use Rattle.vic_wire.specs.Messages.{IsTagged, IsSeal};
-ghost use Rattle.vic_chain.specs.Held.{Held, ShowsPath, held_length};
-ghost use Rattle.vic_rules.specs.Client.{Standing, onto, grown, replied, updated, listed_to, moves, new_root, done_op};
+ghost use Rattle.vic_wire.specs.Messages.{IsTagged};
+ghost use Rattle.vic_chain.specs.Held.{ShowsPath, held_length};
+ghost use Rattle.vic_wire.specs.Messages.{request_text};
+ghost use Rattle.vic_rules.specs.Client.{Standing, onto, request_of, Commits, is_done as done_of};
 ghost use Rattle.vic_checks.specs.State.{group_of, StandsForState};
-ghost use Rattle.vic_client.specs.Sound.{AwaitsFit, OwnWithin};
+ghost use Rattle.vic_client.specs.Moves.{IsMemberAs, OwnJoins, KeepsAll, ShowsStep, reply_move};
 
-use crate::sending::{commit_payload, seal_payload};
+use crate::sending::commit_payload;
+use crate::step::Step;
 use std::alloc::Global;
 use vic_chain::Window;
 use vic_checks::{State, decide};
-use vic_dict::{NoMemory, Op, Outcome, PlainDict};
-use vic_proof::plain_root;
+use vic_dict::{Bytes, NoMemory, Op, Outcome, PlainDict};
 use vic_rules::{Awaiting, Own};
-use vic_wire::{Digest32, Seal, Tagged, TaggedList};
+use vic_wire::{Seal, Tagged, TaggedList};
 
 /// Puts the entries of an answer onto the path; where memory runs out, takes off again what it put there.
 pub(crate) fn extend_all(window: &mut Window, items: &[Tagged]) -> Result<(), NoMemory>
@@ -35,10 +33,77 @@ pub(crate) fn extend_all(window: &mut Window, items: &[Tagged]) -> Result<(), No
 {
     let length = window.length();
     for item in items {
-        if window.extend(&item.entry).is_err() {
-            window.cut_back(length);
-            return Err(NoMemory);
+        match window.extend(&item.entry) {
+            Ok(()) => (),
+            Err(NoMemory) => {
+                window.cut_back(length);
+                return Err(NoMemory);
+            }
         }
     }
     Ok(())
+}
+
+// The call that a Reply answers, as an own call at the end of the path; and its Commit, which is sent. Where memory runs out,
+// nothing has changed.
+fn own_call(alloc: Global, state: &mut State, op: Op, done: bool) -> Result<Bytes, NoMemory>
+    requires some { 0 < held_length state.old.window }
+    requires fits { Fits op }
+    ensures own { OnOk result (state.new ≡ record state.old { own = state.old.own ++ record { position = held_length state.old.window; op = op; done = done } ∷ [] }) }
+    ensures err { OnErr result (state.new ≡ state.old) }
+    ensures sent { (s : Standing) → ShowsPath (group_of state.old) s.path state.old.window
+        → IfOk result (λ b. b ≡ request_text (request_of (group_of state.old) state.old.id s (Commits done))) }
+{
+    let sent = commit_payload(alloc, state, done)?;
+    let position = state.window.length();
+    state.own.push(Own { position, op, done })?;
+    Ok(sent)
+}
+
+fn is_done(outcome: &Outcome) -> bool
+    ensures { result ≡ done_of outcome.now }
+{
+    matches!(outcome, Outcome::Done(_))
+}
+
+/// After a Reply that passed the checks: the call is decided, its entries stand on the path, the seal is the window's, and the
+/// Commit is sent. The part is taken, since the client's own calls are done on it.
+pub(crate) fn take_reply(
+    alloc: Global,
+    state: &mut State,
+    seal: &Seal,
+    entries: &TaggedList,
+    part: PlainDict,
+    op: Op,
+) -> Result<Step, NoMemory>
+    requires fits { Fits op }
+    requires spelled { AllByRecursion IsTagged entries.now }
+    requires above { state.old.window.sealed ≤ seal.now.position }
+    requires below { seal.now.position < held_length state.old.window + length entries.now }
+    requires room { held_length state.old.window + length entries.now ≤ 1048576 }
+    ensures member { IsMemberAs state.old state.new }
+    ensures length { OnOk result (held_length state.new.window ≡ held_length state.old.window + length entries.now) }
+    ensures own { OnOk result (OwnJoins state.old.own state.new.own (held_length state.old.window + length entries.now)) }
+    ensures awaiting { OnOk result (state.new.awaiting ≡ Awaiting.Turn) }
+    ensures kept { OnErr result (KeepsAll state.old state.new) }
+    ensures taken { (s : Standing) → StandsForState state.old s → IfOk result (λ r. ShowsStep state.old r state.new (reply_move state.old.id s seal.now entries.now part op)) }
+    ensures err { (s : Standing) → StandsForState state.old s → OnErr result (StandsForState state.new s) }
+{
+    let outcome = decide(alloc, state, entries, seal.position, part, &op)?;
+    let length = state.window.length();
+    extend_all(&mut state.window, entries.as_slice())?;
+    match own_call(alloc, state, op, is_done(&outcome)) {
+        Ok(sent) => {
+            state.window.advance(seal.position, &seal.root);
+            state.awaiting = Awaiting::Turn;
+            Ok(Step {
+                send: Some(sent),
+                returned: Some(outcome),
+            })
+        }
+        Err(NoMemory) => {
+            state.window.cut_back(length);
+            Err(NoMemory)
+        }
+    }
 }
