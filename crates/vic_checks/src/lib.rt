@@ -16,3 +16,6 @@ pub use deciding::decide;
 pub use judging::judge;
 pub use state::{OwnList, State, Verdict};
 pub use vic_rules::{Awaiting, Own};
+
+#[cfg(test)]
+mod tests;
