@@ -1,3 +1,4 @@
 pub mod Owns
 pub mod Parted
 pub mod State
+pub mod Passing

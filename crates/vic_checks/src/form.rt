@@ -4,13 +4,15 @@ ghost use Rattle.std.specs.Prelude.{◌≡◌, ◌+◌, ◌-◌, ◌≤◌, ◌&
 ghost use Rattle.vic_wire.specs.Messages.{HasSpelling};
 ghost use Rattle.vic_rules.specs.Client.{Standing, is_awaited as awaited, has_form as form};
 ghost use Rattle.vic_checks.specs.Parted.{part_of, IsWithin, path_length};
+ghost use Rattle.vic_checks.specs.Passing.{IsFormed, RepliesTo};
 
 use vic_rules::Awaiting;
 use vic_wire::ToClient;
 
 /// Whether this kind of answer is awaited.
 pub fn is_awaited(awaiting: &Awaiting, message: &ToClient) -> bool
-    ensures { result ≡ awaited awaiting.now message.now }
+    ensures exact { result ≡ awaited awaiting.now message.now }
+    ensures reply { IsTrue result → RepliesTo awaiting.now message.now }
 {
     match awaiting {
         Awaiting::Nothing => false,
@@ -61,6 +63,7 @@ pub fn has_form(length: u32, awaiting: &Awaiting, message: &ToClient, is_part: b
     requires part { is_part ≡ is_some (part_of message.now) }
     ensures exact { (s : Standing) → path_length s ≡ length → s.awaiting ≡ awaiting.now → result ≡ form s message.now }
     ensures within { IsTrue result → IsWithin length message.now }
+    ensures formed { IsTrue result → IsFormed length awaiting.now is_part message.now }
 {
     match message {
         ToClient::Reply { seal, entries, .. } => is_awaited(awaiting, message)

@@ -1,10 +1,12 @@
 //! The checks, in their order.
 
-ghost use Rattle.std.specs.Prelude.{◌≡◌, ◌+◌, IfSome, IsTrue, option_copied, Some};
+ghost use Rattle.std.specs.Prelude.{◌≡◌, ◌+◌, IfSome, IsTrue, is_some, option_copied, Some};
 ghost use Rattle.vic_wire.specs.Messages.{HasSpelling};
 ghost use Rattle.vic_rules.specs.Client.{Standing, verdict_on, goes_on as base_holds, keeps_own as own_kept, has_turn as turn, is_next as next, seal_of};
 ghost use Rattle.vic_checks.specs.State.{group_of, StandsForState, failed_at};
+ghost use Rattle.vic_chain.specs.Held.{held_length};
 ghost use Rattle.vic_checks.specs.Parted.{part_of, part_in, IsAbove, IsLow};
+ghost use Rattle.vic_checks.specs.Passing.{IsFormed, HasTurn, IsTurn};
 
 use crate::form::has_form;
 use crate::members::{has_members, has_tags};
@@ -51,7 +53,8 @@ fn is_next(own: &OwnList, position: u32) -> bool
 // Whether it is the client's turn, where the answer says so.
 fn has_turn(own: &OwnList, message: &ToClient) -> bool
     requires { IsLow message.now }
-    ensures { (s : Standing) → s.own ≡ own.now → result ≡ turn s message.now }
+    ensures exact { (s : Standing) → s.own ≡ own.now → result ≡ turn s message.now }
+    ensures turn { IsTrue result → HasTurn own.now message.now }
 {
     match message {
         ToClient::Update { seal, .. } => is_next(own, seal.position + 1),
@@ -63,7 +66,10 @@ fn has_turn(own: &OwnList, message: &ToClient) -> bool
 fn judge_message(state: &State, message: &ToClient, part: Option<&PlainDict>) -> Verdict
     requires spelled { HasSpelling message.now }
     requires part { option_copied part ≡ part_of message.now }
-    ensures { (s : Standing) → StandsForState state.now s → failed_at result ≡ verdict_on (group_of state.now) state.now.id s (Some message.now) }
+    ensures exact { (s : Standing) → StandsForState state.now s → failed_at result ≡ verdict_on (group_of state.now) state.now.id s (Some message.now) }
+    ensures formed { result ≡ Verdict.Pass → IsFormed (held_length state.now.window) state.now.awaiting (is_some part.entry) message.now }
+    ensures above { result ≡ Verdict.Pass → IsAbove state.now.window.sealed message.now }
+    ensures turn { result ≡ Verdict.Pass → IsTurn state.now message.now }
 {
     let length = state.window.length();
     let is_part = part.is_some();
@@ -100,7 +106,11 @@ fn judge_message(state: &State, message: &ToClient, part: Option<&PlainDict>) ->
 pub fn judge(state: &State, message: Option<&ToClient>, part: Option<&PlainDict>) -> Verdict
     requires spelled { IfSome (option_copied message) HasSpelling }
     requires part { option_copied part ≡ part_in (option_copied message) }
-    ensures { (s : Standing) → StandsForState state.now s → failed_at result ≡ verdict_on (group_of state.now) state.now.id s (option_copied message.entry) }
+    ensures exact { (s : Standing) → StandsForState state.now s → failed_at result ≡ verdict_on (group_of state.now) state.now.id s (option_copied message.entry) }
+    // What is known of an answer that passes, by what is kept alone.
+    ensures formed { result ≡ Verdict.Pass → IfSome (option_copied message.entry) (IsFormed (held_length state.now.window) state.now.awaiting (is_some part.entry)) }
+    ensures above { result ≡ Verdict.Pass → IfSome (option_copied message.entry) (IsAbove state.now.window.sealed) }
+    ensures turn { result ≡ Verdict.Pass → IfSome (option_copied message.entry) (IsTurn state.now) }
 {
     match message {
         Some(message) => judge_message(state, message, part),

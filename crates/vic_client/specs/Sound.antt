@@ -25,3 +25,4 @@ pub record IsSound (id count : ℕ) (window : Held) (own : List Own) (awaiting :
   pub member : (0 < id) × ((id ≤ count) × (count ≤ 64))
   pub awaited : AwaitsFit awaiting
   pub within : OwnWithin (held_length window) own
+  pub few : length own ≤ held_length window

@@ -6,6 +6,7 @@
 #![tactic(auto)]
 
 pub mod client;
+mod hearing;
 mod sending;
 pub mod step;
 mod taking;

@@ -1,24 +1,26 @@
 //! What a client makes of an answer that passed the checks.
 
-ghost use Rattle.std.specs.Prelude.{◌≡◌, ◌+◌, ◌≤◌, ◌<◌, ◌∷◌, [], ◌++◌, length, IfOk, OnOk, OnErr};
+ghost use Rattle.std.specs.Prelude.{◌≡◌, ◌+◌, ◌≤◌, ◌<◌, ◌∷◌, [], ◌++◌, List, length, drop, IfOk, OnOk, OnErr};
 ghost use Rattle.std.specs.List.{AllByRecursion};
 ghost use Rattle.vic_dict.specs.Dictionary.{Fits};
 ghost use Rattle.vic_wire.specs.Hashes.{Group};
 ghost use Rattle.vic_wire.specs.Messages.{IsTagged};
 ghost use Rattle.vic_chain.specs.Held.{ShowsPath, held_length};
 ghost use Rattle.vic_wire.specs.Messages.{request_text};
-ghost use Rattle.vic_rules.specs.Client.{Standing, onto, request_of, Commits, is_done as done_of};
+ghost use Rattle.vic_rules.specs.Client.{Standing, onto, grown, request_of, Commits, sealed_to, listed_to, new_root, is_write as writes, is_done as done_of};
+ghost use Rattle.vic_rules.specs.declared.state.Own.{Own as AnOwn};
 ghost use Rattle.vic_checks.specs.State.{group_of, StandsForState};
 ghost use Rattle.vic_client.specs.Moves.{IsMemberAs, OwnJoins, KeepsAll, ShowsStep, reply_move};
 
-use crate::sending::commit_payload;
+use crate::sending::{commit_payload, seal_payload};
 use crate::step::Step;
 use std::alloc::Global;
 use vic_chain::Window;
 use vic_checks::{State, decide};
 use vic_dict::{Bytes, NoMemory, Op, Outcome, PlainDict};
+use vic_proof::plain_root;
 use vic_rules::{Awaiting, Own};
-use vic_wire::{Seal, Tagged, TaggedList};
+use vic_wire::{Digest32, Seal, Tagged, TaggedList};
 
 /// Puts the entries of an answer onto the path; where memory runs out, takes off again what it put there.
 pub(crate) fn extend_all(window: &mut Window, items: &[Tagged]) -> Result<(), NoMemory>
@@ -106,4 +108,78 @@ pub(crate) fn take_reply(
             Err(NoMemory)
         }
     }
+}
+
+// Whether an operation may change the dictionary.
+fn is_write(op: &Op) -> bool
+    ensures { result ≡ writes op.now }
+{
+    matches!(op, Op::Put(_, _) | Op::Del(_))
+}
+
+// The root after an own call is sealed, from the seal's part and root.
+fn root_after(alloc: Global, call: &Own, part: PlainDict, root: Digest32) -> Result<Digest32, NoMemory>
+    requires { Fits call.now.op }
+    ensures { IfOk result (λ r. r.bytes ≡ new_root call.now part root.bytes) }
+{
+    if call.done && is_write(&call.op) {
+        let mut after = part;
+        let _ = after.do_op(alloc, &call.op)?;
+        return Ok(plain_root(&after));
+    }
+    Ok(root)
+}
+
+/// After an Update that passed the checks: the first own call is sealed at the position above the seal, and the Seal is sent.
+/// The part is taken, since the call is done on it.
+pub(crate) fn take_update(alloc: Global, state: &mut State, seal: &Seal, part: PlainDict) -> Result<Step, NoMemory>
+    requires some { 0 < length state.old.own }
+    requires above { state.old.window.sealed ≤ seal.now.position }
+    requires within { seal.now.position + 1 ≤ held_length state.old.window }
+    ensures member { IsMemberAs state.old state.new }
+    ensures length { held_length state.new.window ≡ held_length state.old.window }
+    ensures own { OnOk result (state.new.own ≡ drop 1 state.old.own) }
+    ensures awaiting { OnOk result (state.new.awaiting ≡ Awaiting.Turn) }
+    ensures err { OnErr result (state.new ≡ state.old) }
+    ensures taken { (s : Standing) (o : AnOwn) (others : List AnOwn) → StandsForState state.old s → s.own ≡ o ∷ others
+        → IfOk result (λ r. ShowsStep state.old r state.new (sealed_to s (seal.now.position + 1) (new_root o part seal.now.root.bytes) others)) }
+{
+    let length = state.window.length();
+    let within = seal.position < length;
+    prove!(within);
+    let call = state.own.at(0);
+    let root = root_after(alloc, call, part, seal.root)?;
+    let position = seal.position + 1;
+    let sent = seal_payload(alloc, state, position, root)?;
+    state.window.advance(position, &root);
+    state.own.drop_first();
+    state.awaiting = Awaiting::Turn;
+    Ok(Step {
+        send: Some(sent),
+        returned: None,
+    })
+}
+
+/// After Entries that passed the checks: they stand on the path, and their seal is the window's.
+pub(crate) fn take_entries(state: &mut State, seal: &Seal, entries: &TaggedList) -> Result<Step, NoMemory>
+    requires spelled { AllByRecursion IsTagged entries.now }
+    requires above { state.old.window.sealed ≤ seal.now.position }
+    requires within { seal.now.position ≤ held_length state.old.window + length entries.now }
+    requires room { held_length state.old.window + length entries.now ≤ 1048576 }
+    ensures member { IsMemberAs state.old state.new }
+    ensures length { OnOk result (held_length state.new.window ≡ held_length state.old.window + length entries.now) }
+    ensures own { state.new.own ≡ state.old.own }
+    ensures awaiting { OnOk result (state.new.awaiting ≡ Awaiting.Nothing) }
+    ensures kept { OnErr result (KeepsAll state.old state.new) }
+    ensures taken { (s : Standing) → StandsForState state.old s
+        → IfOk result (λ r. ShowsStep state.old r state.new (listed_to s (grown s entries.now) seal.now.position seal.now.root.bytes)) }
+    ensures err { (s : Standing) → StandsForState state.old s → OnErr result (StandsForState state.new s) }
+{
+    extend_all(&mut state.window, entries.as_slice())?;
+    state.window.advance(seal.position, &seal.root);
+    state.awaiting = Awaiting::Nothing;
+    Ok(Step {
+        send: None,
+        returned: None,
+    })
 }
