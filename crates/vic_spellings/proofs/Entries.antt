@@ -1,23 +1,16 @@
 -- Entries, their lists, and seals: what is read is what was spelled, and what is spelled is read again.
-use Rattle.std.proofs.Common.{◌≡◌, ℕ, zero, suc, ◌+◌, ◌^◌, ◌<◌, ◌≤◌, Bool, true, false, cond, eqb, ltb, leb, ◌&&◌, List, [], ◌∷◌, ◌++◌, length, replicate, Result, Ok, Err, refl, sym, ap, subst, ◌∙◌, append_assoc, arith, inl, inr, ◌⊎◌}
+use Rattle.std.proofs.Common.{◌≡◌, ℕ, zero, suc, ◌^◌, ◌<◌, ◌≤◌, ltb, leb, ◌&&◌, List, [], ◌∷◌, ◌++◌, length, Ok, refl, sym, ap, subst, ◌∙◌, append_assoc, arith}
 use Rattle.std.specs.List.{flat_map, AllByRecursion}
 use Rattle.std.specs.Int.{w16, w32, to_be_bytes}
-use Rattle.std.proofs.lemmas.Bool.{eqb-true, eqb-false, eq-eqb, ne_eqb, ltb-true, lt-ltb, leb-true, le-leb, and_parts}
-use Rattle.std.proofs.lemmas.List.Concat.{flat_map-cons}
-use Rattle.sha2.proofs.Facts256.{length-sha256}
+use Rattle.std.proofs.lemmas.Bool.{lt-ltb, leb-true, le-leb, and_parts}
 use Rattle.vic_dict.specs.Lists.{AreBytes}
-use Rattle.vic_dict.specs.Dictionary.{Fits, AreBytesIn}
-use Rattle.vic_dict.specs.declared.op.Op.{Op}
 use Rattle.vic_dict.specs.declared.op.Entry.{Entry}
-use Rattle.vic_wire.specs.declared.message.Digest32.{Digest32}
-use Rattle.vic_wire.specs.declared.message.Seal.{Seal}
 use Rattle.vic_wire.specs.declared.message.Tagged.{Tagged}
-use Rattle.vic_wire.specs.Texts.{op_text, entry_text, empty_text}
-use Rattle.vic_wire.specs.Hashes.{empty_root}
-use Rattle.vic_wire.specs.Messages.{IsEntry, IsSeal, IsTagged, IsDigest, seal_field, tagged_field, entries_field}
-use Rattle.vic_wire.specs.Reading.{FieldFault, Value, ◌>>=◌, byte_at, number_at, allowed, digest_at, op_at, entry_at, tagged_at, tagged_list_at, entries_at, seal_after, seal_at}
+use Rattle.vic_wire.specs.Texts.{op_text, entry_text}
+use Rattle.vic_wire.specs.Messages.{IsEntry, IsTagged, tagged_field, entries_field}
+use Rattle.vic_wire.specs.Reading.{◌>>=◌, byte_at, number_at, allowed, digest_at, op_at, entry_at, tagged_at, tagged_list_at, entries_at}
 use Rattle.vic_spellings.specs.Spellings.{HaveByteTags}
-use Rattle.vic_spellings.proofs.Steps.{bind_ok, allowed_ok, chosen, ok_is, Takes, Takes-none, Takes-then, Takes-cons}
+use Rattle.vic_spellings.proofs.Steps.{bind_ok, allowed_ok, ok_is, Takes, Takes-none, Takes-then, Takes-cons}
 use Rattle.vic_spellings.proofs.Fields.{within_takes, positive_takes, w16_takes, w16_again, w32_again, digest_takes, digest_again}
 use Rattle.vic_spellings.proofs.Operations.{op_takes, op_again}
 
@@ -94,10 +87,10 @@ entries_takes least most bytes x fits e =
     let tests = and_parts (leb least a.0.0) (leb a.0.0 most) counted.0 in
     let number = w16_takes bytes a.0 fits a.1 in
     let count : Takes bytes (to_be_bytes w16 b.0.0) b.0.1 × ((least ≤ b.0.0) × (b.0.0 ≤ most)) =
-      subst (λ (y : ℕ × List ℕ). Takes bytes (to_be_bytes w16 y.0) y.1 × ((least ≤ y.0) × (y.0 ≤ most))) counted.1 (number.0, (leb-true least a.0.0 tests.0, leb-true a.0.0 most tests.1)) in
+    subst (λ (y : ℕ × List ℕ). Takes bytes (to_be_bytes w16 y.0) y.1 × ((least ≤ y.0) × (y.0 ≤ most))) counted.1 (number.0, (leb-true least a.0.0 tests.0, leb-true a.0.0 most tests.1)) in
     let items = tagged_list_takes b.0.0 b.0.1 x count.0.rest_fits b.2 in
     let front : Takes bytes (to_be_bytes w16 (length x.0)) b.0.1 × ((least ≤ length x.0) × (length x.0 ≤ most)) =
-      subst (λ (n : ℕ). Takes bytes (to_be_bytes w16 n) b.0.1 × ((least ≤ n) × (n ≤ most))) (sym items.1) count in
+    subst (λ (n : ℕ). Takes bytes (to_be_bytes w16 n) b.0.1 × ((least ≤ n) × (n ≤ most))) (sym items.1) count in
     (Takes-then bytes (to_be_bytes w16 (length x.0)) b.0.1 (flat_map tagged_field x.0) x.1 front.0 items.0, front.1, items.2, items.3)
 
 pub entries_again : (least most : ℕ) (ts : List Tagged) (rest : List ℕ) → most < 2 ^ 16 → least ≤ length ts → length ts ≤ most → AllByRecursion IsTagged ts

@@ -1,15 +1,15 @@
 -- Numbers, digests and short texts: what is read is what was spelled, and what is spelled is read again.
-use Rattle.std.proofs.Common.{◌≡◌, ℕ, zero, suc, ◌+◌, ◌^◌, ◌<◌, ◌≤◌, Bool, true, false, cond, ltb, leb, ◌&&◌, List, [], ◌∷◌, ◌++◌, length, get_or, take, drop, Result, Ok, Err, refl, sym, ap, subst, ◌∙◌, append_assoc, arith}
+use Rattle.std.proofs.Common.{◌≡◌, ℕ, ◌^◌, ◌<◌, ◌≤◌, false, ltb, leb, ◌&&◌, List, [], ◌∷◌, ◌++◌, length, take, drop, Ok, refl, sym, ap, subst, ◌∙◌, arith}
 use Rattle.std.specs.Int.{Width, w16, w32, byte_len, from_be_bytes, to_be_bytes}
-use Rattle.std.proofs.lemmas.Bool.{ltb-true, ltb-false, le-ltb, leb-true, le-leb, and_parts, and_from}
+use Rattle.std.proofs.lemmas.Bool.{ltb-true, ltb-false, le-ltb, leb-true, le-leb, and_parts}
 use Rattle.std.proofs.lemmas.List.{take_at, drop_at, take-append-drop, length-append, length-take}
 use Rattle.std.proofs.lemmas.Nat.{be_bytes_2, be_bytes_4, from_be_bytes-to_be_bytes_2, from_be_bytes-to_be_bytes_4}
 use Rattle.vic_dict.specs.Lists.{AreBytes}
 use Rattle.vic_wire.specs.declared.message.Digest32.{Digest32}
 use Rattle.vic_wire.specs.Texts.{short_text}
 use Rattle.vic_wire.specs.Messages.{IsDigest, IsNumber}
-use Rattle.vic_wire.specs.Reading.{FieldFault, Short, ◌>>=◌, byte_at, bytes_at, number_at, allowed, digest_at, short_at}
-use Rattle.vic_spellings.proofs.Steps.{bytes-rest, bytes-drop, bytes-take, bind_ok, guard_ok, allowed_ok, ok_is, Takes, Takes-then, Takes-cons}
+use Rattle.vic_wire.specs.Reading.{Short, ◌>>=◌, byte_at, bytes_at, number_at, allowed, digest_at, short_at}
+use Rattle.vic_spellings.proofs.Steps.{bytes-rest, bytes-drop, bytes-take, bind_ok, guard_ok, allowed_ok, ok_is, Takes}
 
 -- ---- a byte
 
@@ -25,7 +25,7 @@ bytes_takes n bytes x fits e =
     let long : n ≤ length bytes = ltb-false _ _ g.0 in
     let len : length (take n bytes) ≡ n = omega (arith, length-take n bytes) in
     subst (λ (y : List ℕ × List ℕ). Takes bytes y.0 y.1 × (length y.0 ≡ n) × AreBytes y.0) g.1
-      (record { parts = sym (take-append-drop n bytes); rest_fits = bytes-drop n bytes fits }, len, bytes-take n bytes fits)
+    (record { parts = sym (take-append-drop n bytes); rest_fits = bytes-drop n bytes fits }, len, bytes-take n bytes fits)
 
 pub bytes_again : (n : ℕ) (text rest : List ℕ) → length text ≡ n → bytes_at n (text ++ rest) ≡ Ok (text, rest)
 bytes_again n text rest len =

@@ -4,4 +4,7 @@ pub mod Fields
 pub mod Operations
 pub mod Entries
 pub mod Seals
-pub mod Answers
+pub mod SpelledAnswers
+pub mod SpelledRequests
+pub mod Holding
+pub mod Laws

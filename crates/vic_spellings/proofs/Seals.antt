@@ -1,14 +1,13 @@
 -- Seals: what is read is what was spelled, and what is spelled is read again.
-use Rattle.std.proofs.Common.{◌≡◌, ℕ, zero, suc, ◌+◌, ◌^◌, ◌<◌, Bool, true, false, cond, eqb, List, [], ◌∷◌, ◌++◌, length, replicate, Result, Ok, Err, refl, sym, ap, subst, ◌∙◌, append_assoc, arith, inl, inr, ◌⊎◌}
+use Rattle.std.proofs.Common.{◌≡◌, ℕ, ◌^◌, ◌<◌, false, eqb, List, ◌++◌, replicate, Result, Ok, refl, sym, ap, subst, ◌∙◌, append_assoc, arith, inl, inr}
 use Rattle.std.specs.Int.{w32, to_be_bytes}
 use Rattle.std.proofs.lemmas.Bool.{eqb-true, eqb-false, cases_Bool}
 use Rattle.sha2.proofs.Facts256.{length-sha256}
 use Rattle.vic_dict.specs.Lists.{AreBytes}
-use Rattle.vic_wire.specs.declared.message.Digest32.{Digest32}
 use Rattle.vic_wire.specs.declared.message.Seal.{Seal}
 use Rattle.vic_wire.specs.Texts.{empty_text}
 use Rattle.vic_wire.specs.Hashes.{empty_root}
-use Rattle.vic_wire.specs.Messages.{IsSeal, IsDigest, seal_field}
+use Rattle.vic_wire.specs.Messages.{IsSeal, seal_field}
 use Rattle.vic_wire.specs.Reading.{FieldFault, ◌>>=◌, number_at, digest_at, seal_after, seal_at}
 use Rattle.vic_spellings.specs.Spellings.{HasBytes}
 use Rattle.vic_spellings.proofs.Steps.{bind_ok, chosen, ok_is, Takes, Takes-then}
@@ -93,7 +92,7 @@ seal_again s rest fits =
     elim (cases_Bool (eqb s.position 0)) [
       | inl h ↦ subst (λ (t : Seal). seal_at (seal_field t ++ rest) ≡ Ok (t, rest)) (is_first_seal s fits (eqb-true s.position 0 h)) (first_seal_again rest)
       | inr h ↦
-        let regrouped : seal_field s ++ rest ≡ to_be_bytes w32 s.position ++ (s.root.bytes ++ (s.tag.bytes ++ rest)) =
+          let regrouped : seal_field s ++ rest ≡ to_be_bytes w32 s.position ++ (s.root.bytes ++ (s.tag.bytes ++ rest)) =
           ap (λ (t : List ℕ). t ++ rest) (later_field s h) ∙ append_assoc (to_be_bytes w32 s.position) (s.root.bytes ++ s.tag.bytes) rest ∙ ap (λ (t : List ℕ). to_be_bytes w32 s.position ++ t) (append_assoc s.root.bytes s.tag.bytes rest) in
-        ap seal_at regrouped ∙ later_seal_again s rest fits h
+          ap seal_at regrouped ∙ later_seal_again s rest fits h
     ]

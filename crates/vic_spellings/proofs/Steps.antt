@@ -1,9 +1,9 @@
 -- The steps of a reader, and what it took from the front of the bytes.
-use Rattle.std.proofs.Common.{◌≡◌, ℕ, suc, ◌+◌, ◌<◌, Bool, true, false, cond, eqb, List, [], ◌∷◌, ◌++◌, length, get_or, take, drop, Option, Some, None, Result, Ok, Err, refl, sym, ap, subst, ◌∙◌, append_assoc, arith, inl, inr, ◌⊎◌}
+use Rattle.std.proofs.Common.{◌≡◌, ℕ, suc, ◌+◌, Bool, true, false, cond, eqb, List, [], ◌∷◌, ◌++◌, length, take, drop, Some, Result, Ok, Err, refl, sym, ap, subst, ◌∙◌, append_assoc, arith, inl, inr, ◌⊎◌}
 use Rattle.std.proofs.lemmas.Bool.{cases_lt, eqb-true}
-use Rattle.std.proofs.lemmas.List.{nil_from_length, length-take, get_or-drop, get_or-take, get_or_past, get_or_append_left, get_or-append_right}
+use Rattle.std.proofs.lemmas.List.{nil_from_length, length-take, get_or-drop, get_or-take, get_or_past}
 use Rattle.vic_dict.specs.Lists.{AreBytes}
-use Rattle.vic_wire.specs.Reading.{FieldFault, Value, ◌>>=◌, allowed, ended, some_read}
+use Rattle.vic_wire.specs.Reading.{FieldFault, ◌>>=◌, allowed, ended, some_read}
 
 -- ---- lists of bytes
 

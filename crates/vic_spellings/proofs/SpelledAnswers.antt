@@ -1,5 +1,5 @@
 -- Whole answers: what is read is what was spelled, and what is spelled is read again.
-use Rattle.std.proofs.Common.{◌≡◌, ℕ, zero, suc, ◌+◌, ◌<◌, ◌≤◌, Bool, true, false, cond, eqb, ltb, leb, ◌&&◌, List, [], ◌∷◌, ◌++◌, length, Option, Some, None, Result, Ok, Err, refl, sym, ap, subst, ◌∙◌, append_assoc, arith, inl, inr, ◌⊎◌}
+use Rattle.std.proofs.Common.{◌≡◌, ℕ, cond, eqb, ltb, leb, ◌&&◌, List, [], ◌∷◌, ◌++◌, length, Some, Result, Ok, Err, refl, sym, ap, subst, ◌∙◌, append_assoc, arith}
 use Rattle.std.proofs.lemmas.Bool.{lt-ltb, leb-true, le-leb}
 use Rattle.std.proofs.lemmas.List.{append-nil}
 use Rattle.vic_dict.specs.Lists.{AreBytes}
@@ -10,7 +10,7 @@ use Rattle.vic_wire.specs.declared.message.ToClient.TheVariants as say
 use Rattle.vic_wire.specs.Messages.{seal_field, entries_field, answer_text, HasSpelling}
 use Rattle.vic_wire.specs.Reading.{FieldFault, Value, ◌>>=◌, byte_at, allowed, seal_at, entries_at, ended, update_at, answer_of_kind, some_read, read_answer}
 use Rattle.vic_spellings.specs.Spellings.{HoldsBytes}
-use Rattle.vic_spellings.proofs.Steps.{bind_ok, allowed_ok, by_kind, err_is_none, ended_ok, some_ok, ok_is, Takes, Takes-then}
+use Rattle.vic_spellings.proofs.Steps.{bind_ok, allowed_ok, by_kind, err_is_none, ended_ok, some_ok, ok_is, Takes-then}
 use Rattle.vic_spellings.proofs.Fields.{byte_takes, within_takes}
 use Rattle.vic_spellings.proofs.Entries.{entries_takes, entries_again}
 use Rattle.vic_spellings.proofs.Seals.{seal_takes, seal_again}
