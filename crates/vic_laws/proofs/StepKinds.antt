@@ -27,7 +27,7 @@ use Rattle.vic_rules.specs.Client.{Standing, Move, Sending, Polls, Syncs, moves,
 use Rattle.vic_rules.specs.Trust.{taken_by, checked_texts, seal_texts, parts_in, text_sent}
 use Rattle.vic_rules.specs.Views.{IsCall}
 use Rattle.vic_rules.specs.History.{completion}
-use Rattle.vic_spellings.proofs.Answers.{answer_fits, answer_spelled}
+use Rattle.vic_spellings.proofs.SpelledAnswers.{answer_fits, answer_spelled}
 use Rattle.vic_laws.proofs.Words.{some_same, some_of, none_of, none_is_some, all_true, all_weaker, in_right, are_bytes_after, bytes_same, entry_same}
 use Rattle.vic_laws.proofs.Steps.{Passes, IsOther, call_of, StandsAbove, Sealing, Arrived, Quiet, Kind, is_quiet, is_called, is_replied, is_updated, is_listed}
 
