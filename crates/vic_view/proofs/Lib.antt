@@ -1,3 +1,4 @@
 pub mod Fronts
 pub mod Loops
 pub mod Replays
+pub mod Marks

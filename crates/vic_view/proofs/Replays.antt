@@ -72,7 +72,7 @@ if_not true x y = refl
 if_not false x y = refl
 
 -- the answer that was taken is told by the input and what was returned
-taken_told : (g : Group) (me : ℕ) (s : Standing) (i : Input) → taken_by (step g me s i).next i ≡ read_by i (step g me s i).returns
+pub taken_told : (g : Group) (me : ℕ) (s : Standing) (i : Input) → taken_by (step g me s i).next i ≡ read_by i (step g me s i).returns
 unfolding step
 taken_told g me s (input.Call o) = refl
 taken_told g me s input.Poll = refl
