@@ -2,3 +2,4 @@ pub mod Fronts
 pub mod Loops
 pub mod Replays
 pub mod Marks
+pub mod Shows
