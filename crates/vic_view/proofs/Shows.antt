@@ -19,7 +19,7 @@ use Rattle.vic_laws.proofs.SameOp.{entry_same_itself}
 use Rattle.vic_laws.proofs.Agreement.{confirmed_tells, confirmed_by, completion_owner}
 use Rattle.vic_view.specs.declared.replay.Place.{Place}
 use Rattle.vic_view.specs.declared.replay.ClientPath.{ClientPath}
-use Rattle.vic_view.specs.Replay.{no_path, replayed, AreReplayed, common, path_among, outcome_of, outcome_there, shown_by, shown_place, shown_below}
+use Rattle.vic_view.specs.Replay.{no_path, replayed, AreReplayed, common, path_among, places_among, lengths_with, outcome_among, outcome_of, outcome_there, shown_by, shown_place, shown_below}
 use Rattle.vic_view.proofs.Loops.{newest_step}
 use Rattle.vic_view.proofs.Replays.{entries, own_or_other, replayed_own, replayed_other}
 use Rattle.vic_view.proofs.Marks.{completed_as, MarksHold, IsMarked, marks_hold, all_marked, EndsDone, done_is, done_front}
@@ -254,3 +254,61 @@ shows_view g h steps all r me =
     let d : EndsDone (last_prefix me (completions g h)) (replayed me h) = done_is g h steps me in
     shows_front g h steps (λ j. (path_among all j).places) (λ j. ap (λ (p : ClientPath). p.places) (paths_are g h steps all r j)) (replayed me h).places (replayed me h).done d.within
     ∙ ap (confirmed_calls (completions g h)) (sym d.front)
+
+-- ---- what the loop over a path keeps
+
+none_with_nothing : (mine : List Place) → common mine [] ≡ 0
+none_with_nothing [] = refl
+none_with_nothing (p ∷ mine) = refl
+
+length_at : (mine : List Place) (all : List ClientPath) (k : ℕ) → get_or (lengths_with mine all) k 0 ≡ common mine (get_or all k no_path).places
+length_at mine [] k = sym (none_with_nothing mine)
+length_at mine (p ∷ all) zero = refl
+length_at mine (p ∷ all) (suc k) = length_at mine all k
+
+length_is : (mine : List Place) (all : List ClientPath) (owner : ℕ) (b : Bool) → (if b then 0 else get_or (lengths_with mine all) (owner - 1) 0) ≡ common mine (if b then no_path else get_or all (owner - 1) no_path).places
+length_is mine all owner true = sym (none_with_nothing mine)
+length_is mine all owner false = length_at mine all (owner - 1)
+
+-- with the lengths in common, the comparison is that of the two paths
+among_there : (mine : List Place) (all : List ClientPath) (owner n : ℕ) → outcome_among (lengths_with mine all) all owner n ≡ outcome_there mine (places_among all owner) n
+among_there mine all owner n =
+    ap (λ (k : ℕ). if nat_lt n k then outcome_of (slice_get (places_among all owner) n) else None) (length_is mine all owner (nat_eq owner 0))
+
+pub shown_start : (paths : ℕ → List Place) (mine : List Place) (v : List Shown) → v ≡ [] → reverse v ≡ shown_below paths mine 0
+unfolding shown_below
+shown_start paths mine v e = ap reverse e
+
+reverse_shown : (v : List Shown) (e : Entry) (o : Option Outcome) → reverse (v ++ shown_by e o) ≡ shown_by e o ++ reverse v
+reverse_shown v e None = ap reverse (append-nil v)
+reverse_shown v e (Some o) = reverse-append v (record { entry = e; outcome = o } ∷ [])
+
+shown_suc : (paths : ℕ → List Place) (mine : List Place) (n m : ℕ) (p : Place) → m ≡ suc n → slice_get mine n ≡ Some p
+    → shown_by p.entry (outcome_there mine (paths p.entry.client) n) ++ shown_below paths mine n ≡ shown_below paths mine m
+unfolding shown_below
+shown_suc paths mine n m p e there =
+    ap (λ (s : Option Place). shown_place paths mine n s ++ shown_below paths mine n) (sym there) ∙ ap (shown_below paths mine) (sym e)
+
+-- one more place
+pub shown_more : (lengths : List ℕ) (all : List ClientPath) (mine : List Place) (v w : List Shown) (n : ℕ) (p : Place) (o : Option Outcome)
+    → reverse v ≡ shown_below (places_among all) mine n → slice_get mine n ≡ Some p → lengths ≡ lengths_with mine all
+    → o ≡ outcome_among lengths all p.entry.client n → w ≡ v ++ shown_by p.entry o → reverse w ≡ shown_below (places_among all) mine (n + 1)
+shown_more lengths all mine v w n p o before there are found e =
+    let is : o ≡ outcome_there mine (places_among all p.entry.client) n =
+    found ∙ ap (λ (l : List ℕ). outcome_among l all p.entry.client n) are ∙ among_there mine all p.entry.client n in
+    let next : n + 1 ≡ suc n = omega arith in
+    ap reverse e ∙ reverse_shown v p.entry o
+    ∙ ap (λ (x : Option Outcome). shown_by p.entry x ++ reverse v) is
+    ∙ ap (λ (u : List Shown). shown_by p.entry (outcome_there mine (places_among all p.entry.client) n) ++ u) before
+    ∙ shown_suc (places_among all) mine n (n + 1) p next there
+
+-- a path that was replayed shows its client's view
+pub view_shown : (g : Group) (h : List TraceStep) → IsLawful g h → (all every : List ClientPath) → every ≡ all → AreReplayed g.count h all → (me : ℕ) (mine : ClientPath) → mine ≡ replayed me h
+    → shown_below (places_among every) mine.places mine.done ≡ view_of g me h
+view_shown g h lawful all every e r me mine is =
+    ap (λ (x : List ClientPath). shown_below (places_among x) mine.places mine.done) e
+    ∙ ap (λ (p : ClientPath). shown_below (places_among all) p.places p.done) is
+    ∙ shows_view g h lawful.steps all r me
+
+pub done_within : (g : Group) (h : List TraceStep) → IsLawful g h → (me : ℕ) (mine : ClientPath) → mine ≡ replayed me h → mine.done ≤ length mine.places
+done_within g h lawful me mine is = subst (λ (p : ClientPath). p.done ≤ length p.places) (sym is) (done_is g h lawful.steps me).within

@@ -1,6 +1,6 @@
 -- The paths of clients as their steps tell them: the entries that each took, the oldest first, and beside the last entry of each
 -- Reply how the client completed the call.
-use Rattle.std.specs.Prelude.{◌≡◌, ℕ, zero, suc, ◌+◌, ◌-◌, ◌<◌, Bool, true, false, List, [], ◌∷◌, ◌++◌, length, Option, Some, None, nat_eq, nat_lt, if◌then◌else◌, slice_get, slice_index_or}
+use Rattle.std.specs.Prelude.{◌≡◌, ℕ, zero, suc, ◌+◌, ◌-◌, ◌<◌, Bool, true, false, List, [], ◌∷◌, ◌++◌, length, map, Option, Some, None, nat_eq, nat_lt, if◌then◌else◌, slice_get, slice_index, slice_index_or}
 use Rattle.vic_dict.specs.declared.op.Outcome.{Outcome}
 use Rattle.vic_dict.specs.declared.op.Outcome.TheVariants as outcome
 use Rattle.vic_dict.specs.declared.op.Entry.{Entry}
@@ -100,6 +100,21 @@ outcome_of (Some p) = p.outcome
 -- the outcome at a place of one path, if it has the other one's front up to there
 abbrev pub outcome_there : List Place → List Place → ℕ → Option Outcome
 outcome_there mine theirs n = if nat_lt n (common mine theirs) then outcome_of (slice_get theirs n) else None
+
+-- the same, where the lengths in common with clients 1, 2 and so on are known
+abbrev pub length_among : List ℕ → ℕ → ℕ
+length_among lengths owner = if nat_eq owner 0 then 0 else slice_index lengths (owner - 1)
+
+abbrev pub outcome_among : List ℕ → List ClientPath → ℕ → ℕ → Option Outcome
+outcome_among lengths all owner n = if nat_lt n (length_among lengths owner) then outcome_of (slice_get (path_among all owner).places n) else None
+
+-- the lengths in common with each of the paths
+abbrev pub lengths_with : List Place → List ClientPath → List ℕ
+lengths_with mine all = map (λ (p : ClientPath). common mine p.places) all
+
+-- the places of a client's path
+abbrev pub places_among : List ClientPath → ℕ → List Place
+places_among all owner = (path_among all owner).places
 
 abbrev pub shown_by : Entry → Option Outcome → List Shown
 shown_by e None = []

@@ -8,7 +8,9 @@
 mod replay;
 pub mod transcript;
 pub mod view;
+pub mod views;
 
 pub use transcript::Transcript;
 pub use vic_rules::{Input, Shown, TraceStep};
 pub use view::{View, agree};
+pub use views::view_of;
