@@ -21,6 +21,7 @@ pub enum CutFault {
     /// A number of the field isn't allowed at its place.
     #[error("a field has a value that isn't allowed")]
     Value,
+    /// Memory ran out; the bytes may be in order.
     #[error("no memory")]
     NoMemory,
 }

@@ -116,16 +116,12 @@ fn list_of(alloc: Global, bytes: &[u8]) -> Result<(Op, &[u8]), CutFault>
 fn kind_of(alloc: Global, kind: u8, bytes: &[u8]) -> Result<(Op, &[u8]), CutFault>
     ensures { Gives (λ x. (x.0, x.1.now)) result (op_of_kind kind bytes.now) }
 {
-    if kind == 1 {
-        put_of(alloc, bytes)
-    } else if kind == 2 {
-        get_of(alloc, bytes)
-    } else if kind == 3 {
-        del_of(alloc, bytes)
-    } else if kind == 4 {
-        list_of(alloc, bytes)
-    } else {
-        Err(CutFault::Value)
+    match kind {
+        1 => put_of(alloc, bytes),
+        2 => get_of(alloc, bytes),
+        3 => del_of(alloc, bytes),
+        4 => list_of(alloc, bytes),
+        _ => Err(CutFault::Value),
     }
 }
 

@@ -1,20 +1,20 @@
 //! What the server answers.
 
-ghost use Rattle.std.specs.Prelude.{◌≡◌, ◌++◌, length, nat_le, OnOk, IfOk};
+ghost use Rattle.std.specs.Prelude.{◌≡◌, ◌++◌, length, nat_le, Some, IfSome, OnOk, IfOk};
+ghost use Rattle.vic_wire.specs.declared.message.ToClient.{ToClient as AnAnswer};
 ghost use Rattle.vic_wire.specs.declared.message.ToClient.TheVariants as say;
 ghost use Rattle.vic_wire.specs.Messages.{HasSpelling, answer_text};
 ghost use Rattle.vic_wire.specs.Reading.{allowed, update_at, answer_of_kind, read_answer};
 ghost use Rattle.vic_fields.specs.Giving.{Gives};
 ghost use Rattle.vic_frames.specs.Kinds.{answer_at, reply_at, listed_at, refused_at};
 
-use crate::fields::{found_or_none, put_entries, put_seal, take_entries, take_seal, whole};
+use crate::fields::{
+    CONTENT_LIMIT, found_or_none, put_entries, put_seal, take_entries, take_seal, whole,
+};
 use std::alloc::Global;
 use vic_dict::{Bytes, NoMemory};
 use vic_fields::{Cut, CutFault, put_bytes, put_u8};
 use vic_wire::ToClient;
-
-/// The longest content that is kept.
-const CONTENT_LIMIT: usize = 8_388_608;
 
 // ---- reading
 
@@ -75,28 +75,18 @@ fn content_from(alloc: Global, fields: &[u8]) -> Result<ToClient, CutFault>
 fn answer_from(alloc: Global, kind: u8, fields: &[u8]) -> Result<ToClient, CutFault>
     ensures { Gives (λ m. m) result (answer_of_kind kind fields.now) }
 {
-    if kind == 0x41 {
-        whole(ToClient::Hi, fields)
-    } else if kind == 0x42 {
-        reply_from(alloc, fields)
-    } else if kind == 0x43 {
-        whole(ToClient::Wait, fields)
-    } else if kind == 0x44 {
-        update_from(alloc, fields)
-    } else if kind == 0x45 {
-        entries_from(alloc, fields)
-    } else if kind == 0x46 {
-        refused_from(fields)
-    } else if kind == 0x47 {
-        whole(ToClient::Kept, fields)
-    } else if kind == 0x48 {
-        content_from(alloc, fields)
-    } else if kind == 0x49 {
-        whole(ToClient::Gone, fields)
-    } else if kind == 0x4a {
-        whole(ToClient::Absent, fields)
-    } else {
-        Err(CutFault::Value)
+    match kind {
+        0x41 => whole(ToClient::Hi, fields),
+        0x42 => reply_from(alloc, fields),
+        0x43 => whole(ToClient::Wait, fields),
+        0x44 => update_from(alloc, fields),
+        0x45 => entries_from(alloc, fields),
+        0x46 => refused_from(fields),
+        0x47 => whole(ToClient::Kept, fields),
+        0x48 => content_from(alloc, fields),
+        0x49 => whole(ToClient::Gone, fields),
+        0x4a => whole(ToClient::Absent, fields),
+        _ => Err(CutFault::Value),
     }
 }
 
@@ -111,6 +101,10 @@ fn answer_of(alloc: Global, payload: &[u8]) -> Result<ToClient, CutFault>
 /// The answer that the payload spells; none exactly where it spells none. The cost grows with the payload alone.
 #[tactic(auto, unfolding(vic_wire::specs::Reading::read_answer))]
 pub fn decode_answer(alloc: Global, payload: &[u8]) -> Result<Option<ToClient>, NoMemory>
+    // What is read is spelled so.
+    ensures found { IfOk result (λ o. IfSome o (λ m. HasSpelling m × (payload.now ≡ answer_text m))) }
+    // What is spelled so is read, unless memory runs out.
+    ensures only { (m : AnAnswer) → HasSpelling m → payload.now ≡ answer_text m → IfOk result (λ o. o ≡ Some m) }
     ensures exact { IfOk result (λ o. o ≡ read_answer payload.now) }
 {
     found_or_none(answer_of(alloc, payload))

@@ -12,6 +12,9 @@ use vic_dict::{Bytes, NoMemory};
 use vic_fields::{Cut, CutFault, put_digest, put_entry, put_u16, put_u32};
 use vic_wire::{Digest32, Seal, Tagged, TaggedList};
 
+/// The longest content that is kept.
+pub(crate) const CONTENT_LIMIT: usize = 8_388_608;
+
 /// The value, where nothing follows it.
 pub(crate) fn whole<T: Drop>(value: T, rest: &[u8]) -> Result<T, CutFault>
     ensures { Gives (λ v. v) result (ended (value, rest.now)) }

@@ -1,8 +1,9 @@
 //! What a client sends.
 
-ghost use Rattle.std.specs.Prelude.{◌≡◌, [], ◌∷◌, ◌++◌, length, nat_le, OnOk, IfOk};
+ghost use Rattle.std.specs.Prelude.{◌≡◌, [], ◌∷◌, ◌++◌, length, nat_le, Some, IfSome, OnOk, IfOk};
 ghost use Rattle.std.specs.Int.{w32, to_be_bytes};
 ghost use Rattle.vic_dict.specs.Dictionary.{Fits};
+ghost use Rattle.vic_wire.specs.declared.message.ToServer.{ToServer as ARequest};
 ghost use Rattle.vic_wire.specs.declared.message.ToServer.TheVariants as ask;
 ghost use Rattle.vic_wire.specs.Texts.{op_text, mode_byte, status_byte};
 ghost use Rattle.vic_wire.specs.Messages.{HasRequestSpelling, request_text};
@@ -10,26 +11,21 @@ ghost use Rattle.vic_wire.specs.Reading.{allowed, mode_of, hello_at, invoke_at, 
 ghost use Rattle.vic_fields.specs.Giving.{Gives};
 ghost use Rattle.vic_frames.specs.Kinds.{request_at};
 
-use crate::fields::{found_or_none, whole};
+use crate::fields::{CONTENT_LIMIT, found_or_none, whole};
 use std::alloc::Global;
 use vic_dict::{Bytes, Mode, NoMemory, Op};
 use vic_fields::{Cut, CutFault, put_bytes, put_digest, put_op, put_u8, put_u32};
 use vic_wire::{Digest32, ToServer};
-
-/// The longest content that is kept.
-const CONTENT_LIMIT: usize = 8_388_608;
 
 // ---- reading
 
 fn mode_from(byte: u8) -> Result<Mode, CutFault>
     ensures { Gives (λ m. m) result (mode_of byte) }
 {
-    if byte == 0 {
-        Ok(Mode::Plain)
-    } else if byte == 1 {
-        Ok(Mode::Objects)
-    } else {
-        Err(CutFault::Value)
+    match byte {
+        0 => Ok(Mode::Plain),
+        1 => Ok(Mode::Objects),
+        _ => Err(CutFault::Value),
     }
 }
 
@@ -148,26 +144,17 @@ fn fetch_from(fields: &[u8]) -> Result<ToServer, CutFault>
 fn request_from(alloc: Global, kind: u8, fields: &[u8]) -> Result<ToServer, CutFault>
     ensures { Gives (λ m. m) result (request_of_kind kind fields.now) }
 {
-    if kind == 0x21 {
-        hello_from(fields)
-    } else if kind == 0x22 {
-        invoke_from(alloc, fields)
-    } else if kind == 0x23 {
-        commit_from(fields)
-    } else if kind == 0x24 {
-        whole(ToServer::Poll, fields)
-    } else if kind == 0x25 {
-        seal_from(fields)
-    } else if kind == 0x26 {
-        sync_from(fields)
-    } else if kind == 0x27 {
-        keep_from(alloc, fields)
-    } else if kind == 0x28 {
-        fetch_from(fields)
-    } else if kind == 0x29 {
-        whole(ToServer::Bye, fields)
-    } else {
-        Err(CutFault::Value)
+    match kind {
+        0x21 => hello_from(fields),
+        0x22 => invoke_from(alloc, fields),
+        0x23 => commit_from(fields),
+        0x24 => whole(ToServer::Poll, fields),
+        0x25 => seal_from(fields),
+        0x26 => sync_from(fields),
+        0x27 => keep_from(alloc, fields),
+        0x28 => fetch_from(fields),
+        0x29 => whole(ToServer::Bye, fields),
+        _ => Err(CutFault::Value),
     }
 }
 
@@ -182,6 +169,10 @@ fn request_of(alloc: Global, payload: &[u8]) -> Result<ToServer, CutFault>
 /// The request that the payload spells; none exactly where it spells none. The cost grows with the payload alone.
 #[tactic(auto, unfolding(vic_wire::specs::Reading::read_request))]
 pub fn decode_request(alloc: Global, payload: &[u8]) -> Result<Option<ToServer>, NoMemory>
+    // What is read is spelled so.
+    ensures found { IfOk result (λ o. IfSome o (λ m. HasRequestSpelling m × (payload.now ≡ request_text m))) }
+    // What is spelled so is read, unless memory runs out.
+    ensures only { (m : ARequest) → HasRequestSpelling m → payload.now ≡ request_text m → IfOk result (λ o. o ≡ Some m) }
     ensures exact { IfOk result (λ o. o ≡ read_request payload.now) }
 {
     found_or_none(request_of(alloc, payload))

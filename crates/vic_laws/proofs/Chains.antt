@@ -14,6 +14,7 @@ use Rattle.vic_wire.specs.Reading.{entry_at}
 use Rattle.vic_rules.specs.Trust.{chain_texts}
 use Rattle.vic_spellings.proofs.Entries.{entry_again}
 use Rattle.vic_spellings.proofs.Steps.{ok_is}
+use Rattle.vic_laws.proofs.Words.{tail_same}
 
 -- two different texts of a kind that have one hash
 abbrev pub TwoTexts : (List ℕ → Type 0) → Type 0
@@ -50,9 +51,6 @@ same_entry_text e f a b s = ap (λ x. x.0) (ok_is (e, []) (f, []) (sym (entry_ag
   where
     again : entry_text e ≡ entry_text f → entry_at (entry_text e ++ []) ≡ entry_at (entry_text f ++ [])
     again q = ap (λ t. entry_at (t ++ [])) q
-
-tail_same : (a b : ℕ) (x y : List ℕ) → a ∷ x ≡ b ∷ y → x ≡ y
-tail_same a b x y e = cc
 
 -- a text of the path's own is no text of an entry that joined it
 genesis_apart : (a b : List ℕ) → 5 ∷ a ≡ 1 ∷ b → ⊥

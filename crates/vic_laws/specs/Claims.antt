@@ -11,7 +11,7 @@ use Rattle.vic_wire.specs.Trees.{dictionary_root}
 use Rattle.vic_rules.specs.declared.trace.TraceStep.{TraceStep}
 use Rattle.vic_rules.specs.Client.{Seals, entries_of, seal_of, seal_text_on}
 use Rattle.vic_rules.specs.History.{IsLawful, path, move_of, Completion, completions}
-use Rattle.vic_rules.specs.Views.{confirmed, confirmed_calls, left_by}
+use Rattle.vic_rules.specs.Views.{confirmed, confirmed_calls, left_by, view_of, IsLegal}
 use Rattle.vic_rules.specs.Trust.{IsForged, Collides, took}
 
 -- ---- tags
@@ -56,3 +56,9 @@ abbrev pub SealsHold : Type 0
 SealsHold = (g : Group) (h : List TraceStep) → IsLawful g h → (IsForged g h → ⊥) → (Collides g h → ⊥)
     → (later : List TraceStep) (x : TraceStep) (past : List TraceStep) → h ≡ later ++ x ∷ past → (position : ℕ) (root : List ℕ) → SealAt g past x position root
     → SealHolds (completions g h) (path g x.client (x ∷ past)) position root
+
+-- ---- views
+
+-- unless a tag was forged or two texts collide, each answer in a view is that of a dictionary after the calls before it
+abbrev pub ViewsAreLegal : Type 0
+ViewsAreLegal = (g : Group) (h : List TraceStep) → IsLawful g h → (IsForged g h → ⊥) → (Collides g h → ⊥) → (me : ℕ) → IsLegal (view_of g me h)

@@ -1,8 +1,17 @@
-//! The laws of histories: what holds of every lawful history, whatever the payloads hold.
+//! The laws of histories: what holds of every lawful history of a group, whatever the payloads hold.
 //!
-//! This crate has no code of its own. `specs/Claims.antt` and `specs/OrderClaims.antt` state the laws over the definitions of
-//! `vic_rules`, and each is the contract of a function without parameters and with an empty body.
+//! This crate has no code that runs. `specs/Claims.antt` and `specs/OrderClaims.antt` state the laws over the definitions of
+//! `vic_rules`, and each law is the contract of a function without parameters and with an empty body. The contract of
+//! [`headline`] carries the claim on a group's views, `EveryHistoryHolds` of `vic_rules`.
 #![tactic(auto)]
+
+ghost use Rattle.vic_rules.specs.Headline.{EveryHistoryHolds};
 
 pub mod order;
 pub mod trust;
+
+/// The claim on a group's views, of every lawful history. The laws in [`order`] and [`trust`] are its parts, some of them with
+/// fewer premises.
+pub fn headline()
+    ensures { EveryHistoryHolds }
+{}

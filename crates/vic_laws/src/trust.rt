@@ -1,6 +1,6 @@
-//! The laws on tags, hashes and seals.
+//! The laws on tags, hashes and seals, and on what views answer.
 
-ghost use Rattle.vic_laws.specs.Claims.{HashesTellPaths, TagsHold};
+ghost use Rattle.vic_laws.specs.Claims.{HashesTellPaths, SealsHold, TagsHold, ViewsAreLegal};
 
 /// One hash tells one path.
 pub fn prefixes()
@@ -10,4 +10,14 @@ pub fn prefixes()
 /// What a client takes came with its tag.
 pub fn tags()
     ensures { TagsHold }
+{}
+
+/// What a seal says holds.
+pub fn seals()
+    ensures { SealsHold }
+{}
+
+/// Each answer in a view is that of a dictionary after the calls before it.
+pub fn legal()
+    ensures { ViewsAreLegal }
 {}

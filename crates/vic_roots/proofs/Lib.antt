@@ -9,3 +9,5 @@ pub mod Splits
 pub mod Leaves
 pub mod NodeTexts
 pub mod Roots
+pub mod Again
+pub mod Shape

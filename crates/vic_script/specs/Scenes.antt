@@ -1,8 +1,7 @@
 -- Where a script stands, and what its lines do.
-use Rattle.std.specs.Prelude.{◌≡◌, ℕ, zero, suc, ◌-◌, Bool, true, false, not, ◌&&◌, List, [], ◌∷◌, ◌++◌, length, replicate, Option, Some, None, is_none, nat_eq, nat_lt, nat_le, if◌then◌else◌, slice_get, slice_set, unwrap_or, codes}
+use Rattle.std.specs.Prelude.{ℕ, zero, suc, ◌-◌, Bool, false, ◌&&◌, List, [], ◌∷◌, ◌++◌, length, replicate, Option, Some, None, is_none, nat_eq, nat_lt, nat_le, if◌then◌else◌, slice_get, slice_set, unwrap_or, codes}
 use Rattle.std.specs.Fmt.{decimal}
 use Rattle.vic_dict.specs.declared.op.Outcome.{Outcome}
-use Rattle.vic_dict.specs.declared.op.Mode.TheVariants as mode
 use Rattle.vic_wire.specs.Hashes.{Group}
 use Rattle.vic_wire.specs.Messages.{answer_text}
 use Rattle.vic_rules.specs.declared.trace.Input.{Input}
@@ -10,7 +9,7 @@ use Rattle.vic_rules.specs.declared.trace.Input.TheVariants as input
 use Rattle.vic_rules.specs.declared.trace.TraceStep.{TraceStep}
 use Rattle.vic_rules.specs.Client.{Standing, step, payload_of, awaits_nothing, first_failing}
 use Rattle.vic_rules.specs.History.{standing}
-use Rattle.vic_order.specs.Order.{Server, Answered, fresh_server, ready, serve}
+use Rattle.vic_order.specs.Order.{Server, fresh_server, ready, serve}
 use Rattle.vic_script.specs.declared.line.Line.{Line}
 use Rattle.vic_script.specs.declared.line.Line.TheVariants as line
 use Rattle.vic_script.specs.Words.{outcome_words, newline}

@@ -1,5 +1,5 @@
 -- The words of a script: byte words and numbers, and how operations, answers and outcomes are printed in them.
-use Rattle.std.specs.Prelude.{ℕ, ◌+◌, ◌-◌, ◌*◌, ◌<◌, Bool, true, false, not, ◌&&◌, ◌||◌, List, [], ◌∷◌, ◌++◌, length, Option, Some, None, nat_eq, nat_lt, nat_le, if◌then◌else◌, codes, fold, min}
+use Rattle.std.specs.Prelude.{ℕ, ◌+◌, ◌-◌, ◌*◌, Bool, false, not, ◌&&◌, ◌||◌, List, [], ◌∷◌, ◌++◌, length, Option, Some, None, nat_eq, nat_le, if◌then◌else◌, codes, fold, min}
 use Rattle.std.specs.List.{flat_map, list_all}
 use Rattle.std.specs.Result.{result_ok}
 use Rattle.std.specs.Fmt.{decimal}
@@ -25,12 +25,16 @@ is_lower_hex c = is_between 48 57 c || is_between 97 102 c
 abbrev pub is_percent : ℕ → Bool
 is_percent c = nat_eq c 37
 
+-- the bytes that hexadecimal digits spell, two digits a byte
+abbrev pub hex_word : List ℕ → Option (List ℕ)
+hex_word digits = if list_all is_lower_hex digits then result_ok (decode_of digits) else None
+
 -- what a byte word spells: plain characters, which stand for themselves, or a per cent sign and two digits a byte
 abbrev pub word_bytes : List ℕ → Option (List ℕ)
 word_bytes [] = None
 word_bytes (c ∷ cs) =
     if is_percent c
-    then (if list_all is_lower_hex cs then result_ok (decode_of cs) else None)
+    then hex_word cs
     else (if list_all is_plain (c ∷ cs) then Some (c ∷ cs) else None)
 
 -- how bytes are printed: in plain characters where these can spell them

@@ -1,0 +1,217 @@
+-- Each answer in a view is that of a dictionary after the calls before it.
+use Rattle.std.specs.Prelude.{◌≡◌, ℕ, ◌<◌, ◌≤◌, ◌⊎◌, Bool, true, false, not, ◌&&◌, List, [], ◌∷◌, ◌++◌, length, Option, Some, None, nat_lt, if◌then◌else◌}
+use Rattle.std.proofs.Common.{refl, ap, subst, sym, ◌∙◌, inl, inr, arith, append_assoc, lt-ltb, ne_eqb, le_refl, le_of_suc-le-suc}
+use Rattle.std.proofs.lemmas.Bool.{cases_eq, cases_lt}
+use Rattle.vic_dict.specs.declared.op.Op.{Op}
+use Rattle.vic_dict.specs.declared.op.Entry.{Entry}
+use Rattle.vic_dict.specs.Lists.{IsIn, front}
+use Rattle.vic_dict.specs.Dictionary.{Dictionary, reply, after}
+use Rattle.vic_wire.specs.Hashes.{Group}
+use Rattle.vic_wire.specs.Conflict.{conflicts}
+use Rattle.vic_rules.specs.declared.trace.TraceStep.{TraceStep}
+use Rattle.vic_rules.specs.declared.trace.Shown.{Shown}
+use Rattle.vic_rules.specs.Client.{Standing, or_this, least_above, is_in_the_way, in_the_way, is_done, decided, decision, laid}
+use Rattle.vic_rules.specs.History.{standing, path, move_of, AreSteps, Completion, completions}
+use Rattle.vic_rules.specs.Views.{confirmed, confirmed_calls, shown_as, left_by, last_prefix, view_of, Explains, IsLegal}
+use Rattle.vic_rules.specs.Trust.{IsForged, Collides, parts_in}
+use Rattle.vic_commute.proofs.Commuting.{Alike, after_same, other_after, alike_itself, reply_alike}
+use Rattle.vic_laws.specs.Claims.{SealHolds, ViewsAreLegal}
+use Rattle.vic_laws.proofs.Steps.{call_of}
+use Rattle.vic_laws.proofs.Standings.{standing_moved, earlier_steps}
+use Rattle.vic_laws.proofs.Calls.{RepliedAt, completed_by, completion_after}
+use Rattle.vic_laws.proofs.Agreement.{confirmed_tells}
+use Rattle.vic_laws.proofs.Dictionaries.{leaves_done}
+use Rattle.vic_laws.proofs.Growth.{front_grows, front_whole, confirmed_calls_stay, completions_grow}
+use Rattle.vic_laws.proofs.SealsHeld.{all_hold, part_is_left, taken_at}
+use Rattle.vic_laws.proofs.OwnLaid.{own_op, own_laid, laid_own, laid_other, laid_below, laid_others, laid_stays, own_ones, lays}
+
+-- ---- what stands in the way
+
+or_this_none : (a b : Option ℕ) → or_this a b ≡ None → (a ≡ None) × (b ≡ None)
+or_this_none None b e = (refl, e)
+or_this_none (Some u) b e = absurd cc
+
+chosen_none : (b : Bool) (n : ℕ) → (if b then Some n else None) ≡ None → b ≡ false
+chosen_none true n e = absurd cc
+chosen_none false n e = refl
+
+-- where nothing above the base passes the test, nothing does below the newest entry, and neither does that one
+none_above : (base : ℕ) (test : Entry → Bool) (e : Entry) (p : List Entry) → least_above base test (e ∷ p) ≡ None → (least_above base test p ≡ None) × (base < length (e ∷ p) → test e ≡ false)
+unfolding least_above
+none_above base test e p none =
+    let both = or_this_none (least_above base test p) _ none in
+    (both.0, λ above. ap (λ b. b && test e) (sym (lt-ltb base (length (e ∷ p)) above)) ∙ chosen_none (nat_lt base (length (e ∷ p)) && test e) (length (e ∷ p)) both.1)
+
+-- another client's entry that isn't in the way doesn't conflict
+not_in_the_way : (me : ℕ) (o : Op) (e : Entry) → (e.client ≡ me → ⊥) → is_in_the_way me o e ≡ false → conflicts e.op o ≡ false
+not_in_the_way me o e other none = ap (λ b. not b && conflicts e.op o) (sym (ne_eqb e.client me other)) ∙ none
+
+-- ---- the walk along a path
+
+shown_leaves : (e : Entry) (c : Option Completion) (v : List Shown) → left_by (shown_as e c ++ v) ≡ own_op (left_by v) e c
+unfolding left_by
+shown_leaves e None v = refl
+shown_leaves e (Some c) v = leaves_done (left_by v) (record { entry = e; outcome = c.outcome }) c.outcome
+
+left_more : (cs : List Completion) (e : Entry) (p : List Entry) → left_by (confirmed_calls cs (e ∷ p)) ≡ own_op (left_by (confirmed_calls cs p)) e (confirmed cs (e ∷ p))
+unfolding confirmed_calls
+left_more cs e p = shown_leaves e (confirmed cs (e ∷ p)) (confirmed_calls cs p)
+
+both_done : (o : Op) (a b : Dictionary) (e : Entry) (done : Bool) → Alike o a b → Alike o (if done then after a e.op else a) (if done then after b e.op else b)
+both_done o a b e true alike = after_same o e.op a b alike
+both_done o a b e false alike = alike
+
+both_more : (o : Op) (a b : Dictionary) (e : Entry) (c : Option Completion) → Alike o a b → Alike o (own_op a e c) (own_op b e c)
+both_more o a b e None alike = alike
+both_more o a b e (Some c) alike = both_done o a b e (is_done c.outcome) alike
+
+one_done : (o : Op) (a b : Dictionary) (e : Entry) (done : Bool) → conflicts e.op o ≡ false → Alike o a b → Alike o a (if done then after b e.op else b)
+one_done o a b e true apart alike = other_after o e.op a b apart alike
+one_done o a b e false apart alike = alike
+
+one_more : (o : Op) (a b : Dictionary) (e : Entry) (c : Option Completion) → conflicts e.op o ≡ false → Alike o a b → Alike o a (own_op b e c)
+one_more o a b e None apart alike = alike
+one_more o a b e (Some c) apart alike = one_done o a b e (is_done c.outcome) apart alike
+
+-- the own calls over what is left at the base, and all calls, are alike to an operation that nothing above the base is in the way of
+walk : (o : Op) (me base : ℕ) (cs : List Completion) (d : Dictionary) (p : List Entry) → least_above base (is_in_the_way me o) p ≡ None → d ≡ left_by (confirmed_calls cs (front base p))
+    → Alike o (own_laid cs me base d p) (left_by (confirmed_calls cs p))
+walk o me base cs d [] none is = subst (Alike o (own_laid cs me base d [])) (laid_below cs me base d [] (omega arith) ∙ (is ∙ ap (λ q. left_by (confirmed_calls cs q)) (front_whole base [] (omega arith)))) (alike_itself o (own_laid cs me base d []))
+walk o me base cs d (e ∷ p) none is = now (cases_lt base (length (e ∷ p))) (walk o me base cs d p (none_above base (is_in_the_way me o) e p none).0)
+  where
+    own : base < length (e ∷ p) → (e.client ≡ me) ⊎ (e.client ≡ me → ⊥) → Alike o (own_laid cs me base d p) (left_by (confirmed_calls cs p)) → Alike o (own_laid cs me base d (e ∷ p)) (left_by (confirmed_calls cs (e ∷ p)))
+    own above (inl mine) alike =
+        subst (λ w. Alike o w (left_by (confirmed_calls cs (e ∷ p)))) (sym (laid_own cs me base d e p above mine))
+        (subst (Alike o (own_op (own_laid cs me base d p) e (confirmed cs (e ∷ p)))) (sym (left_more cs e p))
+        (both_more o (own_laid cs me base d p) (left_by (confirmed_calls cs p)) e (confirmed cs (e ∷ p)) alike))
+    own above (inr other) alike =
+        subst (λ w. Alike o w (left_by (confirmed_calls cs (e ∷ p)))) (sym (laid_other cs me base d e p other))
+        (subst (Alike o (own_laid cs me base d p)) (sym (left_more cs e p))
+        (one_more o (own_laid cs me base d p) (left_by (confirmed_calls cs p)) e (confirmed cs (e ∷ p)) (not_in_the_way me o e other ((none_above base (is_in_the_way me o) e p none).1 above)) alike))
+
+    now : (base < length (e ∷ p)) ⊎ (length (e ∷ p) ≤ base) → (d ≡ left_by (confirmed_calls cs (front base p)) → Alike o (own_laid cs me base d p) (left_by (confirmed_calls cs p)))
+        → Alike o (own_laid cs me base d (e ∷ p)) (left_by (confirmed_calls cs (e ∷ p)))
+    now (inl above) before = own above (cases_eq e.client me) (before (is ∙ ap (λ q. left_by (confirmed_calls cs q)) (front_grows (e ∷ []) p base (le_of_suc-le-suc above))))
+    now (inr up) before = subst (Alike o (own_laid cs me base d (e ∷ p))) (laid_below cs me base d (e ∷ p) up ∙ (is ∙ ap (λ q. left_by (confirmed_calls cs q)) (front_whole base (e ∷ p) up))) (alike_itself o (own_laid cs me base d (e ∷ p)))
+
+-- ---- what a decision shows
+
+-- a decision over a dictionary explains itself by one that answers as that does, where nothing is in the way
+decided_explains : (u : Option ℕ) (d left : Dictionary) (x : Shown) (o : Op) → x.entry.op ≡ o → (u ≡ None → reply d o ≡ reply left o) → Explains left x (decided u d o)
+decided_explains None d left x o same alike = alike refl ∙ ap (reply left) (sym same)
+decided_explains (Some u) d left x o same alike = tt
+
+-- ---- along a whole history
+
+-- the step that made a completion
+record MadeAt (g : Group) (whole : List TraceStep) (c : Completion) : Type 0 where
+  later : List TraceStep
+  x : TraceStep
+  past : List TraceStep
+  is : whole ≡ later ++ x ∷ past
+  replied : RepliedAt g past x
+  made : completed_by replied ≡ c
+
+made_at : (g : Group) (whole : List TraceStep) → AreSteps g whole → (later h : List TraceStep) → whole ≡ later ++ h → (c : Completion) → IsIn (completions g h) c → MadeAt g whole c
+unfolding completions
+made_at g whole lawful later [] e c there = absurd there
+made_at g whole lawful later (x ∷ past) e c there =
+    now (completion_after g past x (earlier_steps g later (x ∷ past) (subst (AreSteps g) e lawful)).1 c there) (made_at g whole lawful (later ++ x ∷ []) past (e ∙ sym (append_assoc later (x ∷ []) past)) c)
+  where
+    now : IsIn (completions g past) c ⊎ ((r : RepliedAt g past x) × (completed_by r ≡ c)) → (IsIn (completions g past) c → MadeAt g whole c) → MadeAt g whole c
+    now (inl old) before = before old
+    now (inr new) before = record { later = later; x = x; past = past; is = e; replied = new.0; made = new.1 }
+
+module _ (g : Group) (whole : List TraceStep) (lawful : AreSteps g whole) (honest : IsForged g whole → ⊥) (apart : Collides g whole → ⊥) where
+  -- the answer of a Reply is that of what the confirmed calls below it leave
+  reply_explains : (later : List TraceStep) (x : TraceStep) (past : List TraceStep) → whole ≡ later ++ x ∷ past → (r : RepliedAt g past x) → (shown : Shown) → shown.entry.op ≡ r.op
+      → Explains (left_by (confirmed_calls (completions g whole) (r.others ++ path g x.client past))) shown (completed_by r).outcome
+  unfolding decision
+  reply_explains later x past e r shown same =
+      decided_explains (in_the_way x.client r.op r.seal.position below) (laid s.own r.seal.position r.part) (left_by (confirmed_calls (completions g whole) below)) shown r.op same alike
+    where
+      s : Standing
+      s = standing g x.client past
+
+      below : List Entry
+      below = r.others ++ path g x.client past
+
+      p : List Entry
+      p = call_of x.client r.seq r.op ∷ (r.others ++ path g x.client past)
+
+      steps : AreSteps g (x ∷ past)
+      steps = earlier_steps g later (x ∷ past) (subst (AreSteps g) e lawful)
+
+      here : standing g x.client (x ∷ past) ≡ (move_of g past x).next
+      here = standing_moved g x.client x past refl
+
+      path_is : path g x.client (x ∷ past) ≡ p
+      path_is = ap (λ w. w.path) here ∙ ap (λ v. v.next.path) r.moved
+
+      sealed_is : (standing g x.client (x ∷ past)).sealed ≡ r.seal.position
+      sealed_is = ap (λ w. w.sealed) here ∙ ap (λ v. v.next.sealed) r.moved
+
+      root_is : (standing g x.client (x ∷ past)).root ≡ r.seal.root.bytes
+      root_is = ap (λ w. w.root) here ∙ ap (λ v. v.next.root) r.moved
+
+      holds : SealHolds (completions g (x ∷ past)) p r.seal.position r.seal.root.bytes
+      holds = subst (λ q. SealHolds (completions g (x ∷ past)) q r.seal.position r.seal.root.bytes) path_is
+          (subst (λ n. SealHolds (completions g (x ∷ past)) (path g x.client (x ∷ past)) n r.seal.root.bytes) sealed_is
+          (subst (SealHolds (completions g (x ∷ past)) (path g x.client (x ∷ past)) (standing g x.client (x ∷ past)).sealed) root_is
+          ((all_hold g whole lawful honest apart later (x ∷ past) e).1 x.client)))
+
+      more : (ds : List Completion) × (completions g (later ++ x ∷ past) ≡ ds ++ completions g (x ∷ past))
+      more = completions_grow g later (x ∷ past)
+
+      past_more : (ds : List Completion) × (completions g ((later ++ x ∷ []) ++ past) ≡ ds ++ completions g past)
+      past_more = completions_grow g (later ++ x ∷ []) past
+
+      -- the part is what the calls up to the seal leave, in the whole history
+      told : r.part ≡ left_by (confirmed_calls (completions g whole) (front r.seal.position below))
+      told = part_is_left g whole lawful honest apart later x past e r.bytes r.part r.seal.position r.seal.root.bytes
+          (subst (λ o. IsIn (parts_in o) r.bytes) (sym (taken_at g past x _ r.takes)) (inl refl)) r.are_bytes r.is_part r.root_is (subst (λ n. r.seal.position ≤ n) (sym sealed_is) (le_refl r.seal.position)) p path_is holds
+          ∙ ap left_by (sym (confirmed_calls_stay more.0 (completions g (x ∷ past)) (front r.seal.position p) holds.all)
+          ∙ (ap (λ cs. confirmed_calls cs (front r.seal.position p)) (sym more.1 ∙ ap (completions g) (sym e))
+          ∙ ap (confirmed_calls (completions g whole)) (front_grows (call_of x.client r.seq r.op ∷ []) below r.seal.position (le_of_suc-le-suc r.below))))
+
+      -- what is laid over it is laid by the path
+      laid_is : laid s.own r.seal.position r.part ≡ own_laid (completions g whole) x.client r.seal.position r.part below
+      laid_is =
+          lays g past steps.0 x.client r.seal.position r.part r.sealing.goes
+          ∙ (sym (laid_stays past_more.0 (completions g past) x.client r.seal.position r.part s.path (own_ones g past steps.0 x.client))
+          ∙ (ap (λ cs. own_laid cs x.client r.seal.position r.part s.path) (sym past_more.1 ∙ ap (completions g) (append_assoc later (x ∷ []) past ∙ sym e))
+          ∙ sym (laid_others (completions g whole) g.count x.client r.seal.position r.part r.others s.path r.from_others)))
+
+      alike : in_the_way x.client r.op r.seal.position below ≡ None → reply (laid s.own r.seal.position r.part) r.op ≡ reply (left_by (confirmed_calls (completions g whole) below)) r.op
+      alike none =
+          ap (λ d. reply d r.op) laid_is
+          ∙ reply_alike r.op (own_laid (completions g whole) x.client r.seal.position r.part below) (left_by (confirmed_calls (completions g whole) below))
+          (walk r.op x.client r.seal.position (completions g whole) r.part below none told)
+
+  -- each confirmed call is explained by the confirmed calls below it
+  confirmed_explains : (e : Entry) (p : List Entry) (c : Completion) → confirmed (completions g whole) (e ∷ p) ≡ Some c
+      → Explains (left_by (confirmed_calls (completions g whole) p)) (record { entry = e; outcome = c.outcome }) c.outcome
+  confirmed_explains e p c found =
+      let tells = confirmed_tells (completions g whole) (e ∷ p) c found in
+      let m = made_at g whole lawful [] whole refl c tells.0 in
+      let same : call_of m.x.client m.replied.seq m.replied.op ∷ (m.replied.others ++ path g m.x.client m.past) ≡ e ∷ p = ap (λ w. w.prefix) m.made ∙ tells.1 in
+      let newest_is : call_of m.x.client m.replied.seq m.replied.op ≡ e = cc in
+      let rest_is : m.replied.others ++ path g m.x.client m.past ≡ p = cc in
+      subst (λ w. Explains (left_by (confirmed_calls (completions g whole) p)) (record { entry = e; outcome = c.outcome }) w) (ap (λ w. w.outcome) m.made)
+      (subst (λ q. Explains (left_by (confirmed_calls (completions g whole) q)) (record { entry = e; outcome = c.outcome }) (completed_by m.replied).outcome) rest_is
+      (reply_explains m.later m.x m.past m.is m.replied (record { entry = e; outcome = c.outcome }) (ap (λ w. w.op) (sym newest_is))))
+
+  legal_more : (e : Entry) (p : List Entry) (o : Option Completion) → confirmed (completions g whole) (e ∷ p) ≡ o → IsLegal (confirmed_calls (completions g whole) p)
+      → IsLegal (shown_as e o ++ confirmed_calls (completions g whole) p)
+  legal_more e p None found before = before
+  legal_more e p (Some c) found before = (before, confirmed_explains e p c found)
+
+  -- the confirmed calls of every path are legal
+  legal_path : (p : List Entry) → IsLegal (confirmed_calls (completions g whole) p)
+  unfolding confirmed_calls
+  legal_path [] = tt
+  legal_path (e ∷ p) = legal_more e p (confirmed (completions g whole) (e ∷ p)) refl (legal_path p)
+
+pub views_legal : ViewsAreLegal
+unfolding view_of
+views_legal g h lawful honest apart me = legal_path g h lawful.steps honest apart (last_prefix me (completions g h))

@@ -1,0 +1,134 @@
+//! Printing bytes, operations and outcomes.
+
+ghost use Rattle.std.specs.Prelude.{◌≡◌, ◌<◌, ◌++◌, ◌∷◌, length, OnOk, IfOk, if◌then◌else◌};
+ghost use Rattle.hex.specs.Hex.{encode_lower};
+ghost use Rattle.std.specs.List.{flat_map, list_all};
+ghost use Rattle.std.specs.Fmt.{decimal};
+ghost use Rattle.vic_script.specs.Words.{is_plain as plain_test, bytes_word, space, op_words, answer_words, outcome_words};
+
+use crate::word::are_plain;
+use std::alloc::Global;
+use vic_dict::{Answer, Bytes, Names, NoMemory, Op, Outcome};
+
+/// The operation, as in a line that calls it.
+pub fn op_text(alloc: Global, op: &Op) -> Result<Bytes, NoMemory>
+    ensures { IfOk result (λ made. made ≡ op_words op.now) }
+{
+    let mut out = Bytes::new(alloc);
+    put_op(&mut out, alloc, op)?;
+    Ok(out)
+}
+
+/// The outcome, as it is printed.
+pub fn outcome_text(alloc: Global, outcome: &Outcome) -> Result<Bytes, NoMemory>
+    ensures { IfOk result (λ made. made ≡ outcome_words outcome.now) }
+{
+    let mut out = Bytes::new(alloc);
+    put_outcome(&mut out, alloc, outcome)?;
+    Ok(out)
+}
+
+/// Appends a number in decimal.
+pub fn put_number(out: &mut Bytes, alloc: Global, number: u32) -> Result<(), NoMemory>
+    ensures ok { OnOk result (out.new ≡ out.old ++ decimal number) }
+{
+    let text = number.to_string(alloc)?;
+    out.append(text.as_bytes())
+}
+
+/// Appends bytes as a byte word.
+pub fn put_word(out: &mut Bytes, alloc: Global, bytes: &[u8]) -> Result<(), NoMemory>
+    ensures ok { OnOk result (out.new ≡ out.old ++ bytes_word bytes.now) }
+{
+    match bytes {
+        [] => out.append(b"%"),
+        [_, ..] => put_some(out, alloc, bytes),
+    }
+}
+
+fn put_some(out: &mut Bytes, alloc: Global, bytes: &[u8]) -> Result<(), NoMemory>
+    requires { 0 < length bytes.now }
+    ensures ok { OnOk result (out.new ≡ out.old ++ (if list_all plain_test bytes.now then bytes.now else 37 ∷ encode_lower bytes.now)) }
+{
+    if are_plain(bytes) {
+        return out.append(bytes);
+    }
+    put_hex(out, alloc, bytes)
+}
+
+fn put_hex(out: &mut Bytes, alloc: Global, bytes: &[u8]) -> Result<(), NoMemory>
+    ensures ok { OnOk result (out.new ≡ out.old ++ 37 ∷ encode_lower bytes.now) }
+{
+    let text = hex::encode(alloc, bytes)?;
+    out.append(b"%")?;
+    out.append(text.as_bytes())
+}
+
+fn put_named(out: &mut Bytes, alloc: Global, name: &[u8], bytes: &Bytes) -> Result<(), NoMemory>
+    ensures ok { OnOk result (out.new ≡ out.old ++ name.now ++ bytes_word bytes.now) }
+{
+    out.append(name)?;
+    put_word(out, alloc, bytes.as_slice())
+}
+
+/// Appends an operation, as in a line that calls it.
+pub fn put_op(out: &mut Bytes, alloc: Global, op: &Op) -> Result<(), NoMemory>
+    ensures ok { OnOk result (out.new ≡ out.old ++ op_words op.now) }
+{
+    match op {
+        Op::Put(key, value) => {
+            put_named(out, alloc, b"put ", key)?;
+            put_named(out, alloc, b" ", value)
+        }
+        Op::Get(key) => put_named(out, alloc, b"get ", key),
+        Op::Del(key) => put_named(out, alloc, b"del ", key),
+        Op::List(prefix) => put_named(out, alloc, b"list ", prefix),
+    }
+}
+
+/// Appends an outcome.
+pub fn put_outcome(out: &mut Bytes, alloc: Global, outcome: &Outcome) -> Result<(), NoMemory>
+    ensures ok { OnOk result (out.new ≡ out.old ++ outcome_words outcome.now) }
+{
+    match outcome {
+        Outcome::Done(answer) => {
+            out.append(b"done ")?;
+            put_answer(out, alloc, answer)
+        }
+        Outcome::Aborted(position) => put_numbered(out, alloc, b"aborted ", *position),
+        Outcome::Refused(reason) => put_numbered(out, alloc, b"refused ", u32::from(*reason)),
+        Outcome::Halted(check) => put_numbered(out, alloc, b"halted ", u32::from(*check)),
+    }
+}
+
+fn put_numbered(out: &mut Bytes, alloc: Global, name: &[u8], number: u32) -> Result<(), NoMemory>
+    ensures ok { OnOk result (out.new ≡ out.old ++ name.now ++ decimal number) }
+{
+    out.append(name)?;
+    put_number(out, alloc, number)
+}
+
+fn put_answer(out: &mut Bytes, alloc: Global, answer: &Answer) -> Result<(), NoMemory>
+    ensures ok { OnOk result (out.new ≡ out.old ++ answer_words answer.now) }
+{
+    match answer {
+        Answer::Stored => out.append(b"stored"),
+        Answer::Found(value) => put_named(out, alloc, b"value ", value),
+        Answer::NotFound => out.append(b"none"),
+        Answer::Removed => out.append(b"removed"),
+        Answer::Absent => out.append(b"absent"),
+        Answer::Names(names) => {
+            out.append(b"names")?;
+            put_names(out, alloc, names)
+        }
+    }
+}
+
+fn put_names(out: &mut Bytes, alloc: Global, names: &Names) -> Result<(), NoMemory>
+    ensures ok { OnOk result (out.new ≡ out.old ++ flat_map (λ k. space ++ bytes_word k) names.now) }
+{
+    for name in names.as_slice() {
+        put_named(out, alloc, b" ", name)?;
+    }
+    Ok(())
+}

@@ -1,0 +1,245 @@
+//! Reading a line of a script.
+
+ghost use Rattle.std.specs.Prelude.{◌≡◌, [], ◌∷◌, IfOk, Some, None, codes, if◌then◌else◌};
+ghost use Rattle.std.specs.Str.{bytes_eq};
+ghost use Rattle.vic_script.specs.Words.{word_number, word_client};
+ghost use Rattle.vic_script.specs.Lines.{words_of, within as within_of, key_of, value_of, prefix_of, op_of, call_of, named, clients_of, header_of, line_in, line_of as line_by};
+
+use crate::word::{bytes_of, is_name, number_of, split_word};
+use std::alloc::Global;
+use thiserror::Error;
+use vic_dict::{Bytes, Mode, NoMemory, Op};
+use vic_script::Line;
+
+/// Why a text is no line.
+#[derive(Clone, Copy, Debug, PartialEq, Eq, Error)]
+pub enum LineFault {
+    /// It isn't in the grammar of the mode.
+    #[error("not a line of this script")]
+    Grammar,
+    #[error("no memory")]
+    NoMemory,
+}
+
+/// The line that a text without its 0a spells. Before the mode is known, only a line of the header does.
+pub fn read_line(alloc: Global, text: &[u8], mode: Option<Mode>) -> Result<Line, LineFault>
+    ensures ok { IfOk result (λ l. line_by mode text.now ≡ Some l) }
+    ensures grammar { result ≡ Err LineFault.Grammar → line_by mode text.now ≡ None }
+{
+    match line_of(alloc, text, mode) {
+        Ok(Some(line)) => Ok(line),
+        Ok(None) => Err(LineFault::Grammar),
+        Err(_) => Err(LineFault::NoMemory),
+    }
+}
+
+#[tactic(auto, unfolding(vic_script::specs::Lines::line_of))]
+fn line_of(alloc: Global, text: &[u8], mode: Option<Mode>) -> Result<Option<Line>, NoMemory>
+    ensures { IfOk result (λ o. o ≡ line_by mode text.now) }
+{
+    match split_word(text) {
+        None => Ok(None),
+        Some((name, others)) => line_of_words(alloc, name, others, mode),
+    }
+}
+
+fn line_of_words(
+    alloc: Global,
+    name: &[u8],
+    others: &[u8],
+    mode: Option<Mode>,
+) -> Result<Option<Line>, NoMemory>
+    ensures { IfOk result (λ o. o ≡ line_in mode (name.now ∷ words_of others.now)) }
+{
+    match split_word(others) {
+        None => Ok(two_words(name, others, mode)),
+        Some((number, words)) => more_words(alloc, name, number, words, mode),
+    }
+}
+
+/// A line of two words.
+fn two_words(name: &[u8], number: &[u8], mode: Option<Mode>) -> Option<Line>
+    ensures { result ≡ line_in mode (name.now ∷ number.now ∷ []) }
+{
+    match (header_line(name, number), mode) {
+        (Some(line), _) => Some(line),
+        (None, None) => None,
+        (None, Some(_)) => named_line(name, number),
+    }
+}
+
+fn header_line(name: &[u8], number: &[u8]) -> Option<Line>
+    ensures { result ≡ header_of (name.now ∷ number.now ∷ []) }
+{
+    if is_name(name, b"clients") {
+        clients_line(number)
+    } else {
+        None
+    }
+}
+
+fn clients_line(number: &[u8]) -> Option<Line>
+    ensures { result ≡ clients_of (word_number number.now) }
+{
+    match number_of(number) {
+        None => None,
+        Some(count) => {
+            if 0 < count && count <= 64 {
+                Some(Line::Clients(count as u8))
+            } else {
+                None
+            }
+        }
+    }
+}
+
+fn named_line(name: &[u8], number: &[u8]) -> Option<Line>
+    ensures { result ≡ named name.now number.now }
+{
+    if is_name(name, b"poll") {
+        number_of(number).map(Line::Poll)
+    } else if is_name(name, b"sync") {
+        number_of(number).map(Line::Sync)
+    } else if is_name(name, b"serve") {
+        number_of(number).map(Line::Serve)
+    } else if is_name(name, b"take") {
+        number_of(number).map(Line::Take)
+    } else if is_name(name, b"run") {
+        number_of(number).map(Line::Run)
+    } else {
+        None
+    }
+}
+
+/// A line of more than two words, of which the third and later ones are given as one text.
+#[tactic(auto, using(crate::proofs::LongLines::header_more, crate::proofs::LongLines::line_more))]
+fn more_words(
+    alloc: Global,
+    name: &[u8],
+    number: &[u8],
+    words: &[u8],
+    mode: Option<Mode>,
+) -> Result<Option<Line>, NoMemory>
+    ensures { IfOk result (λ o. o ≡ line_in mode (name.now ∷ number.now ∷ words_of words.now)) }
+{
+    match mode {
+        None => Ok(None),
+        Some(_) => call_line(alloc, name, number, words),
+    }
+}
+
+fn call_line(
+    alloc: Global,
+    name: &[u8],
+    number: &[u8],
+    words: &[u8],
+) -> Result<Option<Line>, NoMemory>
+    ensures { IfOk result (λ o. o ≡ (if bytes_eq name.now (codes "call") then call_of (word_client number.now) (op_of (words_of words.now)) else None)) }
+{
+    if !is_name(name, b"call") {
+        return Ok(None);
+    }
+    match (number_of(number), read_op(alloc, words)?) {
+        (Some(client), Some(op)) => Ok(Some(Line::Call(client, op))),
+        _ => Ok(None),
+    }
+}
+
+/// The operation that words name.
+fn read_op(alloc: Global, words: &[u8]) -> Result<Option<Op>, NoMemory>
+    ensures { IfOk result (λ o. o ≡ op_of (words_of words.now)) }
+{
+    match split_word(words) {
+        None => Ok(None),
+        Some((name, others)) => op_of_words(alloc, name, others),
+    }
+}
+
+fn op_of_words(alloc: Global, name: &[u8], others: &[u8]) -> Result<Option<Op>, NoMemory>
+    ensures { IfOk result (λ o. o ≡ op_of (name.now ∷ words_of others.now)) }
+{
+    match split_word(others) {
+        None => op_on_one(alloc, name, others),
+        Some((first, second)) => op_on_two(alloc, name, first, second),
+    }
+}
+
+fn op_on_one(alloc: Global, name: &[u8], word: &[u8]) -> Result<Option<Op>, NoMemory>
+    ensures { IfOk result (λ o. o ≡ op_of (name.now ∷ word.now ∷ [])) }
+{
+    if is_name(name, b"get") {
+        Ok(key_word(alloc, word)?.map(Op::Get))
+    } else if is_name(name, b"del") {
+        Ok(key_word(alloc, word)?.map(Op::Del))
+    } else if is_name(name, b"list") {
+        Ok(prefix_word(alloc, word)?.map(Op::List))
+    } else {
+        Ok(None)
+    }
+}
+
+#[tactic(auto, using(crate::proofs::LongLines::op_of_four))]
+fn op_on_two(
+    alloc: Global,
+    name: &[u8],
+    first: &[u8],
+    second: &[u8],
+) -> Result<Option<Op>, NoMemory>
+    ensures { IfOk result (λ o. o ≡ op_of (name.now ∷ first.now ∷ words_of second.now)) }
+{
+    match split_word(second) {
+        None => put_of_words(alloc, name, first, second),
+        Some(_) => Ok(None),
+    }
+}
+
+fn put_of_words(
+    alloc: Global,
+    name: &[u8],
+    first: &[u8],
+    second: &[u8],
+) -> Result<Option<Op>, NoMemory>
+    ensures { IfOk result (λ o. o ≡ op_of (name.now ∷ first.now ∷ second.now ∷ [])) }
+{
+    if !is_name(name, b"put") {
+        return Ok(None);
+    }
+    match (key_word(alloc, first)?, value_word(alloc, second)?) {
+        (Some(key), Some(value)) => Ok(Some(Op::Put(key, value))),
+        _ => Ok(None),
+    }
+}
+
+/// Bytes of at least and at most so many.
+fn within(least: usize, most: usize, bytes: Option<Bytes>) -> Option<Bytes>
+    ensures { result ≡ within_of least most bytes }
+{
+    match bytes {
+        Some(bytes) => {
+            if least <= bytes.len() && bytes.len() <= most {
+                Some(bytes)
+            } else {
+                None
+            }
+        }
+        None => None,
+    }
+}
+
+fn key_word(alloc: Global, word: &[u8]) -> Result<Option<Bytes>, NoMemory>
+    ensures { IfOk result (λ o. o ≡ key_of word.now) }
+{
+    Ok(within(1, 255, bytes_of(alloc, word)?))
+}
+
+fn value_word(alloc: Global, word: &[u8]) -> Result<Option<Bytes>, NoMemory>
+    ensures { IfOk result (λ o. o ≡ value_of word.now) }
+{
+    Ok(within(0, 64, bytes_of(alloc, word)?))
+}
+
+fn prefix_word(alloc: Global, word: &[u8]) -> Result<Option<Bytes>, NoMemory>
+    ensures { IfOk result (λ o. o ≡ prefix_of word.now) }
+{
+    Ok(within(0, 255, bytes_of(alloc, word)?))
+}
