@@ -3,3 +3,4 @@ pub mod Loops
 pub mod Replays
 pub mod Marks
 pub mod Shows
+pub mod Forgeries

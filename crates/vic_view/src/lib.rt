@@ -5,6 +5,7 @@
 //! printed are those of `vic_script` (`specs/Print.antt`), which the contract of `print_views` carries.
 #![tactic(auto)]
 
+pub mod laws;
 mod replay;
 pub mod transcript;
 pub mod view;
