@@ -4,3 +4,4 @@ pub mod Replays
 pub mod Marks
 pub mod Shows
 pub mod Forgeries
+pub mod Prints

@@ -1,3 +1,4 @@
 pub mod Transcripts
 pub mod Replay
 pub mod Claims
+pub mod Printed

@@ -6,6 +6,7 @@
 #![tactic(auto)]
 
 pub mod laws;
+mod print;
 mod replay;
 pub mod transcript;
 pub mod view;

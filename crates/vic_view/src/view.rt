@@ -1,6 +1,6 @@
 //! Views, and how far two of them agree.
 
-ghost use Rattle.std.specs.Prelude.{◌≡◌, ◌<◌, ◌^◌, [], ◌∷◌, ◌++◌, ◌&&◌, length, OnOk, OnErr, slice_get, Some, nat_eq};
+ghost use Rattle.std.specs.Prelude.{◌≡◌, ◌<◌, ◌≤◌, ◌^◌, [], ◌∷◌, ◌++◌, ◌&&◌, length, OnOk, OnErr, slice_get, Some, nat_eq};
 ghost use Rattle.std.specs.Cmp.Lexicographic.{pointwise};
 ghost use Rattle.std.specs.Str.{bytes_eq};
 ghost use Rattle.vic_rules.specs.Client.{same_op as same_op_test, same_entry as same_entry_test};
@@ -138,12 +138,11 @@ fn same_shown(a: &Shown, b: &Shown) -> bool
     same_entry(&a.entry, &b.entry) && same_outcome(&a.outcome, &b.outcome)
 }
 
-/// How many calls two views have in common at their front. It takes no memory, and costs that number.
-pub fn agree(a: &View, b: &View) -> u32
-    requires { length a.now < 2 ^ 32 }
-    ensures { result ≡ agreement a.now b.now }
+/// How many calls two views have in common at their front.
+pub(crate) fn common_calls(left: &[Shown], right: &[Shown]) -> usize
+    ensures value { result ≡ agreement left.now right.now }
+    ensures short { result ≤ length left.now }
 {
-    let (left, right) = (a.as_slice(), b.as_slice());
     let mut common = 0;
     for (i, shown) in left.iter().enumerate() {
         if !(i < right.len() && same_shown(shown, &right[i])) {
@@ -152,4 +151,12 @@ pub fn agree(a: &View, b: &View) -> u32
         common += 1;
     }
     common
+}
+
+/// How many calls two views have in common at their front. It takes no memory, and costs that number.
+pub fn agree(a: &View, b: &View) -> u32
+    requires { length a.now < 2 ^ 32 }
+    ensures { result ≡ agreement a.now b.now }
+{
+    common_calls(a.as_slice(), b.as_slice()) as u32
 }
