@@ -1,0 +1,10 @@
+pub mod Steps
+pub mod Bytes
+pub mod Fields
+pub mod Operations
+pub mod Entries
+pub mod Seals
+pub mod SpelledAnswers
+pub mod SpelledRequests
+pub mod Holding
+pub mod Laws
