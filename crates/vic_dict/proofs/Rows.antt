@@ -1,5 +1,5 @@
 -- What stands at a key's place in rows whose keys rise.
-use Rattle.std.proofs.Common.{◌≡◌, ℕ, zero, suc, ◌<◌, ◌≤◌, Bool, true, false, cond, not, List, [], ◌∷◌, length, get_or, set, Option, Some, None, Result, Ok, Err, refl, sym, ap, subst, ◌∙◌, arith}
+use Rattle.std.proofs.Common.{◌≡◌, ℕ, zero, suc, ◌<◌, ◌≤◌, Bool, true, false, cond, not, List, [], ◌∷◌, ◌++◌, length, get_or, set, Option, Some, None, Result, Ok, Err, refl, sym, ap, subst, ◌∙◌, arith}
 use Rattle.std.specs.List.{insert, remove}
 use Rattle.std.specs.Prelude.{MatchResult}
 use Rattle.std.specs.Ordering.{is_lt, is_eq, eq_by_cmp, ordering_reverse}
@@ -12,9 +12,11 @@ use Rattle.std.proofs.lemmas.Bool.{and_parts, and_from}
 use Rattle.std.specs.FinMap as map
 use Rattle.std.specs.FinMap.Entries.{is_sorted-put, is_sorted-where_key, find-where_key}
 use Rattle.std.specs.Bool.{passes}
-use Rattle.std.specs.Prelude.{T}
+use Rattle.std.specs.Prelude.{T, ◌&&◌, slice_get}
+use Rattle.std.specs.Prelude.{map as map_list}
+use Rattle.vic_dict.specs.Lists.{AreBytes}
 use Rattle.vic_dict.specs.Dictionary.{IsKey, Dictionary, nothing}
-use Rattle.vic_dict.specs.Rows.{Row, bytes_cmp, place_in, later, spot, AreFit, IsTable}
+use Rattle.vic_dict.specs.Rows.{Row, bytes_cmp, place_in, later, spot, AreFit, AreByteRows, IsTable, is_past}
 
 abbrev the_map : List Row → Dictionary
 the_map es = map.from_sorted es
@@ -39,7 +41,8 @@ below_later k e (f ∷ es) p h =
     let parts = and_parts _ _ h in
     and_from _ _ (ap is_lt (nat_list_cmp_total.trans k e.0 f.0 p (is_less _ parts.0))) (below_later k e es p parts.1)
 
-below_at : (k : List ℕ) (es : List Row) (i : ℕ) (d : Row) → below_all bytes_cmp k es ≡ true → i < length es → bytes_cmp k (get_or es i d).0 ≡ Less
+-- below a row is below each later one
+pub below_at : (k : List ℕ) (es : List Row) (i : ℕ) (d : Row) → below_all bytes_cmp k es ≡ true → i < length es → bytes_cmp k (get_or es i d).0 ≡ Less
 below_at k [] i d h w = absurd (omega arith)
 below_at k (e ∷ es) zero d h w = is_less _ (and_parts _ _ h).0
 below_at k (e ∷ es) (suc i) d h w = below_at k es i d (and_parts _ _ h).1 (omega arith)
@@ -187,6 +190,26 @@ fit_insert es zero x f a b = ((a, b), f)
 fit_insert [] (suc i) x f a b = ((a, b), tt)
 fit_insert (e ∷ es) (suc i) x f a b = (f.0, fit_insert es i x f.1 a b)
 
+bytes_set : (es : List Row) (i : ℕ) (x : Row) → AreByteRows es → AreBytes x.0 → AreBytes x.1 → AreByteRows (set es i x)
+bytes_set [] i x f a b = f
+bytes_set (e ∷ es) zero x f a b = ((a, b), f.1)
+bytes_set (e ∷ es) (suc i) x f a b = (f.0, bytes_set es i x f.1 a b)
+
+bytes_insert : (es : List Row) (i : ℕ) (x : Row) → AreByteRows es → AreBytes x.0 → AreBytes x.1 → AreByteRows (insert es i x)
+bytes_insert es zero x f a b = ((a, b), f)
+bytes_insert [] (suc i) x f a b = ((a, b), tt)
+bytes_insert (e ∷ es) (suc i) x f a b = (f.0, bytes_insert es i x f.1 a b)
+
+bytes_push : (es : List Row) (x : Row) → AreByteRows es → AreBytes x.0 → AreBytes x.1 → AreByteRows (es ++ x ∷ [])
+bytes_push [] x f a b = ((a, b), tt)
+bytes_push (e ∷ es) x f a b = (f.0, bytes_push es x f.1 a b)
+
+bytes_remove : (es : List Row) (i : ℕ) → AreByteRows es → AreByteRows (remove es i)
+bytes_remove [] zero f = f
+bytes_remove [] (suc i) f = f
+bytes_remove (e ∷ es) zero f = f.1
+bytes_remove (e ∷ es) (suc i) f = (f.0, bytes_remove es i f.1)
+
 fit_remove : (es : List Row) (i : ℕ) → AreFit es → AreFit (remove es i)
 fit_remove [] zero f = f
 fit_remove [] (suc i) f = f
@@ -195,22 +218,25 @@ fit_remove (e ∷ es) (suc i) f = (f.0, fit_remove es i f.1)
 
 -- ---- tables, and the dictionaries that they stand for
 
-set_table : (k v : List ℕ) (es : List Row) (i : ℕ) → IsTable es → IsAt k es i → length v < 65 → IsTable (set es i (k, v))
-set_table k v es i t h b = record {
+set_table : (k v : List ℕ) (es : List Row) (i : ℕ) → IsTable es → IsAt k es i → length v < 65 → AreBytes k → AreBytes v → IsTable (set es i (k, v))
+set_table k v es i t h b kb vb = record {
   rising = subst (λ l. is_sorted bytes_cmp l ≡ true) (h.puts v) (holds _ (is_sorted-put bytes_cmp nat_list_cmp_total k v es (passes _ t.rising)));
   fit = fit_set es i (k, v) t.fit (subst IsKey (h.key (k, v)) (fit_at es i (k, v) t.fit h.within).0) b;
+  bytes = bytes_set es i (k, v) t.bytes kb vb;
 }
 
-insert_table : (k v : List ℕ) (es : List Row) (i : ℕ) → IsTable es → IsGap k es i → IsKey k → length v < 65 → IsTable (insert es i (k, v))
-insert_table k v es i t h a b = record {
+insert_table : (k v : List ℕ) (es : List Row) (i : ℕ) → IsTable es → IsGap k es i → IsKey k → length v < 65 → AreBytes k → AreBytes v → IsTable (insert es i (k, v))
+insert_table k v es i t h a b kb vb = record {
   rising = subst (λ l. is_sorted bytes_cmp l ≡ true) (h.puts v) (holds _ (is_sorted-put bytes_cmp nat_list_cmp_total k v es (passes _ t.rising)));
   fit = fit_insert es i (k, v) t.fit a b;
+  bytes = bytes_insert es i (k, v) t.bytes kb vb;
 }
 
 remove_table : (k : List ℕ) (es : List Row) (i : ℕ) → IsTable es → IsAt k es i → IsTable (remove es i)
 remove_table k es i t h = record {
   rising = subst (λ l. is_sorted bytes_cmp l ≡ true) h.others (holds _ (is_sorted-where_key bytes_cmp (λ x. not (eq_by_cmp bytes_cmp k x)) es (passes _ t.rising)));
   fit = fit_remove es i t.fit;
+  bytes = bytes_remove es i t.bytes;
 }
 
 put_is_insert : (k v : List ℕ) (es : List Row) → IsTable es → map.from_sorted (put bytes_cmp k v es) ≡ map.insert (the_map es) k v
@@ -278,15 +304,15 @@ spot_within k es i t e = (at_spot k es i t e).within
 pub gap_within : (k : List ℕ) (es : List Row) (i : ℕ) → IsTable es → spot k es ≡ Err i → i ≤ length es
 gap_within k es i t e = (gap_spot k es i t e).within
 
-pub stores_over : (k v : List ℕ) (es : List Row) (i : ℕ) → IsTable es → spot k es ≡ Ok i → length v < 65 → Stores k v es (set es i (k, v))
-stores_over k v es i t e b =
+pub stores_over : (k v : List ℕ) (es : List Row) (i : ℕ) → IsTable es → spot k es ≡ Ok i → length v < 65 → AreBytes k → AreBytes v → Stores k v es (set es i (k, v))
+stores_over k v es i t e b kb vb =
     let h = at_spot k es i t e in
-    record { table = set_table k v es i t h b; is = ap map.from_sorted (sym (h.puts v)) ∙ put_is_insert k v es t }
+    record { table = set_table k v es i t h b kb vb; is = ap map.from_sorted (sym (h.puts v)) ∙ put_is_insert k v es t }
 
-pub stores_new : (k v : List ℕ) (es : List Row) (i : ℕ) → IsTable es → spot k es ≡ Err i → IsKey k → length v < 65 → Stores k v es (insert es i (k, v))
-stores_new k v es i t e a b =
+pub stores_new : (k v : List ℕ) (es : List Row) (i : ℕ) → IsTable es → spot k es ≡ Err i → IsKey k → length v < 65 → AreBytes k → AreBytes v → Stores k v es (insert es i (k, v))
+stores_new k v es i t e a b kb vb =
     let h = gap_spot k es i t e in
-    record { table = insert_table k v es i t h a b; is = ap map.from_sorted (sym (h.puts v)) ∙ put_is_insert k v es t }
+    record { table = insert_table k v es i t h a b kb vb; is = ap map.from_sorted (sym (h.puts v)) ∙ put_is_insert k v es t }
 
 pub drops : (k : List ℕ) (es : List Row) (i : ℕ) → IsTable es → spot k es ≡ Ok i → Drops k es (remove es i)
 drops k es i t e =
@@ -319,3 +345,73 @@ key_spot k es i d t e = (at_spot k es i t e).key d
 -- the spot that was found with slices of the same bytes and the same rows
 pub spot_for : {k l : List ℕ} {es fs : List Row} {r : Result ℕ ℕ} → l ≡ k → fs ≡ es → r ≡ spot l fs → spot k es ≡ r
 spot_for {k} {l} {es} {fs} {r} a b e = ap (λ x. spot x es) (sym a) ∙ ap (spot l) (sym b) ∙ sym e
+
+-- ---- a dictionary seen as its rows
+
+pub rows_seen : {m : Dictionary} (es : List Row) → map.from_sorted es ≡ m → IsTable es → map.entries m ≡ es
+rows_seen es e t = ap map.entries (sym e) ∙ rows_of es t
+
+pub len_seen : {m : Dictionary} (es : List Row) → map.from_sorted es ≡ m → IsTable es → map.len m ≡ length es
+len_seen es e t = ap map.len (sym e) ∙ len_of es t
+
+slice_get-map : {X : Type 0} (f : Row → X) (es : List Row) (i : ℕ) (d : Row) → i < length es → slice_get (map_list f es) i ≡ Some (f (get_or es i d))
+slice_get-map f [] i d h = absurd (omega arith)
+slice_get-map f (e ∷ es) zero d h = refl
+slice_get-map f (e ∷ es) (suc i) d h = slice_get-map f es i d (omega arith)
+
+pub key_seen : {m : Dictionary} (es : List Row) (i : ℕ) (d : Row) → map.from_sorted es ≡ m → IsTable es → i < length es → slice_get (map.keys m) i ≡ Some (get_or es i d).0
+key_seen es i d e t h = ap (λ l. slice_get (map_list (λ r. r.0) l) i) (rows_seen es e t) ∙ slice_get-map (λ r. r.0) es i d h
+
+pub value_seen : {m : Dictionary} (es : List Row) (i : ℕ) (d : Row) → map.from_sorted es ≡ m → IsTable es → i < length es → slice_get (map.values m) i ≡ Some (get_or es i d).1
+value_seen es i d e t h = ap (λ l. slice_get (map_list (λ r. r.1) l) i) (rows_seen es e t) ∙ slice_get-map (λ r. r.1) es i d h
+
+-- ---- a key above all others
+
+past_puts : (k v : List ℕ) (es : List Row) → is_past k es ≡ true → put bytes_cmp k v es ≡ es ++ (k, v) ∷ []
+past_puts k v [] h = refl
+past_puts k v (e ∷ es) h =
+    let parts = and_parts _ _ h in
+    let above : bytes_cmp k e.0 ≡ Greater = nat_list_cmp_total.antisymm k e.0 ∙ ap ordering_reverse (is_less _ parts.0) in
+    ap (λ o. by_order o ((k, v) ∷ e ∷ es) ((e.0, v) ∷ es) (e ∷ put bytes_cmp k v es)) above ∙ ap (λ l. e ∷ l) (past_puts k v es parts.1)
+
+fit_push : (es : List Row) (x : Row) → AreFit es → IsKey x.0 → length x.1 < 65 → AreFit (es ++ x ∷ [])
+fit_push [] x f a b = ((a, b), tt)
+fit_push (e ∷ es) x f a b = (f.0, fit_push es x f.1 a b)
+
+pub past_seen : {m : Dictionary} (k : List ℕ) (es : List Row) → map.from_sorted es ≡ m → IsTable es → is_past k (map.entries m) ≡ true → is_past k es ≡ true
+past_seen k es e t h = subst (λ l. is_past k l ≡ true) (rows_seen es e t) h
+
+pub stores_last : (k v : List ℕ) (es : List Row) → IsTable es → is_past k es ≡ true → IsKey k → length v < 65 → AreBytes k → AreBytes v → Stores k v es (es ++ (k, v) ∷ [])
+stores_last k v es t h a b kb vb = record {
+  table = record {
+    rising = subst (λ l. is_sorted bytes_cmp l ≡ true) (past_puts k v es h) (holds _ (is_sorted-put bytes_cmp nat_list_cmp_total k v es (passes _ t.rising)));
+    fit = fit_push es (k, v) t.fit a b;
+    bytes = bytes_push es (k, v) t.bytes kb vb;
+  };
+  is = ap map.from_sorted (sym (past_puts k v es h)) ∙ put_is_insert k v es t;
+}
+
+and_true : (b : Bool) → (b && true) ≡ b
+and_true true = refl
+and_true false = refl
+
+and_below : (o p : Ordering) → (p ≡ Less → o ≡ Less) → (is_lt o && is_lt p) ≡ is_lt p
+and_below o Less h = ap (λ q. is_lt q && true) (h refl)
+and_below Less Equal h = refl
+and_below Equal Equal h = refl
+and_below Greater Equal h = refl
+and_below Less Greater h = refl
+and_below Equal Greater h = refl
+and_below Greater Greater h = refl
+
+-- the last key decides
+pub past_last : (k : List ℕ) (es : List Row) (i : ℕ) (d : Row) → is_sorted bytes_cmp es ≡ true → suc i ≡ length es → is_lt (bytes_cmp (get_or es i d).0 k) ≡ is_past k es
+past_last k [] i d s h = absurd (omega arith)
+past_last k (e ∷ []) zero d s h = sym (and_true _)
+past_last k (e ∷ []) (suc i) d s h = absurd (omega arith)
+past_last k (e ∷ f ∷ es) zero d s h = absurd (omega arith)
+past_last k (e ∷ f ∷ es) (suc i) d s h =
+    let parts = and_parts _ _ s in
+    let less = below_at e.0 (f ∷ es) i d parts.0 (omega arith) in
+    sym (and_below (bytes_cmp e.0 k) (bytes_cmp (get_or (f ∷ es) i d).0 k) (λ p. nat_list_cmp_total.trans e.0 (get_or (f ∷ es) i d).0 k less p))
+    ∙ ap (λ b. is_lt (bytes_cmp e.0 k) && b) (past_last k (f ∷ es) i d parts.1 (omega arith))

@@ -1,6 +1,7 @@
 //! Byte texts, lists of them, and the one error for want of memory.
 
 ghost use Rattle.std.specs.Prelude.{◌≡◌, ◌<◌, ◌↔◌, IsTrue, [], ◌∷◌, ◌++◌, length, IfOk, OnOk, OnErr, slice_get};
+ghost use Rattle.vic_dict.specs.Lists.{AreBytes};
 
 use std::alloc::{AllocError, AllocFailed, Global};
 use std::marker::Model;
@@ -87,6 +88,14 @@ impl Bytes {
         ensures { slice_get self.now place ≡ Some result.now }
     {
         &self.items[place]
+    }
+
+    /// What the type says of its numbers. It does nothing.
+    pub fn are_bytes(&self)
+        ensures { AreBytes self.now }
+    {
+        let items = self.items.as_slice();
+        let _len = items.len();
     }
 
     /// Puts a byte last.

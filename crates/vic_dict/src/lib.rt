@@ -10,3 +10,6 @@ pub mod plain;
 pub use bytes::{Bytes, Names, NoMemory};
 pub use op::{Answer, Entry, Mode, Op, Outcome};
 pub use plain::PlainDict;
+
+#[cfg(test)]
+mod tests;

@@ -5,7 +5,7 @@ use Rattle.vic_dict.proofs.Rows.{no_rows}
 use Rattle.vic_dict.proofs.plain.PlainDict.new.Goals as goal
 
 pub invariant_of-result : goal.invariant_of-result
-invariant_of-result c = subst IsTable (sym c.new.ensures.items) (record { rising = refl; fit = tt })
+invariant_of-result c = subst IsTable (sym c.new.ensures.items) (record { rising = refl; fit = tt; bytes = tt })
 
 pub returns : goal.returns
 returns c = ap (map.from_sorted {R = bytes_cmp}) c.new.ensures.items ∙ no_rows
