@@ -1,0 +1,303 @@
+-- A client steps: it sends or rests, and what it takes was made.
+use Rattle.std.proofs.Common.{◌≡◌, ℕ, suc, zero, ◌+◌, ◌<◌, ◌≤◌, ◌^◌, Bool, true, false, cond, ◌&&◌, List, [], ◌∷◌, ◌++◌, length, map, Option, Some, None, is_none, ◌⊎◌, inl, inr, refl, sym, ap, subst, ◌∙◌, arith, length-append, append_assoc}
+use Rattle.std.specs.Prelude.{if◌then◌else◌, nat_eq}
+use Rattle.std.specs.List.{AllByRecursion}
+use Rattle.std.proofs.lemmas.Bool.{eqb-true, eqb-false}
+use Rattle.std.proofs.lemmas.List.{append-nil}
+use Rattle.sha2.proofs.Facts256.{length-sha256}
+use Rattle.vic_dict.specs.Lists.{IsIn, AreBytes}
+use Rattle.vic_dict.specs.Dictionary.{Dictionary}
+use Rattle.vic_dict.specs.declared.op.Op.{Op}
+use Rattle.vic_dict.specs.declared.op.Entry.{Entry}
+use Rattle.vic_wire.specs.declared.message.Seal.{Seal}
+use Rattle.vic_wire.specs.declared.message.Tagged.{Tagged}
+use Rattle.vic_wire.specs.declared.message.ToClient.{ToClient}
+use Rattle.vic_wire.specs.declared.message.ToClient.TheVariants as say
+use Rattle.vic_wire.specs.Texts.{invoke_text}
+use Rattle.vic_wire.specs.Hashes.{Group, hash}
+use Rattle.vic_wire.specs.Trees.{Tree, Pair, tree_of, tree_by, root_of, dictionary_root}
+use Rattle.vic_wire.specs.Messages.{HasSpelling, HasRequestSpelling, request_text, answer_text}
+use Rattle.vic_wire.specs.Parts.{Part, read_part, root_after}
+use Rattle.vic_wire.specs.Reading.{read_answer}
+use Rattle.vic_rules.specs.declared.state.Own.{Own}
+use Rattle.vic_rules.specs.declared.state.Awaiting.{Awaiting}
+use Rattle.vic_rules.specs.declared.state.Awaiting.TheVariants as awaits
+use Rattle.vic_rules.specs.declared.trace.Input.{Input}
+use Rattle.vic_rules.specs.declared.trace.Input.TheVariants as input
+use Rattle.vic_rules.specs.Client.{Standing, Sending, Invokes, Commits, Polls, Seals, Syncs, Move, step, moves, halts, MayStep, request_of, payload_of, awaits_nothing, seal_of, entries_of, seal_text_on, newest_first, grown, replied, updated, taken, taken_or_halts, on_payload, verdict, new_root, is_write, is_done, decision}
+use Rattle.vic_rules.specs.Trust.{taken_by, checked_texts, seal_texts, text_sent}
+use Rattle.vic_order.specs.Order.{Ordered}
+use Rattle.vic_order.specs.Fates.{entries}
+use Rattle.vic_order.specs.Honest.{queued}
+use Rattle.vic_spellings.proofs.Bytes.{bytes-sha256}
+use Rattle.vic_laws.proofs.Words.{all_weaker, all_append, in_either, in_left, in_right}
+use Rattle.vic_laws.proofs.Steps.{Kind, Quiet, Called, Replied, Updated, Listed, call_of, is_quiet, is_called, is_replied, is_updated, is_listed}
+use Rattle.vic_laws.proofs.StepKinds.{step_kind}
+use Rattle.vic_honest.proofs.Words.{entries-joined, length-entries, told, newest-told, AreMade}
+use Rattle.vic_honest.proofs.Serving.{length-tag, seal_text-joined}
+use Rattle.vic_honest.proofs.Standing.{SealFits, StandingFits, RequestGoes, AnswerComes, OfSeal, IsWithin, Doing, Rests, Sends, Gets, Does, IsBusy, ClientFits}
+
+-- ---- roots are digests
+
+length-tree : (n : ℕ) (ps : List Pair) → length (root_of (tree_by n ps)) ≡ 32
+unfolding tree_by
+length-tree zero ps = length-sha256 _
+length-tree (suc n) [] = length-sha256 _
+length-tree (suc n) (p ∷ []) = length-sha256 _
+length-tree (suc n) (p ∷ q ∷ ps) = length-sha256 _
+
+bytes-tree : (n : ℕ) (ps : List Pair) → AreBytes (root_of (tree_by n ps))
+unfolding tree_by
+bytes-tree zero ps = bytes-sha256 _
+bytes-tree (suc n) [] = bytes-sha256 _
+bytes-tree (suc n) (p ∷ []) = bytes-sha256 _
+bytes-tree (suc n) (p ∷ q ∷ ps) = bytes-sha256 _
+
+pub length-root : (d : Dictionary) → length (dictionary_root d) ≡ 32
+unfolding dictionary_root tree_of
+length-root d = length-tree _ _
+
+bytes-root : (d : Dictionary) → AreBytes (dictionary_root d)
+unfolding dictionary_root tree_of
+bytes-root d = bytes-tree _ _
+
+new_root_fits : (first : Own) (part : Part) (root : List ℕ) → length root ≡ 32 → AreBytes root → (length (new_root first part root) ≡ 32) × AreBytes (new_root first part root)
+new_root_fits first part root long bytes =
+    elim (first.done && is_write first.op) as (λ b. (length (if b then root_after part first.op else root) ≡ 32) × AreBytes (if b then root_after part first.op else root)) [
+      | true ↦ (length-root _, bytes-root _)
+      | false ↦ (long, bytes)
+    ]
+
+-- ---- what a payload makes a client send
+
+abbrev Loud : Move → Type 0
+Loud v = (v.sends ≡ None) ⊎ (((done : Bool) × (v.sends ≡ Some (Commits done))) ⊎ (v.sends ≡ Some Seals))
+
+replied_loud : (me : ℕ) (t : Standing) (seal : Seal) (path : List Entry) (part : Option Part) (a : Awaiting) → Loud (replied me t seal path part a)
+replied_loud me t seal [] part a = inl refl
+replied_loud me t seal (e ∷ below) None a = inl refl
+replied_loud me t seal (e ∷ below) (Some part) (awaits.Reply n o load) = inr (inl (_, refl))
+replied_loud me t seal (e ∷ below) (Some part) awaits.Nothing = inl refl
+replied_loud me t seal (e ∷ below) (Some part) awaits.Turn = inl refl
+replied_loud me t seal (e ∷ below) (Some part) awaits.Entries = inl refl
+replied_loud me t seal (e ∷ below) (Some part) awaits.Kept = inl refl
+replied_loud me t seal (e ∷ below) (Some part) (awaits.Content h n) = inl refl
+
+updated_loud : (t : Standing) (seal : Seal) (part : Option Part) (own : List Own) → Loud (updated t seal part own)
+updated_loud t seal None own = inl refl
+updated_loud t seal (Some part) [] = inl refl
+updated_loud t seal (Some part) (o ∷ others) = inr (inr refl)
+
+taken_loud : (me : ℕ) (t : Standing) (m : ToClient) → Loud (taken me t m)
+taken_loud me t say.Hi = inl refl
+taken_loud me t (say.Reply seal ts part) = replied_loud me t seal (grown t ts) (read_part part) t.awaiting
+taken_loud me t say.Wait = inl refl
+taken_loud me t (say.Update seal part) = updated_loud t seal (read_part part) t.own
+taken_loud me t (say.Entries seal ts) = inl refl
+taken_loud me t (say.Refused r) = inl refl
+taken_loud me t say.Kept = inl refl
+taken_loud me t (say.Content c) = inl refl
+taken_loud me t say.Gone = inl refl
+taken_loud me t say.Absent = inl refl
+
+or_halts_loud : (me : ℕ) (t : Standing) (m : Option ToClient) (k : Option ℕ) → Loud (taken_or_halts me t m k)
+or_halts_loud me t m (Some k) = inl refl
+or_halts_loud me t (Some m) None = taken_loud me t m
+or_halts_loud me t None None = inl refl
+
+on_payload_loud : (g : Group) (me : ℕ) (t : Standing) (k : Option ℕ) (payload : List ℕ) → Loud (on_payload g me t k payload)
+on_payload_loud g me t (Some k) payload = inl refl
+on_payload_loud g me t None payload = or_halts_loud me t (read_answer payload) (verdict g me t payload)
+
+payload_loud : (g : Group) (me : ℕ) (t : Standing) (payload : List ℕ) → Loud (step g me t (input.Payload payload))
+unfolding step
+payload_loud g me t payload = on_payload_loud g me t t.halted payload
+
+-- where nothing is tagged, nothing is sent
+silent : (g : Group) (me : ℕ) (v : Move) → Loud v → text_sent g me v.next v.sends ≡ [] → v.sends ≡ None
+silent g me v (inl e) nothing = e
+silent g me v (inr (inl e)) nothing = let f = sym (ap (text_sent g me v.next) e.1) ∙ nothing in absurd cc
+silent g me v (inr (inr e)) nothing = let f = sym (ap (text_sent g me v.next) e) ∙ nothing in absurd cc
+
+-- ---- a client that sends, and one that rests
+
+-- where the client stands once it has moved there and sent that
+abbrev pub Moved : Group → List (List ℕ) → ℕ → List Ordered → Standing → Option Sending → Type 0
+Moved g made me log t sends = ClientFits g (text_sent g me t sends ++ made) me log t (queued [] (payload_of g me t sends)) []
+
+module _ (g : Group) (made : List (List ℕ)) (me : ℕ) (log : List Ordered) where
+  pub now_sends : (t : Standing) (sending : Sending) (seen newer : List Ordered) → log ≡ newer ++ seen → t.path ≡ entries seen → StandingFits t → awaits_nothing t.awaiting ≡ false
+      → HasRequestSpelling (request_of g me t sending) → Moved g made me log t (Some sending)
+  now_sends t sending seen newer is path fits busy spelled = record {
+    seen = seen;
+    newer = newer;
+    is = is;
+    path = path;
+    fits = fits;
+    doing = Sends sending;
+    up_is = refl;
+    down_is = refl;
+    busy = busy;
+    does = record { spelled = spelled; texts = λ text i. in_left (text_sent g me t (Some sending)) made text i };
+  }
+
+  pub now_rests : (t : Standing) (seen newer : List Ordered) → log ≡ newer ++ seen → t.path ≡ entries seen → StandingFits t → Moved g made me log t None
+  now_rests t seen newer is path fits = record {
+    seen = seen;
+    newer = newer;
+    is = is;
+    path = path;
+    fits = fits;
+    doing = Rests;
+    up_is = refl;
+    down_is = refl;
+    busy = tt;
+    does = tt;
+  }
+
+-- ---- a payload
+
+taken_is : (after : Standing) (payload : List ℕ) (m n : ToClient) → read_answer payload ≡ Some m → taken_by after (input.Payload payload) ≡ Some n → m ≡ n
+taken_is after payload m n read takes =
+    elim (is_none after.halted) as (λ b. (if b then read_answer payload else None) ≡ Some n → m ≡ n) [
+      | true ↦ λ e. let f = sym read ∙ e in cc
+      | false ↦ λ e. absurd cc
+    ] takes
+
+within_more : (n k : ℕ) (own : List Own) → n ≤ k → AllByRecursion (IsWithin n) own → AllByRecursion (IsWithin k) own
+within_more n k own more h = all_weaker (IsWithin n) (IsWithin k) (λ o w. omega (arith, w)) own h
+
+-- a seal whose text on the log was made holds on a path that is a front of the log
+seal_made : (g : Group) (made : List (List ℕ)) (newer front_of : List Ordered) (p : List Entry) (x : Seal) → p ≡ entries front_of → x.position ≤ length p → SealFits g made (newer ++ front_of) x
+    → AreMade made (seal_texts g p (Some x))
+seal_made g made newer front_of p x path within fits text i =
+    elim (nat_eq x.position 0) as (λ b. nat_eq x.position 0 ≡ b → IsIn (if b then [] else seal_text_on g p x.position x.root.bytes ∷ []) text → IsIn made text) [
+      | true ↦ λ e j. absurd j
+      | false ↦ λ e j. elim j [
+        | inl is ↦
+            let apart : x.position ≡ 0 → ⊥ = eqb-false x.position 0 e in
+            let inside : x.position ≤ length front_of = omega (arith, ap length path, length-entries front_of) in
+            let same : seal_text_on g (entries (newer ++ front_of)) x.position x.root.bytes ≡ seal_text_on g p x.position x.root.bytes =
+            seal_text-joined g newer front_of x.position x.root.bytes inside ∙ ap (λ q. seal_text_on g q x.position x.root.bytes) (sym path) in
+            subst (IsIn made) (same ∙ is) (fits.text (omega arith))
+        | inr none ↦ absurd none
+      ]
+    ] refl i
+
+module _ (g : Group) (made : List (List ℕ)) (me : ℕ) (log seen newer : List Ordered) (t : Standing)
+    (is : log ≡ newer ++ seen) (path : t.path ≡ entries seen) (fits : StandingFits t) (payload : List ℕ) (m : ToClient) (read : read_answer payload ≡ Some m)
+    (comes : AnswerComes g made log seen newer m) where
+  -- what is shown of a move
+  pub record Takes (v : Move) : Type 0 where
+    pub client : Moved g made me log v.next v.sends
+    pub texts : AreMade made (checked_texts g v.next.path (taken_by v.next (input.Payload payload)))
+
+  quiet_takes : (v : Move) → Loud v → Quiet g me t (input.Payload payload) v → Takes v
+  quiet_takes v loud q =
+      let long : length v.next.path ≡ length t.path = ap length q.path in
+      record {
+        client = subst (λ z. Moved g made me log v.next z) (sym (silent g me v loud q.sends_nothing)) (now_rests g made me log v.next seen newer is (q.path ∙ path) (record {
+          sealed = omega (arith, q.sealed, long, fits.sealed);
+          own = subst (AllByRecursion (IsWithin (length v.next.path))) (sym q.own) (within_more (length t.path) (length v.next.path) t.own (omega (arith, long)) fits.own);
+          root = ap length q.root ∙ fits.root;
+          root_bytes = subst AreBytes (sym q.root) fits.root_bytes;
+          calls = omega (arith, q.calls, fits.calls);
+        }));
+        texts = subst (AreMade made) (sym (q.checks_nothing v.next.path)) (λ text i. absurd i);
+      }
+
+  -- the log, where the newer entries are split
+  log_split : (later between : List Ordered) → newer ≡ later ++ between → log ≡ later ++ (between ++ seen)
+  log_split later between split = is ∙ ap (λ n. n ++ seen) split ∙ append_assoc later between seen
+
+  -- the path with the entries of an answer put onto it
+  path_grown : (ts : List Tagged) (news : List Entry) (between : List Ordered) → newest_first ts ≡ news → ts ≡ told between → news ++ t.path ≡ entries (between ++ seen)
+  path_grown ts news between e listed =
+      ap (λ p. p ++ t.path) (sym e ∙ ap newest_first listed ∙ newest-told between) ∙ ap (λ p. entries between ++ p) path ∙ sym (entries-joined between seen)
+
+  made_texts : (later between : List Ordered) (p : List Entry) (x : Seal) (ts : List Tagged) → newer ≡ later ++ between → p ≡ entries (between ++ seen) → x.position ≤ length p
+      → SealFits g made log x → AreMade made (map (λ u. invoke_text u.entry) ts) → AreMade made (seal_texts g p (Some x) ++ map (λ u. invoke_text u.entry) ts)
+  made_texts later between p x ts split grown within sealed made_entries text i =
+      elim (in_either (seal_texts g p (Some x)) (map (λ u. invoke_text u.entry) ts) text i) [
+        | inl a ↦ seal_made g made later (between ++ seen) p x grown within (subst (λ l. SealFits g made l x) (log_split later between split) sealed) text a
+        | inr b ↦ made_entries text b
+      ]
+
+  -- the texts that were checked where the client took an answer
+  checked_made : (v : Move) (p : List Entry) (n : ToClient) → v.next.path ≡ p → taken_by v.next (input.Payload payload) ≡ Some n → AreMade made (checked_texts g p (Some n))
+      → AreMade made (checked_texts g v.next.path (taken_by v.next (input.Payload payload)))
+  checked_made v p n at takes h =
+      subst (λ q. AreMade made (checked_texts g q (taken_by v.next (input.Payload payload)))) (sym at) (subst (λ o. AreMade made (checked_texts g p o)) (sym takes) h)
+
+  replied_takes : (v : Move) → Replied g me t (input.Payload payload) v → Takes v
+  replied_takes v r =
+      let answer : ToClient = say.Reply r.seal r.entries r.bytes in
+      let c : AnswerComes g made log seen newer answer = subst (AnswerComes g made log seen newer) (taken_is v.next payload m answer read r.takes) comes in
+      let p : List Entry = call_of me r.seq r.op ∷ (r.others ++ t.path) in
+      let grown : p ≡ entries (c.between ++ seen) = path_grown r.entries (call_of me r.seq r.op ∷ r.others) c.between r.news c.listed in
+      let own : List Own = t.own ++ record { position = length p; op = r.op; done = is_done (decision me t (r.others ++ t.path) r.seal.position r.part r.op) } ∷ [] in
+      let next : Standing = record t { path = p; sealed = r.seal.position; root = r.seal.root.bytes; awaiting = awaits.Turn; own = own } in
+      let next_fits : StandingFits next = record {
+        sealed = omega (arith, r.below);
+        own = all_append (IsWithin (length p)) t.own _ (within_more (length t.path) (length p) t.own (omega (arith, length-append r.others t.path)) fits.own) (omega arith, tt);
+        root = r.sealing.spelled.root;
+        root_bytes = c.seal.root_bytes;
+        calls = fits.calls;
+      } in
+      record {
+        client = subst (λ w. Moved g made me log w.next w.sends) (sym r.moved)
+            (now_sends g made me log next (Commits (is_done (decision me t (r.others ++ t.path) r.seal.position r.part r.op))) (c.between ++ seen) c.later
+            (log_split c.later c.between c.split) grown next_fits refl ((omega arith, omega (arith, r.few)), length-tag _ _));
+        texts = checked_made v p answer (ap (λ w. w.next.path) r.moved) r.takes (made_texts c.later c.between p r.seal r.entries c.split grown (omega (arith, r.below)) c.seal c.texts);
+      }
+
+  updated_takes : (v : Move) → Updated g me t (input.Payload payload) v → Takes v
+  updated_takes v u =
+      let answer : ToClient = say.Update u.seal u.bytes in
+      let c : AnswerComes g made log seen newer answer = subst (AnswerComes g made log seen newer) (taken_is v.next payload m answer read u.takes) comes in
+      let root : List ℕ = new_root u.first u.part u.seal.root.bytes in
+      let root_fits = new_root_fits u.first u.part u.seal.root.bytes u.sealing.spelled.root c.seal.root_bytes in
+      let own = subst (AllByRecursion (IsWithin (length t.path))) u.own_is fits.own in
+      let next : Standing = record t { sealed = u.seal.position + 1; root = root; own = u.rest; awaiting = awaits.Turn } in
+      let within : u.seal.position + 1 ≤ length t.path = omega (arith, own.0, u.next_is) in
+      let next_fits : StandingFits next = record {
+        sealed = within;
+        own = own.1;
+        root = root_fits.0;
+        root_bytes = root_fits.1;
+        calls = fits.calls;
+      } in
+      record {
+        client = subst (λ w. Moved g made me log w.next w.sends) (sym u.moved)
+            (now_sends g made me log next Seals seen newer is path next_fits refl ((omega arith, omega (arith, u.few)), (root_fits.0, length-tag _ _)));
+        texts = checked_made v t.path answer (ap (λ w. w.next.path) u.moved) u.takes (made_texts newer [] t.path u.seal [] (sym (append-nil newer)) path u.sealing.within c.seal (λ text i. absurd i));
+      }
+
+  listed_takes : (v : Move) → Listed g me t (input.Payload payload) v → Takes v
+  listed_takes v l =
+      let answer : ToClient = say.Entries l.seal l.entries in
+      let c : AnswerComes g made log seen newer answer = subst (AnswerComes g made log seen newer) (taken_is v.next payload m answer read l.takes) comes in
+      let p : List Entry = l.others ++ t.path in
+      let grown : p ≡ entries (c.between ++ seen) = path_grown l.entries l.others c.between l.news c.listed in
+      let next : Standing = record t { path = p; sealed = l.seal.position; root = l.seal.root.bytes; awaiting = awaits.Nothing } in
+      let next_fits : StandingFits next = record {
+        sealed = l.sealing.within;
+        own = within_more (length t.path) (length p) t.own (omega (arith, length-append l.others t.path)) fits.own;
+        root = l.sealing.spelled.root;
+        root_bytes = c.seal.root_bytes;
+        calls = fits.calls;
+      } in
+      record {
+        client = subst (λ w. Moved g made me log w.next w.sends) (sym l.moved) (now_rests g made me log next (c.between ++ seen) c.later (log_split c.later c.between c.split) grown next_fits);
+        texts = checked_made v p answer (ap (λ w. w.next.path) l.moved) l.takes (made_texts c.later c.between p l.seal l.entries c.split grown l.sealing.within c.seal c.texts);
+      }
+
+  kind_takes : (v : Move) → Loud v → Kind g me t (input.Payload payload) v → Takes v
+  kind_takes v loud (is_quiet q) = quiet_takes v loud q
+  kind_takes v loud (is_called c) = let e = c.asked in absurd cc
+  kind_takes v loud (is_replied r) = replied_takes v r
+  kind_takes v loud (is_updated u) = updated_takes v u
+  kind_takes v loud (is_listed l) = listed_takes v l
+
+  pub payload_taken : AreBytes payload → Takes (step g me t (input.Payload payload))
+  payload_taken bytes = kind_takes (step g me t (input.Payload payload)) (payload_loud g me t payload) (step_kind g me t (input.Payload payload) bytes)

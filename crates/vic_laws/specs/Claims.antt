@@ -1,0 +1,58 @@
+-- The laws of histories, one by one. Each holds of every lawful history, whatever the payloads hold.
+use Rattle.std.specs.Prelude.{◌≡◌, ◌≢◌, ℕ, ◌⊎◌, List, [], ◌∷◌, ◌++◌, Some}
+use Rattle.vic_dict.specs.declared.op.Entry.{Entry}
+use Rattle.vic_dict.specs.Lists.{IsIn, front}
+use Rattle.vic_wire.specs.declared.message.Seal.{Seal}
+use Rattle.vic_wire.specs.declared.message.Tagged.{Tagged}
+use Rattle.vic_wire.specs.declared.message.ToClient.{ToClient}
+use Rattle.vic_wire.specs.Texts.{invoke_text}
+use Rattle.vic_wire.specs.Hashes.{Group, chain, tag_of}
+use Rattle.vic_wire.specs.Trees.{dictionary_root}
+use Rattle.vic_rules.specs.declared.trace.TraceStep.{TraceStep}
+use Rattle.vic_rules.specs.Client.{Seals, entries_of, seal_of, seal_text_on}
+use Rattle.vic_rules.specs.History.{IsLawful, path, move_of, Completion, completions}
+use Rattle.vic_rules.specs.Views.{confirmed, confirmed_calls, left_by}
+use Rattle.vic_rules.specs.Trust.{IsForged, Collides, took}
+
+-- ---- tags
+
+-- each entry of an answer came with the tag of its text, and so did its seal, on the path that its client then has
+pub record TagsOf (g : Group) (after : List Entry) (m : ToClient) : Type 0 where
+  pub entries : (t : Tagged) → IsIn (entries_of m) t → t.tag.bytes ≡ tag_of g.key (invoke_text t.entry)
+  pub seal : (s : Seal) → seal_of m ≡ Some s → s.position ≢ 0 → s.tag.bytes ≡ tag_of g.key (seal_text_on g after s.position s.root.bytes)
+
+-- each answer that a client took without halting holds no other entry or seal
+abbrev pub TagsHold : Type 0
+TagsHold = (g : Group) (h : List TraceStep) → IsLawful g h → (later : List TraceStep) (x : TraceStep) (past : List TraceStep) → h ≡ later ++ x ∷ past
+    → (m : ToClient) → took g past x ≡ Some m → TagsOf g (path g x.client (x ∷ past)) m
+
+-- ---- paths
+
+-- two fronts of clients' paths that have one hash are equal, or two different listed texts have one hash
+abbrev pub HashesTellPaths : Type 0
+HashesTellPaths = (g : Group) (h : List TraceStep) → IsLawful g h → (i j m n : ℕ)
+    → chain g (front m (path g i h)) ≡ chain g (front n (path g j h))
+    → (front m (path g i h) ≡ front n (path g j h)) ⊎ Collides g h
+
+-- ---- seals
+
+-- each position of a path is confirmed
+abbrev pub AllConfirmed : List Completion → List Entry → Type 0
+AllConfirmed cs [] = Unit {0}
+AllConfirmed cs (e ∷ p) = ((c : Completion) × (confirmed cs (e ∷ p) ≡ Some c)) × AllConfirmed cs p
+
+-- a seal at a position of a path: everything up to it is confirmed, and the root is that of the dictionary which that leaves
+pub record SealHolds (cs : List Completion) (p : List Entry) (position : ℕ) (root : List ℕ) : Type 0 where
+  pub all : AllConfirmed cs (front position p)
+  pub is_root : root ≡ dictionary_root (left_by (confirmed_calls cs (front position p)))
+
+-- the client took a seal at a step, or made one
+pub data SealAt (g : Group) (past : List TraceStep) (x : TraceStep) (position : ℕ) (root : List ℕ) : Type 0 where
+  of_answer : (m : ToClient) (s : Seal) → took g past x ≡ Some m → seal_of m ≡ Some s → position ≡ s.position → root ≡ s.root.bytes → SealAt g past x position root
+  of_its_own : (move_of g past x).sends ≡ Some Seals → position ≡ (move_of g past x).next.sealed → root ≡ (move_of g past x).next.root → SealAt g past x position root
+
+-- unless a tag was forged or two texts collide, each seal that a client took or made holds of the path that it then has
+abbrev pub SealsHold : Type 0
+SealsHold = (g : Group) (h : List TraceStep) → IsLawful g h → (IsForged g h → ⊥) → (Collides g h → ⊥)
+    → (later : List TraceStep) (x : TraceStep) (past : List TraceStep) → h ≡ later ++ x ∷ past → (position : ℕ) (root : List ℕ) → SealAt g past x position root
+    → SealHolds (completions g h) (path g x.client (x ∷ past)) position root

@@ -1,0 +1,13 @@
+pub mod Keys
+pub mod Bytes
+pub mod Spelled
+pub mod Proper
+pub mod Fronts
+pub mod KeyBits
+pub mod Members
+pub mod Splits
+pub mod Leaves
+pub mod NodeTexts
+pub mod Roots
+pub mod Again
+pub mod Shape
