@@ -4,12 +4,16 @@
 //! them, for each standing that the state stands for (`specs/Standing.antt`).
 #![tactic(auto)]
 
+mod decision;
 mod form;
+mod judging;
 mod seals;
 pub mod state;
 pub mod tags;
 pub mod verdict;
 
+pub use decision::decide;
+pub use judging::judge;
 pub use state::{OwnList, State};
 pub use verdict::Verdict;
 pub use vic_rules::{Awaiting, Own};
