@@ -4,3 +4,4 @@ pub mod Spoken
 pub mod Serving
 pub mod Taking
 pub mod Worlds
+pub mod Runs

@@ -27,13 +27,15 @@ use Rattle.vic_rules.specs.declared.trace.Input.TheVariants as input
 use Rattle.vic_spellings.proofs.Bytes.{bytes-cons, bytes-append, bytes-replicate, bytes-sha256}
 use Rattle.vic_spellings.proofs.Steps.{bytes-nil}
 use Rattle.vic_spellings.proofs.Seals.{first_is_seal}
+use Rattle.vic_spellings.proofs.SpelledRequests.{request_again}
 use Rattle.vic_roots.proofs.Proper.{proper-after}
+use Rattle.vic_roots.proofs.Again.{part-bytes}
 use Rattle.vic_laws.proofs.Words.{all_weaker, all_append, in_either}
 use Rattle.vic_order.specs.declared.Stage.TheVariants as stage
 use Rattle.vic_order.specs.Order.{Ordered, Server, Answered, says, becomes, guarded, unless_refused, size, sealed_count, no_seal, or_no_seal, seal_at_position, top_seal, ordered_at, commit_at, member, set_stage, is_ready, is_open_at, is_put, is_member, op_weight, weight, tagged, entries_above, turn, turn_on, update_part, with_commit, with_seal, owns_committed, applied_to, ordered_next, on_request, serve_read, serve}
 use Rattle.vic_order.specs.Fates.{entries}
 use Rattle.vic_honest.proofs.Words.{front-joined, front-entries, entries-joined, length-entries, told, above-told, length-told, all-first, all-second, all-drop, newest_seal, all-newest, AreMade}
-use Rattle.vic_honest.proofs.Spoken.{TaggedBytes, seal_bytes, entries_bytes, part_bytes, tag_bytes}
+use Rattle.vic_honest.proofs.Spoken.{TaggedBytes, seal_bytes, entries_bytes, tag_bytes}
 use Rattle.vic_honest.proofs.Standing.{EntryFits, SealFits, ServerFits, StandingFits, RequestGoes, AnswerComes, OfSeal}
 
 pub length-tag : (key text : List ℕ) → length (tag_of key text) ≡ 32
@@ -140,7 +142,7 @@ module _ (g : Group) (made : List (List ℕ)) (log seen newer : List Ordered) wh
     split = sym (append-nil newer);
     listed = refl;
     spelled = fits.spelled;
-    bytes = bytes-append (0x44 ∷ seal_field x) (part_text d) (bytes-cons 0x44 (seal_field x) (omega arith) (seal_bytes x fits.root_bytes fits.tag_bytes)) (part_bytes d proper);
+    bytes = bytes-append (0x44 ∷ seal_field x) (part_text d) (bytes-cons 0x44 (seal_field x) (omega arith) (seal_bytes x fits.root_bytes fits.tag_bytes)) (part-bytes d proper);
     texts = λ text i. absurd i;
     seal = fits;
   }
@@ -155,7 +157,7 @@ module _ (g : Group) (made : List (List ℕ)) (log seen newer : List Ordered) wh
     spelled = (fits.spelled, (omega (arith, length-told between), (omega (arith, length-told between), tagged_told made between all)));
     bytes = bytes-append (0x42 ∷ seal_field x ++ entries_field (told between)) (part_text d)
         (bytes-append (0x42 ∷ seal_field x) (entries_field (told between)) (bytes-cons 0x42 (seal_field x) (omega arith) (seal_bytes x fits.root_bytes fits.tag_bytes)) (entries_bytes (told between) (bytes_told made between all)))
-        (part_bytes d proper);
+        (part-bytes d proper);
     texts = made_told made between all;
     seal = fits;
   }
@@ -194,9 +196,9 @@ turn_on_comes g made s who seen newer (Some o) None stands = plain_comes g made 
 turn_on_comes g made s who seen newer (Some o) (Some done) stands =
     elim (nat_eq o.entry.client who) as (λ b. AnswerComes g made s.log seen newer (if b then say.Update (top_seal s) (update_part s.dictionary o.entry.op done) else say.Wait)) [
       | true ↦ elim (done && is_write o.entry.op) as (λ b. AnswerComes g made s.log seen newer (say.Update (top_seal s) (if b then part_for s.dictionary o.entry.op else bare_part s.dictionary))) [
-          | true ↦ update_comes g made s.log seen newer (top_seal s) s.dictionary (seal_fits g made s (sealed_count s) stands) stands.dictionary
-          | false ↦ update_comes g made s.log seen newer (top_seal s) s.dictionary (seal_fits g made s (sealed_count s) stands) stands.dictionary
-        ]
+        | true ↦ update_comes g made s.log seen newer (top_seal s) s.dictionary (seal_fits g made s (sealed_count s) stands) stands.dictionary
+        | false ↦ update_comes g made s.log seen newer (top_seal s) s.dictionary (seal_fits g made s (sealed_count s) stands) stands.dictionary
+      ]
       | false ↦ plain_comes g made s.log seen newer say.Wait refl refl tt (bytes-cons 0x43 [] (omega arith) bytes-nil)
     ]
 
@@ -214,7 +216,6 @@ applied_proper d (Some o) (Some false) proper fits = proper
 
 module _ (g : Group) (group : IsGroup g) (made : List (List ℕ)) (s : Server) (me : ℕ) (above : 0 < me) (upto : me ≤ g.count) (t : Standing) (seen newer : List Ordered)
     (is : s.log ≡ newer ++ seen) (path : t.path ≡ entries seen) (fits : StandingFits t) (stands : ServerFits g made s) where
-
   abbrev pub Gives : Answered → Type 0
   Gives a = Served g made s.log seen newer a
 
@@ -225,7 +226,7 @@ module _ (g : Group) (group : IsGroup g) (made : List (List ℕ)) (s : Server) (
   refuses : (tests : List (ℕ × Bool)) (a : Answered) → AreReasons tests → (first_failing tests ≡ None → Gives a) → Gives (guarded s tests a)
   refuses tests a reasons goes = passed Gives s (first_failing tests) a
       (λ r e. let limit = reason_is tests r reasons e in
-        stays (say.Refused r) (plain_comes g made s.log seen newer (say.Refused r) refl refl limit (bytes-cons 0x46 (r ∷ []) (omega arith) (bytes-cons r [] (omega (arith, limit.1)) bytes-nil))))
+      stays (say.Refused r) (plain_comes g made s.log seen newer (say.Refused r) refl refl limit (bytes-cons 0x46 (r ∷ []) (omega arith) (bytes-cons r [] (omega (arith, limit.1)) bytes-nil))))
       goes
 
   length-path : length t.path ≡ length seen
@@ -246,44 +247,44 @@ module _ (g : Group) (group : IsGroup g) (made : List (List ℕ)) (s : Server) (
       let x : Ordered = record { entry = record { client = me; seq = n; op = o }; tag = tag; sealed_then = sealed_count s } in
       let next : Server = ordered_next s me n o tag in
       let tests : List (ℕ × Bool) =
-          (5, is_ready (member s me).stage && (nat_lt (member s me).last n && nat_le (length t.path) (size s)))
-          ∷ (4, not (nat_eq (size s) 1048576))
-          ∷ (2, not (nat_eq (size s - sealed_count s) 1024))
-          ∷ (3, not (is_put o) || nat_le (weight s + op_weight o) 8388608)
-          ∷ (1, nat_le ((size s + 1) - length t.path) 8192) ∷ [] in
+      (5, is_ready (member s me).stage && (nat_lt (member s me).last n && nat_le (length t.path) (size s)))
+      ∷ (4, not (nat_eq (size s) 1048576))
+      ∷ (2, not (nat_eq (size s - sealed_count s) 1024))
+      ∷ (3, not (is_put o) || nat_le (weight s + op_weight o) 8388608)
+      ∷ (1, nat_le ((size s + 1) - length t.path) 8192) ∷ [] in
       let answer : ToClient = say.Reply (top_seal s) (entries_above (length t.path) next.log) (part_for s.dictionary o) in
       let told_is : entries_above (length t.path) (x ∷ s.log) ≡ told (x ∷ newer) =
-          ap (λ k. entries_above k (x ∷ s.log)) length-path ∙ ap (λ l. entries_above (length seen) (x ∷ l)) is ∙ above-told (x ∷ newer) seen in
+      ap (λ k. entries_above k (x ∷ s.log)) length-path ∙ ap (λ l. entries_above (length seen) (x ∷ l)) is ∙ above-told (x ∷ newer) seen in
       let new_fits : EntryFits made x = record {
-            spelled = record { client = (above, omega (arith, group.count)); seq = goes.spelled.1.0; op = goes.spelled.1.1.0 };
-            tag = length-tag g.key (invoke_text (record { client = me; seq = n; op = o }));
-            tag_bytes = tag_bytes g.key (invoke_text (record { client = me; seq = n; op = o }));
-            text = goes.texts (invoke_text (record { client = me; seq = n; op = o })) (inl refl);
-          } in
+        spelled = record { client = (above, omega (arith, group.count)); seq = goes.spelled.1.0; op = goes.spelled.1.1.0 };
+        tag = length-tag g.key (invoke_text (record { client = me; seq = n; op = o }));
+        tag_bytes = tag_bytes g.key (invoke_text (record { client = me; seq = n; op = o }));
+        text = goes.texts (invoke_text (record { client = me; seq = n; op = o })) (inl refl);
+      } in
       refuses tests (becomes next answer)
       ((omega arith, omega arith), ((omega arith, omega arith), ((omega arith, omega arith), ((omega arith, omega arith), ((omega arith, omega arith), tt)))))
       (λ ok.
-        let p5 = test_passed (is_ready (member s me).stage && (nat_lt (member s me).last n && nat_le (length t.path) (size s))) 5 _ ok in
-        let p4 = test_passed (not (nat_eq (size s) 1048576)) 4 _ p5.1 in
-        let p2 = test_passed (not (nat_eq (size s - sealed_count s) 1024)) 2 _ p4.1 in
-        let p3 = test_passed (not (is_put o) || nat_le (weight s + op_weight o) 8388608) 3 _ p2.1 in
-        let p1 = test_passed (nat_le ((size s + 1) - length t.path) 8192) 1 _ p3.1 in
-        let full : (size s ≡ 1048576) → ⊥ = eqb-false (size s) 1048576 (not-true (nat_eq (size s) 1048576) p4.0) in
-        let few : (size s + 1) - length t.path ≤ 8192 = leb-true _ _ p1.0 in
-        record {
-          new = x ∷ [];
-          is = refl;
-          server = record {
-            log = (new_fits, stands.log);
-            seals = all_weaker (SealFits g made s.log) (SealFits g made (x ∷ s.log)) (λ y h. seal-grows g made (x ∷ []) s.log y h) s.seals stands.seals;
-            dictionary = stands.dictionary;
-            room = grown_room (length s.log) stands.room full;
-          };
-          answer = subst (λ ts. AnswerComes g made (x ∷ s.log) seen (x ∷ newer) (say.Reply (top_seal s) ts (part_text s.dictionary))) (sym told_is)
-              (reply_comes g made (x ∷ s.log) seen (x ∷ newer) [] (x ∷ newer) (top_seal s) s.dictionary refl
-                (seal-grows g made (x ∷ []) s.log (top_seal s) (seal_fits g made s (sealed_count s) stands)) stands.dictionary (new_fits, all_newer)
-                (omega arith) (few_new (length s.log) (length newer) (length seen) (length t.path) length-log length-path few));
-        })
+      let p5 = test_passed (is_ready (member s me).stage && (nat_lt (member s me).last n && nat_le (length t.path) (size s))) 5 _ ok in
+      let p4 = test_passed (not (nat_eq (size s) 1048576)) 4 _ p5.1 in
+      let p2 = test_passed (not (nat_eq (size s - sealed_count s) 1024)) 2 _ p4.1 in
+      let p3 = test_passed (not (is_put o) || nat_le (weight s + op_weight o) 8388608) 3 _ p2.1 in
+      let p1 = test_passed (nat_le ((size s + 1) - length t.path) 8192) 1 _ p3.1 in
+      let full : (size s ≡ 1048576) → ⊥ = eqb-false (size s) 1048576 (not-true (nat_eq (size s) 1048576) p4.0) in
+      let few : (size s + 1) - length t.path ≤ 8192 = leb-true _ _ p1.0 in
+      record {
+        new = x ∷ [];
+        is = refl;
+        server = record {
+          log = (new_fits, stands.log);
+          seals = all_weaker (SealFits g made s.log) (SealFits g made (x ∷ s.log)) (λ y h. seal-grows g made (x ∷ []) s.log y h) s.seals stands.seals;
+          dictionary = stands.dictionary;
+          room = grown_room (length s.log) stands.room full;
+        };
+        answer = subst (λ ts. AnswerComes g made (x ∷ s.log) seen (x ∷ newer) (say.Reply (top_seal s) ts (part_text s.dictionary))) (sym told_is)
+            (reply_comes g made (x ∷ s.log) seen (x ∷ newer) [] (x ∷ newer) (top_seal s) s.dictionary refl
+            (seal-grows g made (x ∷ []) s.log (top_seal s) (seal_fits g made s (sealed_count s) stands)) stands.dictionary (new_fits, all_newer)
+            (omega arith) (few_new (length s.log) (length newer) (length seen) (length t.path) length-log length-path few));
+      })
     where
       grown_room : (n : ℕ) → n ≤ 1048576 → (n ≡ 1048576 → ⊥) → suc n ≤ 1048576
       grown_room n h full = omega arith
@@ -308,25 +309,25 @@ module _ (g : Group) (group : IsGroup g) (made : List (List ℕ)) (s : Server) (
       let next : Server = with_seal s x in
       let within : t.sealed ≤ length seen = omega (arith, fits.sealed, length-path) in
       let same : seal_text_on g t.path t.sealed t.root ≡ seal_text_on g (entries s.log) t.sealed t.root =
-          ap (λ p. seal_text_on g p t.sealed t.root) path ∙ sym (seal_text-joined g newer seen t.sealed t.root within) ∙ ap (λ l. seal_text_on g (entries l) t.sealed t.root) (sym is) in
+      ap (λ p. seal_text_on g p t.sealed t.root) path ∙ sym (seal_text-joined g newer seen t.sealed t.root within) ∙ ap (λ l. seal_text_on g (entries l) t.sealed t.root) (sym is) in
       let new_fits : SealFits g made s.log x = record {
-            spelled = record {
-              position = goes.spelled.0.1;
-              root = fits.root;
-              tag = length-tag g.key text;
-              first = λ e. absurd (omega (arith, goes.spelled.0.0));
-            };
-            root_bytes = fits.root_bytes;
-            tag_bytes = tag_bytes g.key text;
-            within = omega (arith, length-log);
-            text = λ higher. subst (IsIn made) same (goes.texts text (inl refl));
-          } in
+        spelled = record {
+          position = goes.spelled.0.1;
+          root = fits.root;
+          tag = length-tag g.key text;
+          first = λ e. absurd (omega (arith, goes.spelled.0.0));
+        };
+        root_bytes = fits.root_bytes;
+        tag_bytes = tag_bytes g.key text;
+        within = omega (arith, length-log);
+        text = λ higher. subst (IsIn made) same (goes.texts text (inl refl));
+      } in
       let fit : ServerFits g made next = record {
-            log = stands.log;
-            seals = (new_fits, stands.seals);
-            dictionary = applied_proper s.dictionary (ordered_at s t.sealed) (commit_at s t.sealed) stands.dictionary (λ o e. (entry_fits made s t.sealed o stands.log e).spelled);
-            room = stands.room;
-          } in
+        log = stands.log;
+        seals = (new_fits, stands.seals);
+        dictionary = applied_proper s.dictionary (ordered_at s t.sealed) (commit_at s t.sealed) stands.dictionary (λ o e. (entry_fits made s t.sealed o stands.log e).spelled);
+        room = stands.room;
+      } in
       refuses ((5, is_ready (member s me).stage && (nat_eq t.sealed (sealed_count s + 1) && owns_committed me (ordered_at s t.sealed) (commit_at s t.sealed))) ∷ [])
       (becomes next (turn next me)) ((omega arith, omega arith), tt)
       (λ ok. record { new = []; is = refl; server = fit; answer = turn_comes g made next me seen newer fit })
@@ -338,14 +339,14 @@ module _ (g : Group) (group : IsGroup g) (made : List (List ℕ)) (s : Server) (
       let k : ℕ = size s - e in
       let few : k ≤ length newer = omega (arith, length-path, length-log) in
       let told_is : entries_above (length t.path) (front e s.log) ≡ told (drop k newer) =
-          ap (λ n. entries_above n (drop k s.log)) length-path
-          ∙ ap (λ l. entries_above (length seen) l) (ap (drop k) is ∙ drop-append-le k newer seen few)
-          ∙ above-told (drop k newer) seen in
+      ap (λ n. entries_above n (drop k s.log)) length-path
+      ∙ ap (λ l. entries_above (length seen) l) (ap (drop k) is ∙ drop-append-le k newer seen few)
+      ∙ above-told (drop k newer) seen in
       refuses ((5, is_ready (member s me).stage && nat_le (length t.path) (size s)) ∷ []) (says s (say.Entries x (entries_above (length t.path) (front e s.log)))) ((omega arith, omega arith), tt)
       (λ ok. stays (say.Entries x (entries_above (length t.path) (front e s.log)))
-        (subst (λ ts. AnswerComes g made s.log seen newer (say.Entries x ts)) (sym told_is)
-          (entries_come g made s.log seen newer (take k newer) (drop k newer) x (sym (take-append-drop k newer)) (seal_fits g made s (min (sealed_count s) e) stands)
-            (all-drop (EntryFits made) k newer all_newer) (omega (arith, length-drop k newer, length-path, length-log)))))
+      (subst (λ ts. AnswerComes g made s.log seen newer (say.Entries x ts)) (sym told_is)
+      (entries_come g made s.log seen newer (take k newer) (drop k newer) x (sym (take-append-drop k newer)) (seal_fits g made s (min (sealed_count s) e) stands)
+      (all-drop (EntryFits made) k newer all_newer) (omega (arith, length-drop k newer, length-path, length-log)))))
 
   -- a request that is read as it was sent
   request_served : (sending : Sending) → RequestGoes g made me t sending → Gives (serve_read s me (Some (request_of g me t sending)))
@@ -355,7 +356,6 @@ module _ (g : Group) (group : IsGroup g) (made : List (List ℕ)) (s : Server) (
   request_served Seals goes = refuses ((6, is_member s me) ∷ []) (on_request s me (request_of g me t Seals)) ((omega arith, omega arith), tt) (λ ok. seal_served goes)
   request_served Syncs goes = refuses ((6, is_member s me) ∷ []) (on_request s me (request_of g me t Syncs)) ((omega arith, omega arith), tt) (λ ok. sync_served)
 
-  pub payload_served : ((r : ToServer) → HasRequestSpelling r → read_request (request_text r) ≡ Some r)
-      → (sending : Sending) → RequestGoes g made me t sending → Gives (serve s me (request_text (request_of g me t sending)))
+  pub payload_served : (sending : Sending) → RequestGoes g made me t sending → Gives (serve s me (request_text (request_of g me t sending)))
   unfolding serve
-  payload_served again sending goes = subst (λ r. Gives (serve_read s me r)) (sym (again (request_of g me t sending) goes.spelled)) (request_served sending goes)
+  payload_served sending goes = subst (λ r. Gives (serve_read s me r)) (sym (request_again (request_of g me t sending) goes.spelled)) (request_served sending goes)

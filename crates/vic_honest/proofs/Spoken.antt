@@ -22,8 +22,6 @@ use Rattle.vic_wire.specs.Parts.{part_text, pair_text}
 use Rattle.vic_wire.specs.Hashes.{tag_of, masked_key, hash}
 use Rattle.vic_spellings.proofs.Steps.{bytes-nil}
 use Rattle.vic_spellings.proofs.Bytes.{bytes-cons, bytes-append, bytes-w16, bytes-w32, bytes-sha256}
-use Rattle.vic_roots.proofs.Keys.{key_order, same_key}
-use Rattle.vic_roots.proofs.Proper.{IsProperPair}
 
 -- ---- fields
 
@@ -64,56 +62,3 @@ seal_bytes x root tag =
       | true ↦ bytes-w32 0
       | false ↦ bytes-append (to_be_bytes w32 x.position ++ x.root.bytes) x.tag.bytes (bytes-append (to_be_bytes w32 x.position) x.root.bytes (bytes-w32 x.position) root) tag
     ]
-
--- ---- parts
-
-t_first : (a b : Bool) → T (a && b) → T a
-t_first true b h = tt
-t_first false b h = h
-
-t_second : (a b : Bool) → T (a && b) → T b
-t_second true b h = h
-t_second false b h = absurd h
-
--- a key that is above another isn't it
-apart : (k q : List ℕ) → T (is_lt (key_order k q)) → eq_by_cmp key_order q k ≡ false
-apart k q above =
-    elim (eq_by_cmp key_order q k) as (λ b. eq_by_cmp key_order q k ≡ b → b ≡ false) [
-      | true ↦ λ e. absurd (subst (λ o. T (is_lt o)) (tied_itself nat_list_cmp_total k) (subst (λ x. T (is_lt (key_order k x))) (same_key q k e) above))
-      | false ↦ λ e. refl
-    ] refl
-
-abbrev IsFound : List Pair → Pair → Type 0
-IsFound all p = find key_order p.0 all ≡ Some p.1
-
-found_later : (e : Pair) (all es : List Pair) → T (below_all key_order e.0 es) → AllByRecursion (IsFound all) es → AllByRecursion (IsFound (e ∷ all)) es
-found_later e all [] below h = tt
-found_later e all (p ∷ es) below h =
-    (ap (λ b. cond b (Some e.1) (find key_order p.0 all)) (apart e.0 p.0 (t_first _ _ below)) ∙ h.0, found_later e all es (t_second (is_lt (key_order e.0 p.0)) _ below) h.1)
-
--- each pair of a list in order is found in it
-all_found : (es : List Pair) → T (is_sorted key_order es) → AllByRecursion (IsFound es) es
-all_found [] h = tt
-all_found (e ∷ es) h =
-    (ap (λ o. cond (is_eq o) (Some e.1) (find key_order e.0 es)) (tied_itself nat_list_cmp_total e.0),
-     found_later e es es (t_first _ _ h) (all_found es (t_second (below_all key_order e.0 es) _ h)))
-
-proper_all : (d : Dictionary) → IsProper d → (es : List Pair) → AllByRecursion (IsFound (map.entries d)) es → AllByRecursion (λ p. IsProperPair p.0 p.1) es
-proper_all d h [] f = tt
-proper_all d h (p ∷ es) f = (h p.0 p.1 (map.get-entries d p.0 ∙ f.0), proper_all d h es f.1)
-
--- the pairs of a proper dictionary are proper
-pub proper_pairs : (d : Dictionary) → IsProper d → AllByRecursion (λ p. IsProperPair p.0 p.1) (map.entries d)
-proper_pairs d h = proper_all d h (map.entries d) (all_found (map.entries d) (map.entries_sorted d))
-
-pairs_bytes : (es : List Pair) → AllByRecursion (λ p. IsProperPair p.0 p.1) es → AreBytes (flat_map pair_text es)
-pairs_bytes [] h = bytes-nil
-pairs_bytes (p ∷ es) h =
-    bytes-append (pair_text p) (flat_map pair_text es)
-    (bytes-append (short_text p.0) (short_text p.1) (short_bytes p.0 h.0.0.0.1 h.0.0.1) (short_bytes p.1 (omega (arith, h.0.1.0)) h.0.1.1))
-    (pairs_bytes es h.1)
-
-pub part_bytes : (d : Dictionary) → IsProper d → AreBytes (part_text d)
-part_bytes d h =
-    bytes-append (0 ∷ to_be_bytes w32 (map.len d)) (flat_map pair_text (map.entries d))
-    (bytes-cons 0 (to_be_bytes w32 (map.len d)) (omega arith) (bytes-w32 (map.len d))) (pairs_bytes (map.entries d) (proper_pairs d h))

@@ -178,7 +178,7 @@ seal_made g made newer front_of p x path within fits text i =
             let apart : x.position ≡ 0 → ⊥ = eqb-false x.position 0 e in
             let inside : x.position ≤ length front_of = omega (arith, ap length path, length-entries front_of) in
             let same : seal_text_on g (entries (newer ++ front_of)) x.position x.root.bytes ≡ seal_text_on g p x.position x.root.bytes =
-                seal_text-joined g newer front_of x.position x.root.bytes inside ∙ ap (λ q. seal_text_on g q x.position x.root.bytes) (sym path) in
+            seal_text-joined g newer front_of x.position x.root.bytes inside ∙ ap (λ q. seal_text_on g q x.position x.root.bytes) (sym path) in
             subst (IsIn made) (same ∙ is) (fits.text (omega arith))
         | inr none ↦ absurd none
       ]
@@ -187,7 +187,6 @@ seal_made g made newer front_of p x path within fits text i =
 module _ (g : Group) (made : List (List ℕ)) (me : ℕ) (log seen newer : List Ordered) (t : Standing)
     (is : log ≡ newer ++ seen) (path : t.path ≡ entries seen) (fits : StandingFits t) (payload : List ℕ) (m : ToClient) (read : read_answer payload ≡ Some m)
     (comes : AnswerComes g made log seen newer m) where
-
   -- what is shown of a move
   pub record Takes (v : Move) : Type 0 where
     pub client : Moved g made me log v.next v.sends
@@ -239,16 +238,16 @@ module _ (g : Group) (made : List (List ℕ)) (me : ℕ) (log seen newer : List 
       let own : List Own = t.own ++ record { position = length p; op = r.op; done = is_done (decision me t (r.others ++ t.path) r.seal.position r.part r.op) } ∷ [] in
       let next : Standing = record t { path = p; sealed = r.seal.position; root = r.seal.root.bytes; awaiting = awaits.Turn; own = own } in
       let next_fits : StandingFits next = record {
-            sealed = omega (arith, r.below);
-            own = all_append (IsWithin (length p)) t.own _ (within_more (length t.path) (length p) t.own (omega (arith, length-append r.others t.path)) fits.own) (omega arith, tt);
-            root = r.sealing.spelled.root;
-            root_bytes = c.seal.root_bytes;
-            calls = fits.calls;
-          } in
+        sealed = omega (arith, r.below);
+        own = all_append (IsWithin (length p)) t.own _ (within_more (length t.path) (length p) t.own (omega (arith, length-append r.others t.path)) fits.own) (omega arith, tt);
+        root = r.sealing.spelled.root;
+        root_bytes = c.seal.root_bytes;
+        calls = fits.calls;
+      } in
       record {
         client = subst (λ w. Moved g made me log w.next w.sends) (sym r.moved)
             (now_sends g made me log next (Commits (is_done (decision me t (r.others ++ t.path) r.seal.position r.part r.op))) (c.between ++ seen) c.later
-              (log_split c.later c.between c.split) grown next_fits refl ((omega arith, omega (arith, r.few)), length-tag _ _));
+            (log_split c.later c.between c.split) grown next_fits refl ((omega arith, omega (arith, r.few)), length-tag _ _));
         texts = checked_made v p answer (ap (λ w. w.next.path) r.moved) r.takes (made_texts c.later c.between p r.seal r.entries c.split grown (omega (arith, r.below)) c.seal c.texts);
       }
 
@@ -262,12 +261,12 @@ module _ (g : Group) (made : List (List ℕ)) (me : ℕ) (log seen newer : List 
       let next : Standing = record t { sealed = u.seal.position + 1; root = root; own = u.rest; awaiting = awaits.Turn } in
       let within : u.seal.position + 1 ≤ length t.path = omega (arith, own.0, u.next_is) in
       let next_fits : StandingFits next = record {
-            sealed = within;
-            own = own.1;
-            root = root_fits.0;
-            root_bytes = root_fits.1;
-            calls = fits.calls;
-          } in
+        sealed = within;
+        own = own.1;
+        root = root_fits.0;
+        root_bytes = root_fits.1;
+        calls = fits.calls;
+      } in
       record {
         client = subst (λ w. Moved g made me log w.next w.sends) (sym u.moved)
             (now_sends g made me log next Seals seen newer is path next_fits refl ((omega arith, omega (arith, u.few)), (root_fits.0, length-tag _ _)));
@@ -282,12 +281,12 @@ module _ (g : Group) (made : List (List ℕ)) (me : ℕ) (log seen newer : List 
       let grown : p ≡ entries (c.between ++ seen) = path_grown l.entries l.others c.between l.news c.listed in
       let next : Standing = record t { path = p; sealed = l.seal.position; root = l.seal.root.bytes; awaiting = awaits.Nothing } in
       let next_fits : StandingFits next = record {
-            sealed = l.sealing.within;
-            own = within_more (length t.path) (length p) t.own (omega (arith, length-append l.others t.path)) fits.own;
-            root = l.sealing.spelled.root;
-            root_bytes = c.seal.root_bytes;
-            calls = fits.calls;
-          } in
+        sealed = l.sealing.within;
+        own = within_more (length t.path) (length p) t.own (omega (arith, length-append l.others t.path)) fits.own;
+        root = l.sealing.spelled.root;
+        root_bytes = c.seal.root_bytes;
+        calls = fits.calls;
+      } in
       record {
         client = subst (λ w. Moved g made me log w.next w.sends) (sym l.moved) (now_rests g made me log next (c.between ++ seen) c.later (log_split c.later c.between c.split) grown next_fits);
         texts = checked_made v p answer (ap (λ w. w.next.path) l.moved) l.takes (made_texts c.later c.between p l.seal l.entries c.split grown l.sealing.within c.seal c.texts);
@@ -300,6 +299,5 @@ module _ (g : Group) (made : List (List ℕ)) (me : ℕ) (log seen newer : List 
   kind_takes v loud (is_updated u) = updated_takes v u
   kind_takes v loud (is_listed l) = listed_takes v l
 
-  pub payload_taken : ((bytes : List ℕ) (n : ToClient) → AreBytes bytes → read_answer bytes ≡ Some n → HasSpelling n × (bytes ≡ answer_text n)) → AreBytes payload
-      → Takes (step g me t (input.Payload payload))
-  payload_taken answer_fits bytes = kind_takes (step g me t (input.Payload payload)) (payload_loud g me t payload) (step_kind answer_fits g me t (input.Payload payload) bytes)
+  pub payload_taken : AreBytes payload → Takes (step g me t (input.Payload payload))
+  payload_taken bytes = kind_takes (step g me t (input.Payload payload)) (payload_loud g me t payload) (step_kind g me t (input.Payload payload) bytes)

@@ -24,6 +24,7 @@ use Rattle.vic_order.specs.Order.{Ordered, Server, Answered, fresh_server, ready
 use Rattle.vic_order.specs.Fates.{entries}
 use Rattle.vic_order.specs.Honest.{Event, Asks, Serves, Takes, World, opening, changed, queued, steps, serves, takes, happens, MayBe, AreHonest, IsHonestRun, world_after}
 use Rattle.vic_spellings.proofs.Bytes.{bytes-sha256}
+use Rattle.vic_spellings.proofs.SpelledAnswers.{answer_again}
 use Rattle.vic_roots.proofs.Proper.{proper-nothing}
 use Rattle.vic_laws.proofs.Words.{all_weaker, all_append, in_either, in_left, in_right}
 use Rattle.vic_laws.proofs.Standings.{standing_moved, standing_kept}
@@ -121,7 +122,7 @@ module _ (g : Group) (w : World) (fit : WorldFits g w) (me : ℕ) (above : 0 < m
       → ClientFits g made me w.server.log (standing g me (x ∷ w.history)) (changed w.up me (queued (w.up me) x.sent) me) (down me)
   mine moved up_is down_is =
       let queue : changed w.up me (queued (w.up me) x.sent) me ≡ queued [] x.sent =
-          ap (λ b. if b then queued (w.up me) x.sent else w.up me) (eq-eqb me me refl) ∙ ap (λ q. queued q x.sent) up_is in
+      ap (λ b. if b then queued (w.up me) x.sent else w.up me) (eq-eqb me me refl) ∙ ap (λ q. queued q x.sent) up_is in
       subst (λ l. ClientFits g l me w.server.log (standing g me (x ∷ w.history)) (changed w.up me (queued (w.up me) x.sent) me) (down me)) (sym (made_more g w me i))
       (subst (λ s. ClientFits g (text_sent g me v.next v.sends ++ texts_made g w.history) me w.server.log s (changed w.up me (queued (w.up me) x.sent) me) (down me)) (sym (standing_moved g me x w.history refl))
       (subst (λ u. ClientFits g (text_sent g me v.next v.sends ++ texts_made g w.history) me w.server.log v.next u (down me)) (sym queue)
@@ -200,15 +201,15 @@ module _ (g : Group) (w : World) (fit : WorldFits g w) (me : ℕ) (above : 0 < m
       let ask = third may in
       let next : Standing = record here { calls = here.calls + 1; awaiting = awaits.Reply (here.calls + 1) o false } in
       let fits : StandingFits next = record {
-            sealed = client.fits.sealed;
-            own = client.fits.own;
-            root = client.fits.root;
-            root_bytes = client.fits.root_bytes;
-            calls = ask.1.1.1.1;
-          } in
+        sealed = client.fits.sealed;
+        own = client.fits.own;
+        root = client.fits.root;
+        root_bytes = client.fits.root_bytes;
+        calls = ask.1.1.1.1;
+      } in
       asked (input.Call o) ask ask.0
       (now_sends g (texts_made g w.history) me w.server.log next (Invokes (here.calls + 1) o) client.seen client.newer client.is client.path fits refl
-        (room, ((omega arith, ask.1.1.1.1), ((ask.1.1.0, ask.1.1.1.0), length-tag _ _)))) refl
+      (room, ((omega arith, ask.1.1.1.1), ((ask.1.1.0, ask.1.1.1.0), length-tag _ _)))) refl
   asks_fit input.Poll may =
       let next : Standing = record here { awaiting = awaits.Turn } in
       asked input.Poll (third may) (third may) (now_sends g (texts_made g w.history) me w.server.log next Polls client.seen client.newer client.is client.path (same_fits here next refl refl refl refl refl client.fits) refl tt) refl
@@ -219,11 +220,7 @@ module _ (g : Group) (w : World) (fit : WorldFits g w) (me : ℕ) (above : 0 < m
 
 -- ---- serving and taking
 
-module _ (g : Group) (group : IsGroup g)
-    (request_again : (r : ToServer) → HasRequestSpelling r → read_request (request_text r) ≡ Some r)
-    (answer_again : (m : ToClient) → HasSpelling m → read_answer (answer_text m) ≡ Some m)
-    (answer_fits : (bytes : List ℕ) (m : ToClient) → AreBytes bytes → read_answer bytes ≡ Some m → HasSpelling m × (bytes ≡ answer_text m)) where
-
+module _ (g : Group) (group : IsGroup g) where
   sent_fit : (w : World) → WorldFits g w → (me : ℕ) → 0 < me → me ≤ g.count → (seen newer : List Ordered) → w.server.log ≡ newer ++ seen → (standing g me w.history).path ≡ entries seen
       → StandingFits (standing g me w.history) → (sending : Sending) → w.down me ≡ [] → awaits_nothing (standing g me w.history).awaiting ≡ false
       → RequestGoes g (texts_made g w.history) me (standing g me w.history) sending
@@ -233,21 +230,21 @@ module _ (g : Group) (group : IsGroup g)
       let made : List (List ℕ) = texts_made g w.history in
       let payload : List ℕ = request_text (request_of g me t sending) in
       let a : Answered = serve w.server me payload in
-      let s : Served g made w.server.log seen newer a = payload_served g group made w.server me above upto t seen newer is path fits fit.server request_again sending goes in
+      let s : Served g made w.server.log seen newer a = payload_served g group made w.server me above upto t seen newer is path fits fit.server sending goes in
       let up : ℕ → List (List ℕ) = changed w.up me [] in
       let down : ℕ → List (List ℕ) = changed w.down me (queued (w.down me) (Some (answer_text a.answer))) in
       let mine : ClientFits g made me a.next.log t (up me) (down me) = record {
-            seen = seen;
-            newer = s.new ++ newer;
-            is = s.is ∙ ap (λ l. s.new ++ l) is ∙ sym (append_assoc s.new newer seen);
-            path = path;
-            fits = fits;
-            doing = Gets a.answer;
-            up_is = ap (λ b. if b then [] else w.up me) (eq-eqb me me refl);
-            down_is = ap (λ b. if b then queued (w.down me) (Some (answer_text a.answer)) else w.down me) (eq-eqb me me refl) ∙ ap (λ q. queued q (Some (answer_text a.answer))) down_is;
-            busy = busy;
-            does = s.answer;
-          } in
+        seen = seen;
+        newer = s.new ++ newer;
+        is = s.is ∙ ap (λ l. s.new ++ l) is ∙ sym (append_assoc s.new newer seen);
+        path = path;
+        fits = fits;
+        doing = Gets a.answer;
+        up_is = ap (λ b. if b then [] else w.up me) (eq-eqb me me refl);
+        down_is = ap (λ b. if b then queued (w.down me) (Some (answer_text a.answer)) else w.down me) (eq-eqb me me refl) ∙ ap (λ q. queued q (Some (answer_text a.answer))) down_is;
+        busy = busy;
+        does = s.answer;
+      } in
       record {
         steps = fit.steps;
         honest = fit.honest;
@@ -277,7 +274,7 @@ module _ (g : Group) (group : IsGroup g)
   got_fit : (w : World) → WorldFits g w → (me : ℕ) → 0 < me → me ≤ g.count → (seen newer : List Ordered) → w.server.log ≡ newer ++ seen → (standing g me w.history).path ≡ entries seen
       → StandingFits (standing g me w.history) → (m : ToClient) → w.up me ≡ [] → AnswerComes g (texts_made g w.history) w.server.log seen newer m → WorldFits g (takes g w me (answer_text m ∷ []))
   got_fit w fit me above upto seen newer is path fits m up_is comes =
-      let taken = payload_taken g (texts_made g w.history) me w.server.log seen newer (standing g me w.history) is path fits (answer_text m) m (answer_again m comes.spelled) comes answer_fits comes.bytes in
+      let taken = payload_taken g (texts_made g w.history) me w.server.log seen newer (standing g me w.history) is path fits (answer_text m) m (answer_again m comes.spelled) comes comes.bytes in
       step_fits g w fit me above upto (input.Payload (answer_text m)) comes.bytes (changed w.down me []) (λ j apart. ap (λ b. if b then [] else w.down j) (ne_eqb j me apart))
       taken.client up_is (ap (λ b. if b then [] else w.down me) (eq-eqb me me refl)) taken.texts
 

@@ -4,3 +4,19 @@
 //! and each is the contract of a function without parameters and with an empty body.
 #![tactic(auto)]
 
+ghost use Rattle.vic_honest.specs.Claims.{TagsWereMade, HistoriesAreLawful, PathsAreFronts};
+
+/// Every tag that a client takes was made by a client before.
+pub fn tags_were_made()
+    ensures { TagsWereMade }
+{}
+
+/// The steps of the clients are a lawful history.
+pub fn histories_are_lawful()
+    ensures { HistoriesAreLawful }
+{}
+
+/// The path of each client is what the server's log was at some time.
+pub fn paths_are_fronts()
+    ensures { PathsAreFronts }
+{}

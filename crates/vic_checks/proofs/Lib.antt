@@ -1,0 +1,4 @@
+pub mod Onto
+pub mod Forms
+pub mod Sealing
+pub mod Deciding
