@@ -4,4 +4,7 @@ pub mod Replays
 pub mod Marks
 pub mod Shows
 pub mod Forgeries
+pub mod Hashing
+pub mod Making
+pub mod Forging
 pub mod Prints

@@ -2,3 +2,4 @@ pub mod Transcripts
 pub mod Replay
 pub mod Claims
 pub mod Printed
+pub mod Making

@@ -5,13 +5,16 @@
 //! printed are those of `vic_script` (`specs/Print.antt`), which the contract of `print_views` carries.
 #![tactic(auto)]
 
+mod forgery;
 pub mod laws;
-mod print;
+pub mod print;
 mod replay;
 pub mod transcript;
 pub mod view;
 pub mod views;
 
+pub use forgery::forged;
+pub use print::print_views;
 pub use transcript::Transcript;
 pub use vic_rules::{Input, Shown, TraceStep};
 pub use view::{View, agree};

@@ -4,7 +4,7 @@ ghost use Rattle.std.specs.Prelude.{◌≡◌, ◌<◌, ◌≤◌, ◌+◌, ◌-
 ghost use Rattle.std.specs.List.{flat_map};
 ghost use Rattle.std.specs.Fmt.{decimal};
 ghost use Rattle.vic_rules.specs.History.{IsLawful};
-ghost use Rattle.vic_script.specs.Print.{shown_line, agreement, tags_line, all_views as every_view, all_agreements as every_agreement};
+ghost use Rattle.vic_script.specs.Print.{shown_line, agreement, tags_line, is_forged, all_views as every_view, all_agreements as every_agreement};
 ghost use Rattle.vic_view.specs.Transcripts.{group_of, history_of};
 ghost use Rattle.vic_view.specs.Printed.{views_up_to, view_text, view_texts, agree_text, agree_with, agree_texts};
 
@@ -14,6 +14,7 @@ use vic_dict::{Bytes, NoMemory};
 use vic_rules::Shown;
 use vic_text::{put_number, put_op, put_outcome};
 
+use crate::forgery::forged;
 use crate::transcript::Transcript;
 use crate::view::{View, common_calls};
 use crate::views::{all_paths, view_among};
@@ -181,7 +182,7 @@ fn put_tags(out: &mut Bytes, forged: bool) -> Result<(), NoMemory>
 }
 
 /// The lines of all views, how far each two agree, and whether each tag that was taken was made, which the caller knows.
-pub(crate) fn print_with(alloc: Global, t: &Transcript, forged: bool) -> Result<Bytes, NoMemory>
+fn print_with(alloc: Global, t: &Transcript, forged: bool) -> Result<Bytes, NoMemory>
     requires { IsLawful (group_of t.now) (history_of t.now) }
     ensures { IfOk result (λ b. b ≡ every_view (group_of t.now) (history_of t.now) ++ every_agreement (group_of t.now) (history_of t.now) ++ tags_line forged) }
 {
@@ -191,4 +192,14 @@ pub(crate) fn print_with(alloc: Global, t: &Transcript, forged: bool) -> Result<
     put_agreements(&mut out, alloc, views.as_slice())?;
     put_tags(&mut out, forged)?;
     Ok(out)
+}
+
+/// What is printed at the end of a run: the lines of all views, how far each two agree, and whether each tag that was taken
+/// was made.
+pub fn print_views(alloc: Global, t: &Transcript) -> Result<Bytes, NoMemory>
+    requires { IsLawful (group_of t.now) (history_of t.now) }
+    ensures { IfOk result (λ b. b ≡ every_view (group_of t.now) (history_of t.now) ++ every_agreement (group_of t.now) (history_of t.now) ++ tags_line (is_forged (group_of t.now) (history_of t.now))) }
+{
+    let unmade = forged(alloc, t)?;
+    print_with(alloc, t, unmade)
 }

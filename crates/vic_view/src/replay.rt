@@ -1,8 +1,10 @@
 //! The paths of a transcript's clients, read from their steps.
 
-ghost use Rattle.std.specs.Prelude.{◌≡◌, ◌<◌, ◌≤◌, [], ◌∷◌, ◌++◌, length, reverse, IfOk, OnOk, OnErr, slice_get, Some, None, is_some, if◌then◌else◌};
+ghost use Rattle.std.specs.Prelude.{◌≡◌, ◌<◌, ◌≤◌, [], ◌∷◌, ◌++◌, length, reverse, IfOk, OnOk, OnErr, slice_get, Some, None, is_some, IfSome, if◌then◌else◌};
+ghost use Rattle.vic_wire.specs.Messages.{HasSpelling};
+ghost use Rattle.vic_wire.specs.Reading.{read_answer};
 ghost use Rattle.vic_view.specs.Transcripts.{history_of};
-ghost use Rattle.vic_view.specs.Replay.{is_halt, entries_in, entries_at, completed_with, places_with, path_after, replayed, AreReplayed};
+ghost use Rattle.vic_view.specs.Replay.{is_halt, read_by, entries_in, entries_at, completed_with, places_with, path_after, replayed, AreReplayed};
 
 use std::alloc::Global;
 use std::marker::Model;
@@ -123,17 +125,35 @@ fn entries_from(alloc: Global, answer: Option<ToClient>) -> TaggedList
     }
 }
 
+fn decode_whole(alloc: Global, payload: &[u8]) -> Result<Option<ToClient>, NoMemory>
+    ensures value { IfOk result (λ o. o ≡ read_answer payload.now) }
+    ensures spelled { IfOk result (λ o. IfSome o HasSpelling) }
+{
+    match decode_answer(alloc, payload)? {
+        Some(answer) => Ok(Some(answer)),
+        None => Ok(None),
+    }
+}
+
+/// The answer that a client took at a step without halting.
+pub(crate) fn answer_taken(alloc: Global, step: &TraceStep) -> Result<Option<ToClient>, NoMemory>
+    ensures value { IfOk result (λ o. o ≡ read_by step.now.input step.now.returned) }
+    ensures spelled { IfOk result (λ o. IfSome o HasSpelling) }
+{
+    let Input::Payload(payload) = &step.input else {
+        return Ok(None);
+    };
+    if has_halted(&step.returned) {
+        return Ok(None);
+    }
+    decode_whole(alloc, payload.as_slice())
+}
+
 /// The entries that a client took at a step.
 fn entries_taken(alloc: Global, step: &TraceStep) -> Result<TaggedList, NoMemory>
     ensures { IfOk result (λ ts. ts ≡ entries_at step.now) }
 {
-    let Input::Payload(payload) = &step.input else {
-        return Ok(TaggedList::new(alloc));
-    };
-    if has_halted(&step.returned) {
-        return Ok(TaggedList::new(alloc));
-    }
-    let answer = decode_answer(alloc, payload.as_slice())?;
+    let answer = answer_taken(alloc, step)?;
     Ok(entries_from(alloc, answer))
 }
 
