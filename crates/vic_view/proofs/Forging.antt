@@ -16,7 +16,7 @@ use Rattle.vic_laws.proofs.Paths.{path_spelled}
 use Rattle.vic_view.specs.declared.replay.Place.{Place}
 use Rattle.vic_view.specs.declared.replay.ClientPath.{ClientPath}
 use Rattle.vic_view.specs.Replay.{no_path, read_by, replayed, AreReplayed}
-use Rattle.vic_view.specs.Making.{IsPlaceEntry, HasEntries, hashes_of, hashes_with, hash_at, request_in, made_by, taken_with, has_unmade}
+use Rattle.vic_view.specs.Making.{IsPlaceEntry, HasEntries, hashes_of, hashes_with, hash_at, request_in, made_by, taken_with, has_unmade, SameTexts}
 use Rattle.vic_view.proofs.Loops.{newest_step}
 use Rattle.vic_view.proofs.Replays.{entries, replays_path}
 use Rattle.vic_view.proofs.Making.{made_at_step, taken_at_step}
@@ -104,10 +104,6 @@ within_hashes g h all every same r hashes slice same_slice are client le =
 
 -- ---- the loop
 
--- the same texts, in whatever order
-abbrev pub SameTexts : List (List ℕ) → List (List ℕ) → Type 0
-SameTexts made texts = (t : List ℕ) → is_among made t ≡ is_among texts t
-
 any_same : (f k : List ℕ → Bool) → ((t : List ℕ) → f t ≡ k t) → (ts : List (List ℕ)) → list_any f ts ≡ list_any k ts
 any_same f k same [] = refl
 any_same f k same (t ∷ ts) = ap (λ (b : Bool). b || list_any f ts) (same t) ∙ ap (λ (b : Bool). k t || b) (any_same f k same ts)
@@ -139,17 +135,17 @@ pub not_forged_next : (g : Group) (xs : List TraceStep) (i : ℕ) (x : TraceStep
 unfolding is_forged
 not_forged_next g xs i x lt is e f = ap (is_forged g) (newest_step xs i x lt is) ∙ neither (is_forged g (reverse (take i xs))) (takes_unmade g (reverse (take i xs)) x) e f
 
-or_swap : (a b : Bool) → (a || b) ≡ (b || a)
+pub or_swap : (a b : Bool) → (a || b) ≡ (b || a)
 or_swap true true = refl
 or_swap true false = refl
 or_swap false true = refl
 or_swap false false = refl
 
-or_none : (a : Bool) → (a || false) ≡ a
+pub or_none : (a : Bool) → (a || false) ≡ a
 or_none true = refl
 or_none false = refl
 
-among_append : (made more : List (List ℕ)) (t : List ℕ) → is_among (made ++ more) t ≡ (is_among made t || is_among more t)
+pub among_append : (made more : List (List ℕ)) (t : List ℕ) → is_among (made ++ more) t ≡ (is_among made t || is_among more t)
 among_append [] more t = refl
 among_append (m ∷ made) more t = ap (λ (b : Bool). bytes_eq t m || b) (among_append made more t) ∙ or_group (bytes_eq t m) (is_among made t) (is_among more t)
   where
@@ -164,7 +160,7 @@ same_more made texts same o = λ t.
     ∙ ap (λ (b : Bool). is_among (option_to_list o) t || b) (same t) ∙ sym (among_append (option_to_list o) texts t)
 
 pub made_next : (g : Group) (xs : List TraceStep) (i : ℕ) (x : TraceStep) → i < length xs → x ≡ get_or xs i x → AreSteps g (reverse xs) → (hs : List Digest32) → hs ≡ hashes_of g (replayed x.client (reverse xs)).places
-    → (made new : List (List ℕ)) → SameTexts made (texts_made g (reverse (take i xs))) → new ≡ made ++ option_to_list (made_by (hash_at hs) x.client (request_in x.sent))
+    → (made new : List (List ℕ)) → SameTexts made (texts_made g (reverse (take i xs))) → SameTexts new (made ++ option_to_list (made_by (hash_at hs) x.client (request_in x.sent)))
     → SameTexts new (texts_made g (reverse (take (i + 1) xs)))
 made_next g xs i x lt is steps hs are made new same e =
     let past : List TraceStep = reverse (take i xs) in
@@ -173,7 +169,7 @@ made_next g xs i x lt is steps hs are made new same e =
     made_at_step g (reverse (drop (i + 1) xs)) x past (steps_then g xs i x lt is steps)
     ∙ ap (λ (ks : List Digest32). option_to_list (made_by (hash_at ks) x.client (request_in x.sent)) ++ texts_made g past)
       (sym (are ∙ ap (λ (h : List TraceStep). hashes_of g (replayed x.client h).places) (split_at xs i x lt is))) in
-    λ t. ap (λ (ts : List (List ℕ)). is_among ts t) e ∙ same_more made (texts_made g past) same o t
+    λ t. e t ∙ same_more made (texts_made g past) same o t
         ∙ ap (λ (ts : List (List ℕ)). is_among ts t) (sym told ∙ ap (texts_made g) (sym (newest_step xs i x lt is)))
 
 -- nothing was made before the first step

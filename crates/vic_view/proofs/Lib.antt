@@ -6,5 +6,6 @@ pub mod Shows
 pub mod Forgeries
 pub mod Hashing
 pub mod Making
+pub mod Texts
 pub mod Forging
 pub mod Prints

@@ -1,5 +1,5 @@
 -- The texts that were made and taken at a step, as its payloads tell them, with the hashes along the path of its client.
-use Rattle.std.specs.Prelude.{ℕ, Bool, not, List, [], ◌∷◌, ◌++◌, map, replicate, Option, Some, None, nat_eq, if◌then◌else◌, slice_index_or}
+use Rattle.std.specs.Prelude.{◌≡◌, ℕ, Bool, not, List, [], ◌∷◌, ◌++◌, map, replicate, Option, Some, None, nat_eq, if◌then◌else◌, slice_index_or}
 use Rattle.std.specs.List.{list_any, AllByRecursion}
 use Rattle.vic_wire.specs.Messages.{IsEntry}
 use Rattle.vic_dict.specs.declared.op.Entry.{Entry}
@@ -70,3 +70,7 @@ taken_with at (Some m) = seal_texts_by at (seal_of m) ++ map (λ t. invoke_text 
 -- some of the texts isn't among those that were made
 abbrev pub has_unmade : List (List ℕ) → List (List ℕ) → Bool
 has_unmade made texts = list_any (λ t. not (is_among made t)) texts
+
+-- the same texts, in whatever order
+abbrev pub SameTexts : List (List ℕ) → List (List ℕ) → Type 0
+SameTexts made texts = (t : List ℕ) → is_among made t ≡ is_among texts t

@@ -10,12 +10,13 @@ ghost use Rattle.vic_rules.specs.History.{IsLawful};
 ghost use Rattle.vic_script.specs.Print.{is_among, is_forged};
 ghost use Rattle.vic_view.specs.Transcripts.{group_of, history_of};
 ghost use Rattle.vic_view.specs.Replay.{read_by};
-ghost use Rattle.vic_view.specs.Making.{IsPlaceEntry, HasEntries, hashes_of, hashes_with, hash_at, request_in, made_by, seal_texts_by, taken_with, has_unmade};
+ghost use Rattle.vic_view.specs.Making.{IsPlaceEntry, HasEntries, hashes_of, hashes_with, hash_at, request_in, made_by, seal_texts_by, taken_with, has_unmade, SameTexts};
 
 use std::alloc::Global;
+use std::collections::BTreeSet;
 use std::marker::Model;
 use vic_chain::{chain_step, genesis};
-use vic_dict::{Bytes, Names, NoMemory, Op};
+use vic_dict::{Bytes, NoMemory, Op};
 use vic_fields::{put_digest, put_op, put_u8, put_u32};
 use vic_frames::decode_request;
 use vic_rules::TraceStep;
@@ -99,6 +100,44 @@ impl AllHashes {
         ensures err { OnErr result (self.new ≡ self.old) }
     {
         self.items.push(hashes)?;
+        Ok(())
+    }
+}
+
+/// A set of texts, in the order of their bytes.
+#[derive(Drop)]
+pub(crate) struct Texts {
+    set: BTreeSet<Vec<u8>>,
+}
+
+impl Model for Texts {
+    ghost use Rattle.std.specs.Prelude.{ℕ, List, map};
+
+    ghost Value = { List (List ℕ) };
+
+    ghost view = { λ a. map (λ v. v.items) a.set.keys };
+}
+
+impl Texts {
+    fn new(alloc: Global) -> Texts
+        ensures { result ≡ [] }
+    {
+        Texts {
+            set: BTreeSet::new(alloc),
+        }
+    }
+
+    fn has(&self, text: &[u8]) -> bool
+        ensures { result ≡ is_among self.now text.now }
+    {
+        self.set.contains(text)
+    }
+
+    fn add(&mut self, alloc: Global, text: &[u8]) -> Result<(), NoMemory>
+        ensures { OnOk result (SameTexts self.new (self.old ++ text.now ∷ [])) }
+    {
+        let key = Vec::from_slice(alloc, text)?;
+        self.set.insert(key)?;
         Ok(())
     }
 }
@@ -222,26 +261,14 @@ fn note_made(
     alloc: Global,
     step: &TraceStep,
     hashes: &[Digest32],
-    made: &mut Names,
+    made: &mut Texts,
 ) -> Result<(), NoMemory>
-    ensures { OnOk result (made.new ≡ made.old ++ option_to_list (made_by (hash_at hashes.now) step.now.client (request_in step.now.sent))) }
+    ensures { OnOk result (SameTexts made.new (made.old ++ option_to_list (made_by (hash_at hashes.now) step.now.client (request_in step.now.sent)))) }
 {
     if let Some(text) = text_made(alloc, step, hashes)? {
-        made.push(text)?;
+        made.add(alloc, text.as_slice())?;
     }
     Ok(())
-}
-
-/// Whether a text was made.
-fn is_made(made: &[Bytes], text: &[u8]) -> bool
-    ensures { result ≡ is_among made.now text.now }
-{
-    for other in made {
-        if text == other.as_slice() {
-            return true;
-        }
-    }
-    false
 }
 
 // ---- what was taken
@@ -251,7 +278,7 @@ fn is_seal_unmade(
     alloc: Global,
     seal: &Seal,
     hashes: &[Digest32],
-    made: &[Bytes],
+    made: &Texts,
 ) -> Result<bool, NoMemory>
     ensures { IfOk result (λ b. b ≡ has_unmade made.now (seal_texts_by (hash_at hashes.now) (Some seal.now))) }
 {
@@ -259,17 +286,17 @@ fn is_seal_unmade(
         return Ok(false);
     }
     let text = seal_of(alloc, seal.position, &hash_with(hashes, seal.position), &seal.root)?;
-    Ok(!is_made(made, text.as_slice()))
+    Ok(!made.has(text.as_slice()))
 }
 
 /// Whether the text of some entry wasn't made.
-fn are_entries_unmade(alloc: Global, entries: &[Tagged], made: &[Bytes]) -> Result<bool, NoMemory>
+fn are_entries_unmade(alloc: Global, entries: &[Tagged], made: &Texts) -> Result<bool, NoMemory>
     requires { AllByRecursion IsTagged entries.now }
     ensures { IfOk result (λ b. b ≡ has_unmade made.now (map (λ t. invoke_text t.entry) entries.now)) }
 {
     for item in entries {
         let text = call_text(alloc, item.entry.client, item.entry.seq, &item.entry.op)?;
-        if !is_made(made, text.as_slice()) {
+        if !made.has(text.as_slice()) {
             return Ok(true);
         }
     }
@@ -282,7 +309,7 @@ fn are_unmade(
     seal: &Seal,
     entries: &[Tagged],
     hashes: &[Digest32],
-    made: &[Bytes],
+    made: &Texts,
 ) -> Result<bool, NoMemory>
     requires { AllByRecursion IsTagged entries.now }
     ensures { IfOk result (λ b. b ≡ has_unmade made.now (seal_texts_by (hash_at hashes.now) (Some seal.now) ++ map (λ t. invoke_text t.entry) entries.now)) }
@@ -298,7 +325,7 @@ fn takes_unmade(
     alloc: Global,
     step: &TraceStep,
     hashes: &[Digest32],
-    made: &[Bytes],
+    made: &Texts,
 ) -> Result<bool, NoMemory>
     ensures { IfOk result (λ b. b ≡ has_unmade made.now (taken_with (hash_at hashes.now) (read_by step.now.input step.now.returned))) }
 {
@@ -329,10 +356,10 @@ pub fn forged(alloc: Global, t: &Transcript) -> Result<bool, NoMemory>
 {
     let paths = all_paths(alloc, t)?;
     let all = all_hashes(alloc, t, paths.as_slice())?;
-    let mut made = Names::new(alloc);
+    let mut made = Texts::new(alloc);
     for step in t.as_slice() {
         let hashes = hashes_for(all.as_slice(), step.client);
-        if takes_unmade(alloc, step, hashes, made.as_slice())? {
+        if takes_unmade(alloc, step, hashes, &made)? {
             return Ok(true);
         }
         note_made(alloc, step, hashes, &mut made)?;

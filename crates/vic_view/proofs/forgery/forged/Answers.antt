@@ -4,7 +4,7 @@ use Rattle.vic_rules.specs.History.{AreSteps}
 use Rattle.vic_rules.specs.Trust.{texts_made}
 use Rattle.vic_script.specs.Print.{is_forged, takes_unmade}
 use Rattle.vic_view.specs.Transcripts.{group_of, history_of}
-use Rattle.vic_view.proofs.Forging.{SameTexts, paths_spelled, is_member, hashes_then, within_hashes, unmade_is, forged_at, not_forged_next, made_next, nothing_made}
+use Rattle.vic_view.proofs.Forging.{paths_spelled, is_member, hashes_then, within_hashes, unmade_is, forged_at, not_forged_next, made_next, nothing_made}
 use Rattle.vic_view.proofs.forgery.forged.Goals as goal
 
 pub all_hashes-requires : goal.all_hashes-requires
@@ -34,9 +34,8 @@ returns-then-branch c =
     let member = is_member g xs i c.step-item.result c.loop-step-test.true c.step-item.is steps in
     let hashes = hashes_then g (history_of c.args.t.now) xs (ap (reverse {A = TraceStep}) c.as_slice-step-items.ensures) c.in_ok-paths.paths c.as_slice.result.now c.as_slice.ensures c.in_ok-paths.ensures
       c.in_ok-all.all c.as_slice-in-loop-step.result.now c.as_slice-in-loop-step.ensures c.in_ok-all.ensures c.step-item.result.client member c.hashes_for-hashes.result.now c.hashes_for-hashes.ensures in
-    let same = subst (λ (m : List (List ℕ)). SameTexts m (texts_made g (reverse (take i xs)))) (sym c.as_slice-in-loop-step-2.ensures) c.loop-step.invariant.1 in
     let found : takes_unmade g (reverse (take i xs)) c.step-item.result ≡ true =
-    sym (unmade_is g xs i c.step-item.result c.loop-step-test.true c.step-item.is steps c.hashes_for-hashes.result.now hashes c.as_slice-in-loop-step-2.result.now same)
+    sym (unmade_is g xs i c.step-item.result c.loop-step-test.true c.step-item.is steps c.hashes_for-hashes.result.now hashes c.loop-step.made c.loop-step.invariant.1)
     ∙ sym c.in_ok-takes_unmade.ensures ∙ c.if-branch.true in
     sym (forged_at g xs i c.step-item.result c.loop-step-test.true c.step-item.is found) ∙ ap (λ (h : List TraceStep). is_forged g h) (ap (reverse {A = TraceStep}) c.as_slice-step-items.ensures)
 
@@ -49,9 +48,8 @@ loop-step-preserved c =
     let member = is_member g xs i c.step-item.result c.loop-step-test.true c.step-item.is steps in
     let hashes = hashes_then g (history_of c.args.t.now) xs (ap (reverse {A = TraceStep}) c.as_slice-step-items.ensures) c.in_ok-paths.paths c.as_slice.result.now c.as_slice.ensures c.in_ok-paths.ensures
       c.in_ok-all.all c.as_slice-in-loop-step.result.now c.as_slice-in-loop-step.ensures c.in_ok-all.ensures c.step-item.result.client member c.hashes_for-hashes.result.now c.hashes_for-hashes.ensures in
-    let same = subst (λ (m : List (List ℕ)). SameTexts m (texts_made g (reverse (take i xs)))) (sym c.as_slice-in-loop-step-2.ensures) c.loop-step.invariant.1 in
     let found : takes_unmade g (reverse (take i xs)) c.step-item.result ≡ false =
-    sym (unmade_is g xs i c.step-item.result c.loop-step-test.true c.step-item.is steps c.hashes_for-hashes.result.now hashes c.as_slice-in-loop-step-2.result.now same)
+    sym (unmade_is g xs i c.step-item.result c.loop-step-test.true c.step-item.is steps c.hashes_for-hashes.result.now hashes c.loop-step.made c.loop-step.invariant.1)
     ∙ sym c.in_ok-takes_unmade.ensures ∙ c.if-branch.false in
     (not_forged_next g xs i c.step-item.result c.loop-step-test.true c.step-item.is c.loop-step.invariant.0 found,
         made_next g xs i c.step-item.result c.loop-step-test.true c.step-item.is steps c.hashes_for-hashes.result.now hashes c.loop-step.made c.note_made.new.made c.loop-step.invariant.1 c.in_ok-note_made.ensures)

@@ -2,7 +2,7 @@ use Rattle.std.proofs.Common.{◌≡◌, false, take, reverse}
 use Rattle.vic_rules.specs.Trust.{texts_made}
 use Rattle.vic_script.specs.Print.{is_forged}
 use Rattle.vic_view.specs.Transcripts.{group_of}
-use Rattle.vic_view.proofs.Forging.{SameTexts}
+use Rattle.vic_view.specs.Making.{SameTexts}
 use Rattle.vic_view.proofs.forgery.forged.Given as goal
 
 abbrev pub invariant-loop-step : goal.invariant-loop-step
