@@ -1,15 +1,15 @@
 -- What the loop that looks for forged texts keeps.
-use Rattle.std.proofs.Common.{◌≡◌, ℕ, suc, zero, ◌+◌, ◌-◌, ◌<◌, ◌≤◌, Bool, true, false, not, ◌||◌, List, [], ◌∷◌, ◌++◌, length, map, take, drop, reverse, Option, Some, None, get_or, bytes_eq, refl, sym, ◌∙◌, ap, subst, arith}
+use Rattle.std.proofs.Common.{◌≡◌, ℕ, suc, zero, ◌+◌, ◌-◌, ◌<◌, ◌≤◌, Bool, true, false, not, ◌||◌, List, [], ◌∷◌, ◌++◌, length, take, drop, reverse, Option, get_or, bytes_eq, refl, sym, ◌∙◌, ap, subst, arith}
 use Rattle.std.specs.Option.{option_to_list}
 use Rattle.std.specs.List.{list_any, AllByRecursion}
 use Rattle.std.proofs.lemmas.List.{reverse-append, take-append-drop, length-map}
 use Rattle.vic_dict.specs.declared.op.Entry.{Entry}
 use Rattle.vic_wire.specs.declared.message.Digest32.{Digest32}
-use Rattle.vic_wire.specs.Hashes.{Group, chain}
+use Rattle.vic_wire.specs.Hashes.{Group}
 use Rattle.vic_wire.specs.Messages.{IsEntry}
 use Rattle.vic_rules.specs.declared.trace.TraceStep.{TraceStep}
-use Rattle.vic_rules.specs.History.{IsLawful, AreSteps, IsStep, path}
-use Rattle.vic_rules.specs.Trust.{texts_taken, texts_made}
+use Rattle.vic_rules.specs.History.{IsLawful, AreSteps}
+use Rattle.vic_rules.specs.Trust.{texts_made}
 use Rattle.vic_script.specs.Print.{is_among, takes_unmade, is_forged}
 use Rattle.vic_laws.proofs.Standings.{earlier_steps}
 use Rattle.vic_laws.proofs.Paths.{path_spelled}
@@ -51,9 +51,10 @@ replayed_spelled g h steps me = all_reverse (replayed me h).places (subst (AllBy
 all_spelled : (g : Group) (h : List TraceStep) → AreSteps g h → (first : ℕ) (all : List ClientPath) → ((k : ℕ) → k < length all → get_or all k no_path ≡ replayed (first + k) h) → AllByRecursion HasEntries all
 all_spelled g h steps first [] each = tt
 all_spelled g h steps first (p ∷ all) each =
-    let here : p ≡ replayed (first + 0) h = each 0 (omega arith) in
-    (subst HasEntries (sym here) (replayed_spelled g h steps (first + 0)),
-        all_spelled g h steps (first + 1) all (λ k lt. let e : first + suc k ≡ first + 1 + k = omega arith in each (suc k) (omega arith) ∙ ap (λ (i : ℕ). replayed i h) e))
+    let here : p ≡ replayed (first + 0) h = each 0 (omega arith) in (
+      subst HasEntries (sym here) (replayed_spelled g h steps (first + 0)),
+      all_spelled g h steps (first + 1) all (λ k lt. let e : first + suc k ≡ first + 1 + k = omega arith in each (suc k) (omega arith) ∙ ap (λ (i : ℕ). replayed i h) e),
+    )
 
 pub paths_spelled : (g : Group) (h : List TraceStep) → IsLawful g h → (all every : List ClientPath) → every ≡ all → AreReplayed g.count h all → AllByRecursion HasEntries every
 paths_spelled g h lawful all every same r =
@@ -115,7 +116,7 @@ unmade_is g xs i x lt is steps hs are made same =
     any_same (λ t. not (is_among made t)) (λ t. not (is_among (texts_made g (reverse (take i xs))) t)) (λ t. ap not (same t)) (taken_with (hash_at hs) (read_by x.input x.returned))
     ∙ ap (list_any (λ t. not (is_among (texts_made g (reverse (take i xs))) t)))
     (ap (λ (ks : List Digest32). taken_with (hash_at ks) (read_by x.input x.returned)) (are ∙ ap (λ (h : List TraceStep). hashes_of g (replayed x.client h).places) (split_at xs i x lt is))
-        ∙ sym (taken_at_step g (reverse (drop (i + 1) xs)) x (reverse (take i xs)) (steps_then g xs i x lt is steps)))
+    ∙ sym (taken_at_step g (reverse (drop (i + 1) xs)) x (reverse (take i xs)) (steps_then g xs i x lt is steps)))
 
 forged_later : (g : Group) (later : List TraceStep) (x : TraceStep) (past : List TraceStep) → takes_unmade g past x ≡ true → is_forged g (later ++ x ∷ past) ≡ true
 unfolding is_forged
@@ -168,9 +169,9 @@ made_next g xs i x lt is steps hs are made new same e =
     let told : texts_made g (x ∷ past) ≡ option_to_list o ++ texts_made g past =
     made_at_step g (reverse (drop (i + 1) xs)) x past (steps_then g xs i x lt is steps)
     ∙ ap (λ (ks : List Digest32). option_to_list (made_by (hash_at ks) x.client (request_in x.sent)) ++ texts_made g past)
-      (sym (are ∙ ap (λ (h : List TraceStep). hashes_of g (replayed x.client h).places) (split_at xs i x lt is))) in
+    (sym (are ∙ ap (λ (h : List TraceStep). hashes_of g (replayed x.client h).places) (split_at xs i x lt is))) in
     λ t. e t ∙ same_more made (texts_made g past) same o t
-        ∙ ap (λ (ts : List (List ℕ)). is_among ts t) (sym told ∙ ap (texts_made g) (sym (newest_step xs i x lt is)))
+    ∙ ap (λ (ts : List (List ℕ)). is_among ts t) (sym told ∙ ap (texts_made g) (sym (newest_step xs i x lt is)))
 
 -- nothing was made before the first step
 pub nothing_made : (g : Group) (made : List (List ℕ)) → made ≡ [] → (is_forged g [] ≡ false) × SameTexts made (texts_made g [])

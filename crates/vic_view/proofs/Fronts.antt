@@ -1,5 +1,5 @@
 -- How lists that are gone through side by side compare.
-use Rattle.std.proofs.Common.{◌≡◌, ℕ, suc, ◌+◌, ◌<◌, ◌≤◌, Bool, true, false, ◌&&◌, List, [], ◌∷◌, length, get_or, drop, if◌then◌else◌, refl, sym, ◌∙◌, ap, arith, drop-cons, add-one}
+use Rattle.std.proofs.Common.{◌≡◌, ℕ, suc, ◌+◌, ◌<◌, ◌&&◌, List, ◌∷◌, length, get_or, drop, if◌then◌else◌, refl, sym, ◌∙◌, ap, drop-cons, add-one}
 use Rattle.std.specs.Cmp.Lexicographic.{pointwise}
 use Rattle.std.specs.Str.{bytes_eq}
 use Rattle.vic_rules.specs.declared.trace.Shown.{Shown}

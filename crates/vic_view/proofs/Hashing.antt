@@ -1,5 +1,5 @@
 -- The hashes along a path by the places of its entries.
-use Rattle.std.proofs.Common.{◌≡◌, ℕ, suc, zero, ◌+◌, ◌-◌, ◌<◌, ◌≤◌, ◌⊎◌, inl, inr, List, [], ◌∷◌, ◌++◌, length, map, take, drop, reverse, get_or, refl, sym, ◌∙◌, ap, subst, arith, append_assoc, length-append}
+use Rattle.std.proofs.Common.{◌≡◌, ℕ, suc, zero, ◌+◌, ◌<◌, ◌≤◌, List, [], ◌∷◌, ◌++◌, length, take, drop, reverse, get_or, refl, sym, ◌∙◌, ap, subst, arith, append_assoc, length-append}
 use Rattle.std.proofs.lemmas.List.{reverse-append, append-nil, take_more, map-append, length-map, length-reverse, length-take-le, take-append-drop}
 use Rattle.vic_dict.specs.declared.op.Entry.{Entry}
 use Rattle.vic_dict.specs.Lists.{front}
@@ -12,11 +12,9 @@ use Rattle.vic_rules.specs.Client.{digest}
 use Rattle.vic_rules.specs.History.{path, AreSteps}
 use Rattle.vic_laws.proofs.Growth.{front_grows, front_whole}
 use Rattle.vic_view.specs.declared.replay.Place.{Place}
-use Rattle.vic_view.specs.declared.replay.ClientPath.{ClientPath}
-use Rattle.vic_view.specs.Replay.{no_path, replayed}
-use Rattle.vic_view.specs.Making.{IsPlaceEntry, hashes_above, hashes_of, hashes_with, hash_at}
+use Rattle.vic_view.specs.Replay.{replayed}
+use Rattle.vic_view.specs.Making.{IsPlaceEntry, hashes_above, hashes_of, hash_at}
 use Rattle.vic_view.proofs.Fronts.{rest_from}
-use Rattle.vic_view.proofs.Loops.{newest_step}
 use Rattle.vic_view.proofs.Replays.{entries, replays_path}
 
 below_next : (e : Entry) (es below : List Entry) → reverse es ++ e ∷ below ≡ reverse (e ∷ es) ++ below
@@ -83,13 +81,12 @@ pub hash_next : (g : Group) (ps : List Place) (i : ℕ) (p : Place) (hs ks : Lis
 hash_next g ps i p hs ks d lt is before made e =
     let below : List Entry = reverse (entries (take i ps)) in
     let below_now : reverse (entries (take (i + 1) ps)) ≡ p.entry ∷ below = newest_entry ps i p lt is in
-    let digest_is : d ≡ digest (chain g (p.entry ∷ below)) = ap digest made in
-    (
+    let digest_is : d ≡ digest (chain g (p.entry ∷ below)) = ap digest made in (
       ap (λ (x : List Digest32). x ++ hashes_above g (reverse (entries (take (i + 1) ps))) (drop (i + 1) ps)) e
-      ∙ append_assoc hs (d ∷ []) (hashes_above g (reverse (entries (take (i + 1) ps))) (drop (i + 1) ps))
-      ∙ ap (λ (es : List Entry). hs ++ d ∷ hashes_above g es (drop (i + 1) ps)) below_now
-      ∙ ap (λ (x : Digest32). hs ++ x ∷ hashes_above g (p.entry ∷ below) (drop (i + 1) ps)) digest_is
-      ∙ ap (λ (qs : List Place). hs ++ hashes_above g below qs) (sym (rest_from ps i p lt is))
-      ∙ before,
+          ∙ append_assoc hs (d ∷ []) (hashes_above g (reverse (entries (take (i + 1) ps))) (drop (i + 1) ps))
+          ∙ ap (λ (es : List Entry). hs ++ d ∷ hashes_above g es (drop (i + 1) ps)) below_now
+          ∙ ap (λ (x : Digest32). hs ++ x ∷ hashes_above g (p.entry ∷ below) (drop (i + 1) ps)) digest_is
+          ∙ ap (λ (qs : List Place). hs ++ hashes_above g below qs) (sym (rest_from ps i p lt is))
+          ∙ before,
       made ∙ ap (chain g) (sym below_now),
     )

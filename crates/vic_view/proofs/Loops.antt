@@ -1,15 +1,11 @@
 -- What the loop over steps keeps.
-use Rattle.std.proofs.Common.{◌≡◌, ℕ, suc, ◌+◌, ◌-◌, ◌<◌, ◌≤◌, Bool, true, false, List, [], ◌∷◌, ◌++◌, length, get_or, take, drop, reverse, Option, Some, None, nat_eq, if◌then◌else◌, refl, sym, ◌∙◌, ap, arith, append_assoc, length-drop}
+use Rattle.std.proofs.Common.{◌≡◌, ℕ, ◌+◌, ◌<◌, Bool, List, [], ◌∷◌, length, get_or, take, reverse, if◌then◌else◌, sym, ◌∙◌, ap}
 use Rattle.std.proofs.lemmas.Bool.{eq-eqb, ne_eqb}
 use Rattle.std.proofs.lemmas.List.{reverse-append, take_more}
-use Rattle.vic_dict.specs.declared.op.Outcome.{Outcome}
-use Rattle.vic_dict.specs.declared.op.Entry.{Entry}
-use Rattle.vic_wire.specs.declared.message.Tagged.{Tagged}
 use Rattle.vic_rules.specs.declared.trace.TraceStep.{TraceStep}
 use Rattle.vic_view.specs.declared.replay.Place.{Place}
 use Rattle.vic_view.specs.declared.replay.ClientPath.{ClientPath}
-use Rattle.vic_view.specs.Replay.{at_end, places_with, path_after, replayed}
-use Rattle.vic_view.proofs.Fronts.{rest_from}
+use Rattle.vic_view.specs.Replay.{path_after, replayed}
 
 -- the newest step of the steps so far
 pub newest_step : {X : Type 0} (xs : List X) (i : ℕ) (x : X) → i < length xs → x ≡ get_or xs i x → reverse (take (i + 1) xs) ≡ x ∷ reverse (take i xs)

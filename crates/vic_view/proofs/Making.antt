@@ -1,8 +1,6 @@
 -- What a lawful step made and took is what its payloads tell.
-use Rattle.std.proofs.Common.{◌≡◌, ℕ, suc, zero, ◌+◌, ◌-◌, ◌<◌, ◌≤◌, ◌^◌, ◌⊎◌, inl, inr, Bool, true, false, not, ◌&&◌, ◌||◌, List, [], ◌∷◌, ◌++◌, length, map, take, drop, reverse, Option, Some, None, nat_eq, if◌then◌else◌, get_or, bytes_eq, refl, sym, ◌∙◌, ap, subst, arith}
+use Rattle.std.proofs.Common.{◌≡◌, ℕ, suc, zero, ◌+◌, ◌<◌, ◌≤◌, ◌^◌, Bool, true, false, ◌&&◌, List, [], ◌∷◌, ◌++◌, length, map, Option, Some, None, nat_eq, if◌then◌else◌, refl, sym, ◌∙◌, ap, subst, arith}
 use Rattle.std.specs.Option.{option_to_list}
-use Rattle.std.specs.List.{list_any}
-use Rattle.std.proofs.lemmas.List.{reverse-append, take-append-drop}
 use Rattle.sha2.proofs.Facts256.{length-sha256}
 use Rattle.vic_dict.specs.declared.op.Op.{Op}
 use Rattle.vic_dict.specs.declared.op.Entry.{Entry}
@@ -10,23 +8,21 @@ use Rattle.vic_dict.specs.Dictionary.{Dictionary, Fits, AreBytesIn}
 use Rattle.vic_dict.specs.Lists.{front}
 use Rattle.vic_wire.specs.declared.message.Seal.{Seal}
 use Rattle.vic_wire.specs.declared.message.Tagged.{Tagged}
-use Rattle.vic_wire.specs.declared.message.ToServer.{ToServer}
 use Rattle.vic_wire.specs.declared.message.ToClient.{ToClient}
 use Rattle.vic_wire.specs.Texts.{invoke_text, commit_text, seal_text}
 use Rattle.vic_wire.specs.Hashes.{Group, chain, tag_of}
-use Rattle.vic_wire.specs.Messages.{HasRequestSpelling, request_text}
-use Rattle.vic_wire.specs.Reading.{read_request}
+use Rattle.vic_wire.specs.Messages.{HasRequestSpelling}
 use Rattle.vic_wire.specs.Trees.{Pair, dictionary_root, tree_of, tree_by, root_of}
 use Rattle.vic_wire.specs.Parts.{Part}
 use Rattle.vic_spellings.proofs.SpelledRequests.{request_again}
 use Rattle.vic_rules.specs.declared.state.Own.{Own}
 use Rattle.vic_rules.specs.declared.trace.Input.{Input}
 use Rattle.vic_rules.specs.declared.trace.TraceStep.{TraceStep}
-use Rattle.vic_rules.specs.Client.{Standing, Move, Sending, Invokes, Commits, Polls, Seals, Syncs, step, MayStep, request_of, payload_of, made_text, commit_text_on, seal_text_on, seal_of, entries_of, new_root, is_write}
-use Rattle.vic_rules.specs.History.{standing, path, move_of, IsStep, AreSteps}
+use Rattle.vic_rules.specs.Client.{Standing, Move, Sending, Invokes, Commits, Polls, Seals, Syncs, step, request_of, payload_of, made_text, commit_text_on, seal_text_on, seal_of, entries_of, new_root, is_write}
+use Rattle.vic_rules.specs.History.{standing, path, move_of, AreSteps}
 use Rattle.vic_rules.specs.Trust.{taken_by, took, seal_texts, checked_texts, texts_taken, text_sent, texts_made}
 use Rattle.vic_laws.proofs.Words.{some_same, none_is_some}
-use Rattle.vic_laws.proofs.Steps.{Quiet, Called, Replied, Updated, Listed, Kind, is_quiet, is_called, is_replied, is_updated, is_listed}
+use Rattle.vic_laws.proofs.Steps.{Kind, is_quiet, is_called, is_replied, is_updated, is_listed}
 use Rattle.vic_laws.proofs.StepKinds.{step_kind}
 use Rattle.vic_laws.proofs.Standings.{standing_moved, earlier_steps}
 use Rattle.vic_laws.proofs.Paths.{at_each_standing}
@@ -181,7 +177,7 @@ made_at_step g later x past steps =
     let kind : Kind g x.client (standing g x.client past) x.input v = step_kind g x.client (standing g x.client past) x.input here.1.may in
     ap (λ (ts : List (List ℕ)). ts ++ texts_made g past)
     (made_is g x.client v.next at within (hash_then g later x past steps) v.sends (spelled_by g x.client (standing g x.client past) x.input v kind (path_few g past here.0 x.client))
-        ∙ ap (λ (o : Option (List ℕ)). option_to_list (made_by at x.client (request_in o))) (sym here.1.sent))
+    ∙ ap (λ (o : Option (List ℕ)). option_to_list (made_by at x.client (request_in o))) (sym here.1.sent))
 
 -- the texts that were taken at a step
 pub taken_at_step : (g : Group) (later : List TraceStep) (x : TraceStep) (past : List TraceStep) → AreSteps g (later ++ x ∷ past)

@@ -1,6 +1,6 @@
 -- The replay marks each completion at the place where its call stands, and marks nothing else.
-use Rattle.std.proofs.Common.{◌≡◌, ℕ, suc, zero, ◌+◌, ◌<◌, ◌≤◌, ◌⊎◌, inl, inr, List, [], ◌∷◌, ◌++◌, length, map, take, reverse, Option, Some, None, refl, sym, ◌∙◌, ap, subst, arith, append_assoc, length-append, Bool, if◌then◌else◌}
-use Rattle.std.specs.Option.{IfSome, IsSome}
+use Rattle.std.proofs.Common.{◌≡◌, ℕ, ◌≤◌, ◌⊎◌, inl, inr, List, [], ◌∷◌, ◌++◌, length, take, reverse, Option, Some, None, refl, sym, ◌∙◌, ap, subst, arith, append_assoc, length-append, Bool, if◌then◌else◌}
+use Rattle.std.specs.Option.{IfSome}
 use Rattle.std.proofs.lemmas.Bool.{eq-eqb, ne_eqb}
 use Rattle.std.proofs.lemmas.List.{reverse-append, append-nil, map-append, take-append-le, take_all, length-map}
 use Rattle.vic_dict.specs.declared.op.Entry.{Entry}
@@ -10,16 +10,14 @@ use Rattle.vic_dict.specs.Lists.{IsIn}
 use Rattle.vic_wire.specs.declared.message.Tagged.{Tagged}
 use Rattle.vic_wire.specs.Hashes.{Group}
 use Rattle.vic_rules.specs.declared.trace.TraceStep.{TraceStep}
-use Rattle.vic_wire.specs.declared.message.ToClient.{ToClient}
 use Rattle.vic_rules.specs.Client.{onto, newest_first}
-use Rattle.vic_rules.specs.History.{standing, path, move_of, AreSteps, IsStep, Completion, completion, completions}
+use Rattle.vic_rules.specs.History.{standing, path, AreSteps, IsStep, Completion, completion, completions}
 use Rattle.vic_rules.specs.Views.{last_prefix}
-use Rattle.vic_laws.proofs.Words.{in_right, in_either}
 use Rattle.vic_laws.proofs.Steps.{call_of}
 use Rattle.vic_laws.proofs.Calls.{RepliedAt, completed_by, completion_stays, completion_after}
 use Rattle.vic_view.specs.declared.replay.Place.{Place}
 use Rattle.vic_view.specs.declared.replay.ClientPath.{ClientPath}
-use Rattle.vic_view.specs.Replay.{read_by, entries_in, entries_at, completed_with, at_end, places_with, path_with, path_after, replayed}
+use Rattle.vic_view.specs.Replay.{read_by, entries_in, entries_at, completed_with, places_with, path_with, path_after, replayed}
 use Rattle.vic_view.proofs.Replays.{taken_told, entries, replayed_own, replayed_other, own_or_other, replays_path, path_joined}
 
 abbrev pub completed_as : ℕ → List Entry → Outcome → Completion
@@ -92,22 +90,22 @@ marks_hold g (x ∷ past) steps me =
     marks_weaker (completions g past) (completions g (x ∷ past)) (completion_stays g past x) me [] (replayed me past).places (marks_hold g past steps.0 me) in
     own_or_other me x (MarksHold (completions g (x ∷ past)) me [] (replayed me (x ∷ past)).places)
     (λ e.
-        let o : Option Outcome = completed_with x.returned in
-        let ts : List Tagged = entries_at x in
-        let before : List Place = (replayed me past).places in
-        let joined : path g x.client (x ∷ past) ≡ onto ts (reverse (entries before)) =
-        path_joined g past x steps.1 ∙ ap (λ (i : ℕ). onto ts (path g i past)) e ∙ ap (onto ts) (sym (replays_path g past steps.0 me)) in
-        let there : IfSome o (λ y. IsIn (completions g (x ∷ past)) (completed_as x.client (path g x.client (x ∷ past)) y)) =
-        subst (λ (cs : List Completion). IfSome o (λ y. IsIn cs (completed_as x.client (path g x.client (x ∷ past)) y))) (sym (completions_told g past x))
-        (first_is_one (completions g past) x.client (path g x.client (x ∷ past)) o) in
-        let mine : IfSome o (λ y. IsIn (completions g (x ∷ past)) (completed_as me (path g x.client (x ∷ past)) y)) =
-        subst (λ (i : ℕ). IfSome o (λ y. IsIn (completions g (x ∷ past)) (completed_as i (path g x.client (x ∷ past)) y))) e there in
-        let here : IfSome o (λ y. IsIn (completions g (x ∷ past)) (completed_as me (onto ts (reverse (entries before))) y)) =
-        subst (λ (p : List Entry). IfSome o (λ y. IsIn (completions g (x ∷ past)) (completed_as me p y))) joined mine in
-        let new : MarksHold (completions g (x ∷ past)) me (reverse (entries before)) (places_with o ts) = marks_with (completions g (x ∷ past)) me o ts (reverse (entries before)) here in
-        subst (λ (p : ClientPath). MarksHold (completions g (x ∷ past)) me [] p.places) (sym (replayed_own me x past e))
-        (marks_append (completions g (x ∷ past)) me [] before (places_with o ts) old
-        (subst (λ (es : List Entry). MarksHold (completions g (x ∷ past)) me es (places_with o ts)) (sym (append-nil (reverse (entries before)))) new)))
+    let o : Option Outcome = completed_with x.returned in
+    let ts : List Tagged = entries_at x in
+    let before : List Place = (replayed me past).places in
+    let joined : path g x.client (x ∷ past) ≡ onto ts (reverse (entries before)) =
+    path_joined g past x steps.1 ∙ ap (λ (i : ℕ). onto ts (path g i past)) e ∙ ap (onto ts) (sym (replays_path g past steps.0 me)) in
+    let there : IfSome o (λ y. IsIn (completions g (x ∷ past)) (completed_as x.client (path g x.client (x ∷ past)) y)) =
+    subst (λ (cs : List Completion). IfSome o (λ y. IsIn cs (completed_as x.client (path g x.client (x ∷ past)) y))) (sym (completions_told g past x))
+    (first_is_one (completions g past) x.client (path g x.client (x ∷ past)) o) in
+    let mine : IfSome o (λ y. IsIn (completions g (x ∷ past)) (completed_as me (path g x.client (x ∷ past)) y)) =
+    subst (λ (i : ℕ). IfSome o (λ y. IsIn (completions g (x ∷ past)) (completed_as i (path g x.client (x ∷ past)) y))) e there in
+    let here : IfSome o (λ y. IsIn (completions g (x ∷ past)) (completed_as me (onto ts (reverse (entries before))) y)) =
+    subst (λ (p : List Entry). IfSome o (λ y. IsIn (completions g (x ∷ past)) (completed_as me p y))) joined mine in
+    let new : MarksHold (completions g (x ∷ past)) me (reverse (entries before)) (places_with o ts) = marks_with (completions g (x ∷ past)) me o ts (reverse (entries before)) here in
+    subst (λ (p : ClientPath). MarksHold (completions g (x ∷ past)) me [] p.places) (sym (replayed_own me x past e))
+    (marks_append (completions g (x ∷ past)) me [] before (places_with o ts) old
+    (subst (λ (es : List Entry). MarksHold (completions g (x ∷ past)) me es (places_with o ts)) (sym (append-nil (reverse (entries before)))) new)))
     (λ e. subst (λ (p : ClientPath). MarksHold (completions g (x ∷ past)) me [] p.places) (sym (replayed_other me x past e)) old)
 
 -- ---- each completion is marked
@@ -177,7 +175,7 @@ unfolding path_after
 marked_later g past x me q m =
     own_or_other me x (IsMarked [] (replayed me (x ∷ past)).places q)
     (λ e. subst (λ (p : ClientPath). IsMarked [] p.places q) (sym (replayed_own me x past e))
-        (marked_left [] (replayed me past).places (places_with (completed_with x.returned) (entries_at x)) q m))
+    (marked_left [] (replayed me past).places (places_with (completed_with x.returned) (entries_at x)) q m))
     (λ e. subst (λ (p : ClientPath). IsMarked [] p.places q) (sym (replayed_other me x past e)) m)
 
 -- each completion is marked on its client's path
@@ -228,9 +226,9 @@ last_own me None now cs p ps d e = record {
 last_own me (Some y) now cs p ps d e = record {
   within = omega arith;
   front =
-    ap (λ (b : Bool). if b then now else last_prefix me cs) (eq-eqb me me refl)
-    ∙ e
-    ∙ ap reverse (sym (take_all (length (p.places ++ ps)) (entries (p.places ++ ps)) (omega (arith, length-map (p.places ++ ps) (λ (q : Place). q.entry)))));
+      ap (λ (b : Bool). if b then now else last_prefix me cs) (eq-eqb me me refl)
+      ∙ e
+      ∙ ap reverse (sym (take_all (length (p.places ++ ps)) (entries (p.places ++ ps)) (omega (arith, length-map (p.places ++ ps) (λ (q : Place). q.entry)))));
 }
 
 -- the path up to the client's last completed call
@@ -240,19 +238,19 @@ done_is g [] steps me = record { within = omega arith; front = refl }
 done_is g (x ∷ past) steps me =
     own_or_other me x (EndsDone (last_prefix me (completions g (x ∷ past))) (replayed me (x ∷ past)))
     (λ e.
-        let o : Option Outcome = completed_with x.returned in
-        let now : List Entry = path g x.client (x ∷ past) in
-        let is_now : now ≡ reverse (entries ((replayed me past).places ++ places_with o (entries_at x))) =
-        ap (λ (i : ℕ). path g i (x ∷ past)) e ∙ sym (replays_path g (x ∷ past) steps me) ∙ ap (λ (p : ClientPath). reverse (entries p.places)) (replayed_own me x past e) in
-        let told : completions g (x ∷ past) ≡ one_completion me now o ++ completions g past =
-        completions_told g past x ∙ ap (λ (i : ℕ). one_completion i now o ++ completions g past) e in
-        subst (λ (cs : List Completion). EndsDone (last_prefix me cs) (replayed me (x ∷ past))) (sym told)
-        (subst (EndsDone (last_prefix me (one_completion me now o ++ completions g past))) (sym (replayed_own me x past e))
-        (last_own me o now (completions g past) (replayed me past) (places_with o (entries_at x)) (done_is g past steps.0 me) is_now)))
+    let o : Option Outcome = completed_with x.returned in
+    let now : List Entry = path g x.client (x ∷ past) in
+    let is_now : now ≡ reverse (entries ((replayed me past).places ++ places_with o (entries_at x))) =
+    ap (λ (i : ℕ). path g i (x ∷ past)) e ∙ sym (replays_path g (x ∷ past) steps me) ∙ ap (λ (p : ClientPath). reverse (entries p.places)) (replayed_own me x past e) in
+    let told : completions g (x ∷ past) ≡ one_completion me now o ++ completions g past =
+    completions_told g past x ∙ ap (λ (i : ℕ). one_completion i now o ++ completions g past) e in
+    subst (λ (cs : List Completion). EndsDone (last_prefix me cs) (replayed me (x ∷ past))) (sym told)
+    (subst (EndsDone (last_prefix me (one_completion me now o ++ completions g past))) (sym (replayed_own me x past e))
+    (last_own me o now (completions g past) (replayed me past) (places_with o (entries_at x)) (done_is g past steps.0 me) is_now)))
     (λ e.
-        let o : Option Outcome = completed_with x.returned in
-        let now : List Entry = path g x.client (x ∷ past) in
-        let same : last_prefix me (completions g past) ≡ last_prefix me (completions g (x ∷ past)) =
-        sym (ap (last_prefix me) (completions_told g past x) ∙ last_other me x.client now o (completions g past) e) in
-        subst (λ (p : List Entry). EndsDone p (replayed me (x ∷ past))) same
-        (subst (EndsDone (last_prefix me (completions g past))) (sym (replayed_other me x past e)) (done_is g past steps.0 me)))
+    let o : Option Outcome = completed_with x.returned in
+    let now : List Entry = path g x.client (x ∷ past) in
+    let same : last_prefix me (completions g past) ≡ last_prefix me (completions g (x ∷ past)) =
+    sym (ap (last_prefix me) (completions_told g past x) ∙ last_other me x.client now o (completions g past) e) in
+    subst (λ (p : List Entry). EndsDone p (replayed me (x ∷ past))) same
+    (subst (EndsDone (last_prefix me (completions g past))) (sym (replayed_other me x past e)) (done_is g past steps.0 me)))

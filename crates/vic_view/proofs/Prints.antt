@@ -1,5 +1,5 @@
 -- What the loops over views print is what is printed of the history.
-use Rattle.std.proofs.Common.{◌≡◌, ℕ, suc, zero, ◌+◌, ◌-◌, ◌<◌, ◌≤◌, Bool, List, [], ◌∷◌, ◌++◌, length, map, reverse, get_or, refl, sym, ◌∙◌, ap, arith, append_assoc}
+use Rattle.std.proofs.Common.{◌≡◌, ℕ, suc, zero, ◌+◌, ◌-◌, ◌<◌, ◌≤◌, Bool, List, [], ◌∷◌, ◌++◌, length, map, reverse, get_or, refl, sym, ◌∙◌, ap, arith}
 use Rattle.std.specs.List.{flat_map}
 use Rattle.std.proofs.lemmas.List.{reverse-reverse, map-append, length-map}
 use Rattle.vic_wire.specs.Hashes.{Group}
@@ -7,10 +7,10 @@ use Rattle.vic_rules.specs.declared.trace.TraceStep.{TraceStep}
 use Rattle.vic_rules.specs.declared.trace.Shown.{Shown}
 use Rattle.vic_rules.specs.History.{IsLawful}
 use Rattle.vic_rules.specs.Views.{view_of}
-use Rattle.vic_script.specs.Print.{shown_line, view_lines, agree_line, numbers_from, agreement, all_views, all_agreements, tags_line}
+use Rattle.vic_script.specs.Print.{view_lines, agree_line, numbers_from, all_views, all_agreements, tags_line}
 use Rattle.vic_view.specs.declared.replay.ClientPath.{ClientPath}
 use Rattle.vic_view.specs.Replay.{no_path, replayed, AreReplayed, shown_below, places_among}
-use Rattle.vic_view.specs.Printed.{shown_view, views_up_to, view_text, view_texts, agree_text, agree_with, agree_texts}
+use Rattle.vic_view.specs.Printed.{shown_view, views_up_to, view_texts, agree_with, agree_texts}
 use Rattle.vic_view.proofs.Shows.{view_shown, done_within}
 
 -- within a list the default doesn't matter

@@ -1,11 +1,10 @@
 -- The replay gives each client's path: a step tells the answer that was taken, and so the entries that join the path.
-use Rattle.std.proofs.Common.{◌≡◌, ℕ, ◌+◌, ◌<◌, ◌≤◌, ◌⊎◌, inl, inr, Bool, true, false, not, List, [], ◌∷◌, ◌++◌, length, map, take, reverse, Option, Some, None, is_none, nat_eq, if◌then◌else◌, refl, sym, ◌∙◌, ap, subst, arith, append_assoc, length-append}
+use Rattle.std.proofs.Common.{◌≡◌, ℕ, inl, inr, Bool, true, false, not, List, [], ◌∷◌, ◌++◌, map, reverse, Option, Some, None, is_none, if◌then◌else◌, refl, sym, ◌∙◌, ap, append_assoc}
 use Rattle.std.proofs.lemmas.Bool.{cases_eq, eq-eqb, ne_eqb}
-use Rattle.std.proofs.lemmas.List.{reverse-append, append-nil, map-append, take-append-le}
+use Rattle.std.proofs.lemmas.List.{reverse-append, map-append}
 use Rattle.vic_dict.specs.declared.op.Op.{Op}
 use Rattle.vic_dict.specs.declared.op.Entry.{Entry}
 use Rattle.vic_dict.specs.declared.op.Outcome.{Outcome}
-use Rattle.vic_dict.specs.declared.op.Outcome.TheVariants as outcome
 use Rattle.vic_dict.specs.Dictionary.{Dictionary}
 use Rattle.vic_wire.specs.declared.message.Seal.{Seal}
 use Rattle.vic_wire.specs.declared.message.Tagged.{Tagged}
@@ -20,15 +19,15 @@ use Rattle.vic_rules.specs.declared.state.Own.{Own}
 use Rattle.vic_rules.specs.declared.trace.Input.{Input}
 use Rattle.vic_rules.specs.declared.trace.Input.TheVariants as input
 use Rattle.vic_rules.specs.declared.trace.TraceStep.{TraceStep}
-use Rattle.vic_rules.specs.Client.{Standing, Move, moves, onto, newest_first, grown, entries_of, seal_of, halts, decided, decision, replied, updated, taken, taken_or_halts, on_payload, verdict, step, MayStep}
+use Rattle.vic_rules.specs.Client.{Standing, Move, onto, grown, entries_of, seal_of, decided, decision, replied, updated, taken, taken_or_halts, on_payload, verdict, step}
 use Rattle.vic_rules.specs.History.{standing, path, move_of, IsStep, AreSteps}
 use Rattle.vic_rules.specs.Trust.{taken_by}
-use Rattle.vic_laws.proofs.Steps.{Quiet, Called, Replied, Updated, Listed, Kind, is_quiet, is_called, is_replied, is_updated, is_listed}
+use Rattle.vic_laws.proofs.Steps.{Kind, is_quiet, is_called, is_replied, is_updated, is_listed}
 use Rattle.vic_laws.proofs.StepKinds.{step_kind, onto_is}
 use Rattle.vic_laws.proofs.Standings.{standing_moved, standing_kept}
 use Rattle.vic_view.specs.declared.replay.Place.{Place}
 use Rattle.vic_view.specs.declared.replay.ClientPath.{ClientPath}
-use Rattle.vic_view.specs.Replay.{is_halt, read_by, entries_in, entries_at, completed_with, at_end, places_with, length_then, no_path, path_with, path_after, replayed}
+use Rattle.vic_view.specs.Replay.{is_halt, read_by, entries_in, entries_at, completed_with, places_with, path_after, replayed}
 
 -- ---- what was taken
 
@@ -154,13 +153,13 @@ replays_path g [] steps me = refl
 replays_path g (x ∷ past) steps me =
     own_or_other me x (reverse (entries (replayed me (x ∷ past)).places) ≡ path g me (x ∷ past))
     (λ e.
-        ap (λ (p : ClientPath). reverse (entries p.places)) (replayed_own me x past e)
-        ∙ reverse_joined (replayed me past).places (completed_with x.returned) (entries_at x)
-        ∙ ap (onto (entries_at x)) (replays_path g past steps.0 me)
-        ∙ ap (λ (i : ℕ). onto (entries_at x) (path g i past)) (sym e)
-        ∙ sym (path_joined g past x steps.1)
-        ∙ ap (λ (i : ℕ). path g i (x ∷ past)) e)
+    ap (λ (p : ClientPath). reverse (entries p.places)) (replayed_own me x past e)
+    ∙ reverse_joined (replayed me past).places (completed_with x.returned) (entries_at x)
+    ∙ ap (onto (entries_at x)) (replays_path g past steps.0 me)
+    ∙ ap (λ (i : ℕ). onto (entries_at x) (path g i past)) (sym e)
+    ∙ sym (path_joined g past x steps.1)
+    ∙ ap (λ (i : ℕ). path g i (x ∷ past)) e)
     (λ e.
-        ap (λ (p : ClientPath). reverse (entries p.places)) (replayed_other me x past e)
-        ∙ replays_path g past steps.0 me
-        ∙ sym (ap (λ (s : Standing). s.path) (standing_kept g me x past e)))
+    ap (λ (p : ClientPath). reverse (entries p.places)) (replayed_other me x past e)
+    ∙ replays_path g past steps.0 me
+    ∙ sym (ap (λ (s : Standing). s.path) (standing_kept g me x past e)))

@@ -1,10 +1,10 @@
 -- What is shown of a path by comparing it with the other clients' paths is its view.
-use Rattle.std.proofs.Common.{◌≡◌, ℕ, suc, zero, ◌+◌, ◌-◌, ◌<◌, ◌≤◌, ◌⊎◌, inl, inr, Bool, true, false, List, [], ◌∷◌, ◌++◌, length, map, take, reverse, Option, Some, None, nat_eq, nat_lt, if◌then◌else◌, get_or, refl, sym, ◌∙◌, ap, subst, arith, append_assoc, ltb-true, lt-ltb, true≢false}
+use Rattle.std.proofs.Common.{◌≡◌, ℕ, suc, zero, ◌+◌, ◌-◌, ◌<◌, ◌≤◌, ◌⊎◌, inl, inr, Bool, true, false, List, [], ◌∷◌, ◌++◌, length, take, reverse, Option, Some, None, nat_eq, nat_lt, if◌then◌else◌, get_or, refl, sym, ◌∙◌, ap, subst, arith, append_assoc, ltb-true, lt-ltb}
 use Rattle.std.specs.Prelude.{slice_get}
 use Rattle.std.specs.Option.{IfSome, option_map}
 use Rattle.std.proofs.lemmas.Bool.{cases_eq, eq-eqb, ne_eqb}
 use Rattle.std.proofs.lemmas.List.{reverse-append, reverse-reverse, append-nil, length-map, length-reverse, length-take-le, get_or_past}
-use Rattle.std.proofs.lemmas.Option.{slice_get-map, slice_get_within, slice_get-get_or, get_or_from_slice_get}
+use Rattle.std.proofs.lemmas.Option.{slice_get-map, slice_get_within, get_or_from_slice_get}
 use Rattle.vic_dict.specs.declared.op.Entry.{Entry}
 use Rattle.vic_dict.specs.declared.op.Outcome.{Outcome}
 use Rattle.vic_dict.specs.Lists.{IsIn}
@@ -21,8 +21,8 @@ use Rattle.vic_view.specs.declared.replay.Place.{Place}
 use Rattle.vic_view.specs.declared.replay.ClientPath.{ClientPath}
 use Rattle.vic_view.specs.Replay.{no_path, replayed, AreReplayed, common, path_among, places_among, lengths_with, outcome_among, outcome_of, outcome_there, shown_by, shown_place, shown_below}
 use Rattle.vic_view.proofs.Loops.{newest_step}
-use Rattle.vic_view.proofs.Replays.{entries, own_or_other, replayed_own, replayed_other}
-use Rattle.vic_view.proofs.Marks.{completed_as, MarksHold, IsMarked, marks_hold, all_marked, EndsDone, done_is, done_front}
+use Rattle.vic_view.proofs.Replays.{entries, replayed_other}
+use Rattle.vic_view.proofs.Marks.{completed_as, MarksHold, IsMarked, marks_hold, all_marked, EndsDone, done_is}
 
 -- ---- fronts of two paths
 
@@ -168,9 +168,11 @@ confirmed_found g h steps mine n p here c is =
     let fronts : take (n + 1) (entries mine) ≡ take (n + 1) (entries theirs) =
     sym (reverse-reverse (take (n + 1) (entries mine))) ∙ ap reverse (my_front ∙ their_front)
     ∙ reverse-reverse (take (m.number + 1) (entries theirs)) ∙ ap (λ (k : ℕ). take (k + 1) (entries theirs)) same in
-    let far : n + 1 ≤ common mine theirs = take_common mine theirs (n + 1) (omega arith) fronts in
-    (m.outcome, there_now (nat_lt n (common mine theirs)) (slice_get theirs n) m.place m.outcome (lt-ltb n (common mine theirs) (omega arith))
-        (ap (slice_get theirs) (sym same) ∙ m.there) m.marked)
+    let far : n + 1 ≤ common mine theirs = take_common mine theirs (n + 1) (omega arith) fronts in (
+      m.outcome,
+      there_now (nat_lt n (common mine theirs)) (slice_get theirs n) m.place m.outcome (lt-ltb n (common mine theirs) (omega arith))
+          (ap (slice_get theirs) (sym same) ∙ m.there) m.marked,
+    )
 
 -- ---- what is shown
 

@@ -1,5 +1,5 @@
 -- A set of texts in the order of their bytes has what was put into it.
-use Rattle.std.proofs.Common.{◌≡◌, ℕ, Bool, true, false, ◌||◌, List, [], ◌∷◌, ◌++◌, map, bytes_eq, refl, sym, ◌∙◌, ap, subst}
+use Rattle.std.proofs.Common.{◌≡◌, ℕ, Bool, true, false, ◌||◌, List, [], ◌∷◌, ◌++◌, map, bytes_eq, refl, sym, ◌∙◌, ap}
 use Rattle.std.specs.List.{list_any}
 use Rattle.std.specs.Ordering.{nat_cmp, is_eq, match_ordering}
 use Rattle.std.specs.declared.cmp.Ordering.{Ordering}
@@ -10,7 +10,7 @@ use Rattle.std.proofs.lemmas.Map.Text.{is_eq-slice_cmp}
 use Rattle.std.proofs.lemmas.Slice.Eq.{bytes_eq-Decides}
 use Rattle.vic_script.specs.Print.{is_among}
 use Rattle.vic_view.specs.Making.{SameTexts}
-use Rattle.vic_view.proofs.Forging.{among_append, or_swap, or_none}
+use Rattle.vic_view.proofs.Forging.{among_append, or_none}
 
 -- a text is found by its order exactly where it is among the texts
 pub found_among : {V : Type 0} (items : V → List ℕ) (ks : List V) (t : List ℕ) → list_any (λ k. is_eq (slice_cmp nat_cmp t (items k))) ks ≡ is_among (map items ks) t

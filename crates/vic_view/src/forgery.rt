@@ -12,6 +12,9 @@ ghost use Rattle.vic_view.specs.Transcripts.{group_of, history_of};
 ghost use Rattle.vic_view.specs.Replay.{read_by};
 ghost use Rattle.vic_view.specs.Making.{IsPlaceEntry, HasEntries, hashes_of, hashes_with, hash_at, request_in, made_by, seal_texts_by, taken_with, has_unmade, SameTexts};
 
+use crate::replay::{ClientPath, Place, answer_taken};
+use crate::transcript::Transcript;
+use crate::views::all_paths;
 use std::alloc::Global;
 use std::collections::BTreeSet;
 use std::marker::Model;
@@ -21,10 +24,6 @@ use vic_fields::{put_digest, put_op, put_u8, put_u32};
 use vic_frames::decode_request;
 use vic_rules::TraceStep;
 use vic_wire::{Digest32, Seal, Tagged, ToClient, ToServer};
-
-use crate::replay::{ClientPath, Place, answer_taken};
-use crate::transcript::Transcript;
-use crate::views::all_paths;
 
 /// The hashes along a path: that of the empty path, that with its oldest entry, and so on.
 #[derive(Debug, Drop)]
@@ -203,7 +202,12 @@ fn commit_of(alloc: Global, position: u32, hash: &Digest32, done: bool) -> Resul
     Ok(text)
 }
 
-fn seal_of(alloc: Global, position: u32, hash: &Digest32, root: &Digest32) -> Result<Bytes, NoMemory>
+fn seal_of(
+    alloc: Global,
+    position: u32,
+    hash: &Digest32,
+    root: &Digest32,
+) -> Result<Bytes, NoMemory>
     ensures { IfOk result (λ text. text ≡ seal_text position hash.now.bytes root.now.bytes) }
 {
     let mut text = Bytes::new(alloc);
@@ -244,7 +248,11 @@ fn text_of(
 }
 
 /// The text that a client made at a step.
-fn text_made(alloc: Global, step: &TraceStep, hashes: &[Digest32]) -> Result<Option<Bytes>, NoMemory>
+fn text_made(
+    alloc: Global,
+    step: &TraceStep,
+    hashes: &[Digest32],
+) -> Result<Option<Bytes>, NoMemory>
     ensures { IfOk result (λ o. o ≡ made_by (hash_at hashes.now) step.now.client (request_in step.now.sent)) }
 {
     let Some(payload) = &step.sent else {
@@ -285,7 +293,12 @@ fn is_seal_unmade(
     if seal.position == 0 {
         return Ok(false);
     }
-    let text = seal_of(alloc, seal.position, &hash_with(hashes, seal.position), &seal.root)?;
+    let text = seal_of(
+        alloc,
+        seal.position,
+        &hash_with(hashes, seal.position),
+        &seal.root,
+    )?;
     Ok(!made.has(text.as_slice()))
 }
 

@@ -8,16 +8,15 @@ ghost use Rattle.vic_script.specs.Print.{shown_line, agreement, tags_line, is_fo
 ghost use Rattle.vic_view.specs.Transcripts.{group_of, history_of};
 ghost use Rattle.vic_view.specs.Printed.{views_up_to, view_text, view_texts, agree_text, agree_with, agree_texts};
 
+use crate::forgery::forged;
+use crate::transcript::Transcript;
+use crate::view::{View, common_calls};
+use crate::views::{all_paths, view_among};
 use std::alloc::Global;
 use std::marker::Model;
 use vic_dict::{Bytes, NoMemory};
 use vic_rules::Shown;
 use vic_text::{put_number, put_op, put_outcome};
-
-use crate::forgery::forged;
-use crate::transcript::Transcript;
-use crate::view::{View, common_calls};
-use crate::views::{all_paths, view_among};
 
 /// The views of clients 1, 2 and so on.
 #[derive(Debug, Drop)]

@@ -6,14 +6,13 @@ ghost use Rattle.vic_wire.specs.Reading.{read_answer};
 ghost use Rattle.vic_view.specs.Transcripts.{history_of};
 ghost use Rattle.vic_view.specs.Replay.{is_halt, read_by, entries_in, entries_at, completed_with, places_with, path_after, replayed, AreReplayed};
 
+use crate::transcript::Transcript;
 use std::alloc::Global;
 use std::marker::Model;
 use vic_dict::{Bytes, Entry, NoMemory, Outcome};
 use vic_frames::decode_answer;
 use vic_rules::{Input, TraceStep};
 use vic_wire::{Tagged, TaggedList, ToClient};
-
-use crate::transcript::Transcript;
 
 /// A position of a client's path: the entry, and how the client completed this call here, if it did.
 #[derive(Debug, Drop)]
@@ -102,7 +101,11 @@ fn has_completed(returned: &Option<Outcome>) -> bool
 }
 
 /// The outcome of a call that was completed, where it is asked for.
-fn completed(alloc: Global, returned: &Option<Outcome>, asked: bool) -> Result<Option<Outcome>, NoMemory>
+fn completed(
+    alloc: Global,
+    returned: &Option<Outcome>,
+    asked: bool,
+) -> Result<Option<Outcome>, NoMemory>
     ensures { IfOk result (λ o. o ≡ (if asked then completed_with returned.now else None)) }
 {
     if !asked {

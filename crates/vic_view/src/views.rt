@@ -6,14 +6,13 @@ ghost use Rattle.vic_rules.specs.Views.{view_of as view_after};
 ghost use Rattle.vic_view.specs.Transcripts.{group_of, history_of};
 ghost use Rattle.vic_view.specs.Replay.{AreReplayed, common, outcome_of, length_among, outcome_among, lengths_with, places_among, shown_by, shown_below};
 
+use crate::replay::{ClientPath, Place, Places, path_of};
+use crate::transcript::Transcript;
+use crate::view::{View, same_entry};
 use std::alloc::Global;
 use std::marker::Model;
 use vic_dict::{NoMemory, Outcome};
 use vic_rules::Shown;
-
-use crate::replay::{ClientPath, Place, Places, path_of};
-use crate::transcript::Transcript;
-use crate::view::{View, same_entry};
 
 /// The paths of clients 1, 2 and so on.
 #[derive(Debug, Drop)]
@@ -126,7 +125,12 @@ fn owner_outcome(
 }
 
 /// Shows a place's call, if its owner completed it.
-fn show(alloc: Global, view: &mut View, place: &Place, outcome: Option<Outcome>) -> Result<(), NoMemory>
+fn show(
+    alloc: Global,
+    view: &mut View,
+    place: &Place,
+    outcome: Option<Outcome>,
+) -> Result<(), NoMemory>
     ensures { OnOk result (view.new ≡ view.old ++ shown_by place.now.entry outcome) }
 {
     if let Some(outcome) = outcome {
@@ -139,7 +143,11 @@ fn show(alloc: Global, view: &mut View, place: &Place, outcome: Option<Outcome>)
 }
 
 /// What a path shows, up to its client's last completed call.
-pub(crate) fn view_among(alloc: Global, mine: &ClientPath, all: &[ClientPath]) -> Result<View, NoMemory>
+pub(crate) fn view_among(
+    alloc: Global,
+    mine: &ClientPath,
+    all: &[ClientPath],
+) -> Result<View, NoMemory>
     requires { mine.now.done ≤ length mine.now.places }
     ensures { IfOk result (λ v. reverse v ≡ shown_below (places_among all.now) mine.now.places mine.now.done) }
 {

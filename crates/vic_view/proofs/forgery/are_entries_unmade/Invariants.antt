@@ -7,4 +7,4 @@ use Rattle.vic_view.proofs.forgery.are_entries_unmade.Given as goal
 
 abbrev pub invariant-loop-item : goal.invariant-loop-item
 invariant-loop-item l = AllByRecursion IsTagged (drop l.item-index l.entries)
-  × (has_unmade l.made (map (λ t. invoke_text t.entry) l.entries) ≡ has_unmade l.made (map (λ t. invoke_text t.entry) (drop l.item-index l.entries)))
+    × (has_unmade l.made (map (λ t. invoke_text t.entry) l.entries) ≡ has_unmade l.made (map (λ t. invoke_text t.entry) (drop l.item-index l.entries)))

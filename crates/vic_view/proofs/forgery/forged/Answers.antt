@@ -1,7 +1,6 @@
-use Rattle.std.proofs.Common.{◌≡◌, ◌<◌, ◌≤◌, ◌+◌, true, false, ap, subst, sym, ◌∙◌, ℕ, List, take, reverse}
+use Rattle.std.proofs.Common.{◌≡◌, true, false, ap, subst, sym, ◌∙◌, List, take, reverse}
 use Rattle.vic_rules.specs.declared.trace.TraceStep.{TraceStep}
 use Rattle.vic_rules.specs.History.{AreSteps}
-use Rattle.vic_rules.specs.Trust.{texts_made}
 use Rattle.vic_script.specs.Print.{is_forged, takes_unmade}
 use Rattle.vic_view.specs.Transcripts.{group_of, history_of}
 use Rattle.vic_view.proofs.Forging.{paths_spelled, is_member, hashes_then, within_hashes, unmade_is, forged_at, not_forged_next, made_next, nothing_made}
@@ -33,7 +32,7 @@ returns-then-branch c =
     let steps = subst (AreSteps g) (ap (reverse {A = TraceStep}) (sym c.as_slice-step-items.ensures)) c.requires.steps in
     let member = is_member g xs i c.step-item.result c.loop-step-test.true c.step-item.is steps in
     let hashes = hashes_then g (history_of c.args.t.now) xs (ap (reverse {A = TraceStep}) c.as_slice-step-items.ensures) c.in_ok-paths.paths c.as_slice.result.now c.as_slice.ensures c.in_ok-paths.ensures
-      c.in_ok-all.all c.as_slice-in-loop-step.result.now c.as_slice-in-loop-step.ensures c.in_ok-all.ensures c.step-item.result.client member c.hashes_for-hashes.result.now c.hashes_for-hashes.ensures in
+    c.in_ok-all.all c.as_slice-in-loop-step.result.now c.as_slice-in-loop-step.ensures c.in_ok-all.ensures c.step-item.result.client member c.hashes_for-hashes.result.now c.hashes_for-hashes.ensures in
     let found : takes_unmade g (reverse (take i xs)) c.step-item.result ≡ true =
     sym (unmade_is g xs i c.step-item.result c.loop-step-test.true c.step-item.is steps c.hashes_for-hashes.result.now hashes c.loop-step.made c.loop-step.invariant.1)
     ∙ sym c.in_ok-takes_unmade.ensures ∙ c.if-branch.true in
@@ -47,9 +46,10 @@ loop-step-preserved c =
     let steps = subst (AreSteps g) (ap (reverse {A = TraceStep}) (sym c.as_slice-step-items.ensures)) c.requires.steps in
     let member = is_member g xs i c.step-item.result c.loop-step-test.true c.step-item.is steps in
     let hashes = hashes_then g (history_of c.args.t.now) xs (ap (reverse {A = TraceStep}) c.as_slice-step-items.ensures) c.in_ok-paths.paths c.as_slice.result.now c.as_slice.ensures c.in_ok-paths.ensures
-      c.in_ok-all.all c.as_slice-in-loop-step.result.now c.as_slice-in-loop-step.ensures c.in_ok-all.ensures c.step-item.result.client member c.hashes_for-hashes.result.now c.hashes_for-hashes.ensures in
+    c.in_ok-all.all c.as_slice-in-loop-step.result.now c.as_slice-in-loop-step.ensures c.in_ok-all.ensures c.step-item.result.client member c.hashes_for-hashes.result.now c.hashes_for-hashes.ensures in
     let found : takes_unmade g (reverse (take i xs)) c.step-item.result ≡ false =
     sym (unmade_is g xs i c.step-item.result c.loop-step-test.true c.step-item.is steps c.hashes_for-hashes.result.now hashes c.loop-step.made c.loop-step.invariant.1)
-    ∙ sym c.in_ok-takes_unmade.ensures ∙ c.if-branch.false in
-    (not_forged_next g xs i c.step-item.result c.loop-step-test.true c.step-item.is c.loop-step.invariant.0 found,
-        made_next g xs i c.step-item.result c.loop-step-test.true c.step-item.is steps c.hashes_for-hashes.result.now hashes c.loop-step.made c.note_made.new.made c.loop-step.invariant.1 c.in_ok-note_made.ensures)
+    ∙ sym c.in_ok-takes_unmade.ensures ∙ c.if-branch.false in (
+      not_forged_next g xs i c.step-item.result c.loop-step-test.true c.step-item.is c.loop-step.invariant.0 found,
+      made_next g xs i c.step-item.result c.loop-step-test.true c.step-item.is steps c.hashes_for-hashes.result.now hashes c.loop-step.made c.note_made.new.made c.loop-step.invariant.1 c.in_ok-note_made.ensures,
+    )

@@ -1,4 +1,4 @@
-use Rattle.std.proofs.Common.{◌≡◌, ◌≤◌, ◌++◌, ℕ, List, length, ap, ◌∙◌, arith}
+use Rattle.std.proofs.Common.{◌≡◌, ◌≤◌, ◌++◌, List, length, ap, ◌∙◌, arith}
 use Rattle.vic_rules.specs.declared.trace.Shown.{Shown}
 use Rattle.vic_view.specs.Transcripts.{group_of, history_of}
 use Rattle.vic_view.specs.Printed.{view_texts, agree_texts}

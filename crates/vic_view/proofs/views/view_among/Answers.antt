@@ -1,4 +1,4 @@
-use Rattle.std.proofs.Common.{sym, ◌∙◌}
+use Rattle.std.proofs.Common.{◌∙◌}
 use Rattle.vic_view.specs.Replay.{places_among}
 use Rattle.vic_view.proofs.Shows.{shown_start, shown_more}
 use Rattle.vic_view.proofs.views.view_among.Goals as goal
