@@ -19,3 +19,6 @@ pub use transcript::Transcript;
 pub use vic_rules::{Input, Shown, TraceStep};
 pub use view::{View, agree};
 pub use views::view_of;
+
+#[cfg(test)]
+mod tests;
