@@ -1,7 +1,7 @@
 -- The test for forged texts finds them.
 use Rattle.std.proofs.Common.{◌≡◌, inl, inr, Bool, true, false, not, ◌||◌, List, [], ◌∷◌, bytes_eq, refl, sym, ◌∙◌, ap, subst, true≢false, ℕ}
 use Rattle.std.specs.List.{list_any}
-use Rattle.std.proofs.lemmas.Bool.{or_cases}
+use Rattle.std.proofs.lemmas.Bool.{or_cases, or_left}
 use Rattle.std.proofs.lemmas.Slice.Eq.{bytes_eq-Decides}
 use Rattle.vic_dict.specs.Lists.{IsIn}
 use Rattle.vic_wire.specs.Hashes.{Group}
@@ -10,10 +10,8 @@ use Rattle.vic_rules.specs.Trust.{texts_taken, texts_made, IsForged}
 use Rattle.vic_script.specs.Print.{is_among, takes_unmade, is_forged}
 use Rattle.vic_view.specs.Claims.{ForgedIs}
 
-or_left : (a b : Bool) → a ≡ true → (a || b) ≡ true
-or_left a b e = ap (λ (c : Bool). c || b) e
-
-or_right : (a b : Bool) → b ≡ true → (a || b) ≡ true
+-- a choice is true where its second part is
+pub or_right : (a b : Bool) → b ≡ true → (a || b) ≡ true
 or_right true b e = refl
 or_right false b e = e
 

@@ -14,11 +14,8 @@ use Rattle.vic_laws.proofs.Growth.{front_grows, front_whole}
 use Rattle.vic_view.specs.declared.replay.Place.{Place}
 use Rattle.vic_view.specs.Replay.{replayed}
 use Rattle.vic_view.specs.Making.{IsPlaceEntry, hashes_above, hashes_of, hash_at}
-use Rattle.vic_view.proofs.Fronts.{rest_from}
+use Rattle.vic_view.proofs.Fronts.{rest_from, below_next}
 use Rattle.vic_view.proofs.Replays.{entries, replays_path}
-
-below_next : (e : Entry) (es below : List Entry) → reverse es ++ e ∷ below ≡ reverse (e ∷ es) ++ below
-below_next e es below = sym (append_assoc (reverse es) (e ∷ []) below) ∙ ap (λ (xs : List Entry). xs ++ below) (sym (reverse-append (e ∷ []) es))
 
 hash_above : (g : Group) (below : List Entry) (ps : List Place) (n : ℕ) (d : Digest32) → n ≤ length ps
     → get_or (digest (chain g below) ∷ hashes_above g below ps) n d ≡ digest (chain g (reverse (take n (entries ps)) ++ below))

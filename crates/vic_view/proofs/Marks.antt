@@ -1,8 +1,8 @@
 -- The replay marks each completion at the place where its call stands, and marks nothing else.
-use Rattle.std.proofs.Common.{◌≡◌, ℕ, ◌≤◌, ◌⊎◌, inl, inr, List, [], ◌∷◌, ◌++◌, length, take, reverse, Option, Some, None, refl, sym, ◌∙◌, ap, subst, arith, append_assoc, length-append, Bool, if◌then◌else◌}
+use Rattle.std.proofs.Common.{◌≡◌, ℕ, ◌≤◌, ◌⊎◌, inl, inr, List, [], ◌∷◌, ◌++◌, length, take, reverse, Option, Some, None, refl, sym, ◌∙◌, ap, subst, arith, length-append, Bool, if◌then◌else◌}
 use Rattle.std.specs.Option.{IfSome}
 use Rattle.std.proofs.lemmas.Bool.{eq-eqb, ne_eqb}
-use Rattle.std.proofs.lemmas.List.{reverse-append, append-nil, map-append, take-append-le, take_all, length-map}
+use Rattle.std.proofs.lemmas.List.{append-nil, map-append, take-append-le, take_all, length-map}
 use Rattle.vic_dict.specs.declared.op.Entry.{Entry}
 use Rattle.vic_dict.specs.declared.op.Outcome.{Outcome}
 use Rattle.vic_dict.specs.declared.op.Outcome.TheVariants as outcome
@@ -18,6 +18,7 @@ use Rattle.vic_laws.proofs.Calls.{RepliedAt, completed_by, completion_stays, com
 use Rattle.vic_view.specs.declared.replay.Place.{Place}
 use Rattle.vic_view.specs.declared.replay.ClientPath.{ClientPath}
 use Rattle.vic_view.specs.Replay.{read_by, entries_in, entries_at, completed_with, places_with, path_with, path_after, replayed}
+use Rattle.vic_view.proofs.Fronts.{below_next}
 use Rattle.vic_view.proofs.Replays.{taken_told, entries, replayed_own, replayed_other, own_or_other, replays_path, path_joined}
 
 abbrev pub completed_as : ℕ → List Entry → Outcome → Completion
@@ -41,16 +42,11 @@ marks_weaker cs ds f me below (p ∷ ps) h = (
   marks_weaker cs ds f me (p.entry ∷ below) ps h.1,
 )
 
--- the entries below a list that stands on another
-onto_more : (e : Entry) (ps : List Place) (below : List Entry) → reverse (entries ps) ++ e ∷ below ≡ reverse (e ∷ entries ps) ++ below
-onto_more e ps below =
-    sym (append_assoc (reverse (entries ps)) (e ∷ []) below) ∙ ap (λ (es : List Entry). es ++ below) (sym (reverse-append (e ∷ []) (entries ps)))
-
 marks_append : (cs : List Completion) (me : ℕ) (below : List Entry) (ps qs : List Place) → MarksHold cs me below ps → MarksHold cs me (reverse (entries ps) ++ below) qs
     → MarksHold cs me below (ps ++ qs)
 marks_append cs me below [] qs a b = b
 marks_append cs me below (p ∷ ps) qs a b =
-    (a.0, marks_append cs me (p.entry ∷ below) ps qs a.1 (subst (λ (es : List Entry). MarksHold cs me es qs) (sym (onto_more p.entry ps below)) b))
+    (a.0, marks_append cs me (p.entry ∷ below) ps qs a.1 (subst (λ (es : List Entry). MarksHold cs me es qs) (sym (below_next p.entry (entries ps) below)) b))
 
 -- new places are marked at their end
 marks_with : (cs : List Completion) (me : ℕ) (o : Option Outcome) (ts : List Tagged) (below : List Entry) → IfSome o (λ x. IsIn cs (completed_as me (onto ts below) x))
@@ -123,7 +119,7 @@ marked_left below (p ∷ ps) qs q (inr later) = inr (marked_left (p.entry ∷ be
 marked_right : (below : List Entry) (ps qs : List Place) (q : List Entry) → IsMarked (reverse (entries ps) ++ below) qs q → IsMarked below (ps ++ qs) q
 marked_right below [] qs q m = m
 marked_right below (p ∷ ps) qs q m =
-    inr (marked_right (p.entry ∷ below) ps qs q (subst (λ (es : List Entry). IsMarked es qs q) (sym (onto_more p.entry ps below)) m))
+    inr (marked_right (p.entry ∷ below) ps qs q (subst (λ (es : List Entry). IsMarked es qs q) (sym (below_next p.entry (entries ps) below)) m))
 
 marked_with : (o : Outcome) (t : Tagged) (ts : List Tagged) (below : List Entry) → IsMarked below (places_with (Some o) (t ∷ ts)) (onto (t ∷ ts) below)
 marked_with o t [] below = inl (refl, (o, refl))

@@ -1,7 +1,7 @@
 -- What the loops over views print is what is printed of the history.
 use Rattle.std.proofs.Common.{◌≡◌, ℕ, suc, zero, ◌+◌, ◌-◌, ◌<◌, ◌≤◌, Bool, List, [], ◌∷◌, ◌++◌, length, map, reverse, get_or, refl, sym, ◌∙◌, ap, arith}
 use Rattle.std.specs.List.{flat_map}
-use Rattle.std.proofs.lemmas.List.{reverse-reverse, map-append, length-map}
+use Rattle.std.proofs.lemmas.List.{get_or_default, reverse-reverse, map-append, length-map}
 use Rattle.vic_wire.specs.Hashes.{Group}
 use Rattle.vic_rules.specs.declared.trace.TraceStep.{TraceStep}
 use Rattle.vic_rules.specs.declared.trace.Shown.{Shown}
@@ -13,19 +13,13 @@ use Rattle.vic_view.specs.Replay.{no_path, replayed, AreReplayed, shown_below, p
 use Rattle.vic_view.specs.Printed.{shown_view, views_up_to, view_texts, agree_with, agree_texts}
 use Rattle.vic_view.proofs.Shows.{view_shown, done_within}
 
--- within a list the default doesn't matter
-any_default : {X : Type 0} (xs : List X) (i : ℕ) (d e : X) → i < length xs → get_or xs i d ≡ get_or xs i e
-any_default [] i d e lt = absurd (omega arith)
-any_default (x ∷ xs) zero d e lt = refl
-any_default (x ∷ xs) (suc i) d e lt = any_default xs i d e (omega arith)
-
 -- a path among those that were replayed
 pub replayed_at : (count : ℕ) (h : List TraceStep) (all every : List ClientPath) → every ≡ all → AreReplayed count h all → (i : ℕ) (mine : ClientPath) → i < length every → mine ≡ get_or every i mine
     → mine ≡ replayed (i + 1) h
 replayed_at count h all every same r i mine lt is =
     let size : length all ≡ count = r.size in
     let more : length every ≡ length all = ap length same in
-    is ∙ ap (λ (xs : List ClientPath). get_or xs i mine) same ∙ any_default all i mine no_path (omega arith) ∙ r.each i (omega arith)
+    is ∙ ap (λ (xs : List ClientPath). get_or xs i mine) same ∙ get_or_default all i mine no_path (omega arith) ∙ r.each i (omega arith)
 
 numbers_more : (first n : ℕ) → numbers_from first (suc n) ≡ numbers_from first n ++ (first + n) ∷ []
 numbers_more first zero = let e : first ≡ first + zero = omega arith in ap (λ (k : ℕ). k ∷ []) e

@@ -1,5 +1,5 @@
 -- What is shown of a path by comparing it with the other clients' paths is its view.
-use Rattle.std.proofs.Common.{◌≡◌, ℕ, suc, zero, ◌+◌, ◌-◌, ◌<◌, ◌≤◌, ◌⊎◌, inl, inr, Bool, true, false, List, [], ◌∷◌, ◌++◌, length, take, reverse, Option, Some, None, nat_eq, nat_lt, if◌then◌else◌, get_or, refl, sym, ◌∙◌, ap, subst, arith, append_assoc, ltb-true, lt-ltb}
+use Rattle.std.proofs.Common.{◌≡◌, ℕ, suc, zero, ◌+◌, ◌-◌, ◌<◌, ◌≤◌, ◌⊎◌, inl, inr, Bool, true, false, List, [], ◌∷◌, ◌++◌, length, take, reverse, Option, Some, None, nat_eq, nat_lt, if◌then◌else◌, get_or, refl, sym, ◌∙◌, ap, subst, arith, ltb-true, lt-ltb}
 use Rattle.std.specs.Prelude.{slice_get}
 use Rattle.std.specs.Option.{IfSome, option_map}
 use Rattle.std.proofs.lemmas.Bool.{cases_eq, eq-eqb, ne_eqb}
@@ -20,6 +20,7 @@ use Rattle.vic_laws.proofs.Agreement.{confirmed_tells, confirmed_by, completion_
 use Rattle.vic_view.specs.declared.replay.Place.{Place}
 use Rattle.vic_view.specs.declared.replay.ClientPath.{ClientPath}
 use Rattle.vic_view.specs.Replay.{no_path, replayed, AreReplayed, common, path_among, places_among, lengths_with, outcome_among, outcome_of, outcome_there, shown_by, shown_place, shown_below}
+use Rattle.vic_view.proofs.Fronts.{below_next}
 use Rattle.vic_view.proofs.Loops.{newest_step}
 use Rattle.vic_view.proofs.Replays.{entries, replayed_other}
 use Rattle.vic_view.proofs.Marks.{completed_as, MarksHold, IsMarked, marks_hold, all_marked, EndsDone, done_is}
@@ -65,9 +66,6 @@ take_common (x ∷ a) (y ∷ b) (suc n) le e =
 
 no_place : (n : ℕ) (p : Place) → slice_get [] n ≡ Some p → ⊥
 no_place n p e = absurd cc
-
-below_next : (e : Entry) (es below : List Entry) → reverse es ++ e ∷ below ≡ reverse (e ∷ es) ++ below
-below_next e es below = sym (append_assoc (reverse es) (e ∷ []) below) ∙ ap (λ (xs : List Entry). xs ++ below) (sym (reverse-append (e ∷ []) es))
 
 mark_here : (cs : List Completion) (me : ℕ) (below : List Entry) (x p : Place) (o : Outcome) → x ≡ p → p.outcome ≡ Some o
     → IfSome x.outcome (λ y. IsIn cs (completed_as me (x.entry ∷ below) y)) → IsIn cs (completed_as me (p.entry ∷ below) o)

@@ -2,7 +2,8 @@
 //! views agree, and whether a client took a tag that no client had made.
 //!
 //! A view is `view_of` of `vic_rules` (`specs/Views.antt`), which the contract of `view_of` carries. The lines that are
-//! printed are those of `vic_script` (`specs/Print.antt`), which the contract of `print_views` carries.
+//! printed are those of `vic_script` (`specs/Print.antt`), which the contract of `print_views` carries. Whether a text was taken
+//! whose tag no client had made is `is_forged` there, which `forged` carries; `laws::forged_is` says that this is `IsForged`.
 #![tactic(auto)]
 
 mod forgery;
