@@ -5,7 +5,7 @@
 
 pub mod key;
 
-pub use key::{GroupKey, KeyFault};
+pub use key::{GroupKey, KeyFault, same_digest};
 
 #[cfg(test)]
 mod tests;

@@ -1,0 +1,11 @@
+pub mod Fronts
+pub mod Loops
+pub mod Replays
+pub mod Marks
+pub mod Shows
+pub mod Forgeries
+pub mod Hashing
+pub mod Making
+pub mod Texts
+pub mod Forging
+pub mod Prints

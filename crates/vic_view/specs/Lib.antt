@@ -1,0 +1,5 @@
+pub mod Transcripts
+pub mod Replay
+pub mod Claims
+pub mod Printed
+pub mod Making

@@ -1,0 +1,25 @@
+//! Transcripts of a group's clients, and the views that they give: what each client completed and saw confirmed, how far two
+//! views agree, and whether a client took a tag that no client had made.
+//!
+//! A view is `view_of` of `vic_rules` (`specs/Views.antt`), which the contract of `view_of` carries. The lines that are
+//! printed are those of `vic_script` (`specs/Print.antt`), which the contract of `print_views` carries. Whether a text was taken
+//! whose tag no client had made is `is_forged` there, which `forged` carries; `laws::forged_is` says that this is `IsForged`.
+#![tactic(auto)]
+
+mod forgery;
+pub mod laws;
+pub mod print;
+mod replay;
+pub mod transcript;
+pub mod view;
+pub mod views;
+
+pub use forgery::forged;
+pub use print::print_views;
+pub use transcript::Transcript;
+pub use vic_rules::{Input, Shown, TraceStep};
+pub use view::{View, agree};
+pub use views::view_of;
+
+#[cfg(test)]
+mod tests;

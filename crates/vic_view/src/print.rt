@@ -1,0 +1,204 @@
+//! What is printed of a transcript at its end: the views, and how far they agree.
+
+ghost use Rattle.std.specs.Prelude.{◌≡◌, ◌<◌, ◌≤◌, ◌+◌, ◌-◌, ◌^◌, [], ◌∷◌, ◌++◌, length, reverse, IfOk, OnOk, OnErr, slice_get, slice_index_or, Some};
+ghost use Rattle.std.specs.List.{flat_map};
+ghost use Rattle.std.specs.Fmt.{decimal};
+ghost use Rattle.vic_rules.specs.History.{IsLawful};
+ghost use Rattle.vic_script.specs.Print.{shown_line, agreement, tags_line, is_forged, all_views as every_view, all_agreements as every_agreement};
+ghost use Rattle.vic_view.specs.Transcripts.{group_of, history_of};
+ghost use Rattle.vic_view.specs.Printed.{views_up_to, view_text, view_texts, agree_text, agree_with, agree_texts};
+
+use crate::forgery::forged;
+use crate::transcript::Transcript;
+use crate::view::{View, common_calls};
+use crate::views::{all_paths, view_among};
+use std::alloc::Global;
+use std::marker::Model;
+use vic_dict::{Bytes, NoMemory};
+use vic_rules::Shown;
+use vic_text::{put_number, put_op, put_outcome};
+
+/// The views of clients 1, 2 and so on.
+#[derive(Debug, Drop)]
+pub(crate) struct Views {
+    items: Vec<View>,
+}
+
+impl Model for Views {
+    ghost use Rattle.std.specs.Prelude.{List};
+    ghost use Rattle.vic_rules.specs.declared.trace.Shown.{Shown};
+
+    ghost Value = { List (List Shown) };
+
+    ghost view = { λ a. a.items.items };
+}
+
+impl Views {
+    fn new(alloc: Global) -> Views
+        ensures { result ≡ [] }
+    {
+        Views {
+            items: Vec::new(alloc),
+        }
+    }
+
+    fn as_slice(&self) -> &[View]
+        ensures { result.now ≡ self.now }
+    {
+        self.items.as_slice()
+    }
+
+    fn push(&mut self, view: View) -> Result<(), NoMemory>
+        ensures ok { OnOk result (self.new ≡ self.old ++ view ∷ []) }
+        ensures err { OnErr result (self.new ≡ self.old) }
+    {
+        self.items.push(view)?;
+        Ok(())
+    }
+}
+
+/// The views of all clients.
+pub(crate) fn all_views(alloc: Global, t: &Transcript) -> Result<Views, NoMemory>
+    requires { IsLawful (group_of t.now) (history_of t.now) }
+    ensures { IfOk result (λ views. views ≡ views_up_to (group_of t.now) (history_of t.now) t.now.count) }
+{
+    let paths = all_paths(alloc, t)?;
+    let all = paths.as_slice();
+    let mut views = Views::new(alloc);
+    for mine in all {
+        views.push(view_among(alloc, mine, all)?)?;
+    }
+    Ok(views)
+}
+
+/// A number that counts things in memory, in decimal digits.
+fn put_count(out: &mut Bytes, alloc: Global, number: usize) -> Result<(), NoMemory>
+    ensures ok { OnOk result (out.new ≡ out.old ++ decimal number) }
+{
+    let text = number.to_string(alloc)?;
+    out.append(text.as_bytes())
+}
+
+fn put_shown(out: &mut Bytes, alloc: Global, shown: &Shown) -> Result<(), NoMemory>
+    ensures ok { OnOk result (out.new ≡ out.old ++ shown_line shown.now) }
+{
+    put_number(out, alloc, u32::from(shown.entry.client))?;
+    out.append(b".")?;
+    put_number(out, alloc, shown.entry.seq)?;
+    out.append(b" ")?;
+    put_op(out, alloc, &shown.entry.op)?;
+    out.append(b" = ")?;
+    put_outcome(out, alloc, &shown.outcome)?;
+    out.append(b"\n")
+}
+
+fn put_shown_list(out: &mut Bytes, alloc: Global, view: &[Shown]) -> Result<(), NoMemory>
+    ensures ok { OnOk result (out.new ≡ out.old ++ flat_map shown_line view.now) }
+{
+    for shown in view {
+        put_shown(out, alloc, shown)?;
+    }
+    Ok(())
+}
+
+/// The lines of the view of a client.
+fn put_view(out: &mut Bytes, alloc: Global, client: usize, view: &[Shown]) -> Result<(), NoMemory>
+    ensures ok { OnOk result (out.new ≡ out.old ++ view_text client view.now) }
+{
+    out.append(b"view ")?;
+    put_count(out, alloc, client)?;
+    out.append(b"\n")?;
+    put_shown_list(out, alloc, view)
+}
+
+/// The lines of all views.
+fn put_views(out: &mut Bytes, alloc: Global, views: &[View]) -> Result<(), NoMemory>
+    ensures ok { OnOk result (out.new ≡ out.old ++ view_texts 1 views.now) }
+{
+    for (k, view) in views.iter().enumerate() {
+        put_view(out, alloc, k + 1, view.as_slice())?;
+    }
+    Ok(())
+}
+
+/// The line that tells how far two clients' views agree.
+fn put_agreement(
+    out: &mut Bytes,
+    alloc: Global,
+    one: usize,
+    other: usize,
+    calls: usize,
+) -> Result<(), NoMemory>
+    ensures ok { OnOk result (out.new ≡ out.old ++ agree_text one other calls) }
+{
+    out.append(b"agree ")?;
+    put_count(out, alloc, one)?;
+    out.append(b" ")?;
+    put_count(out, alloc, other)?;
+    out.append(b" ")?;
+    put_count(out, alloc, calls)?;
+    out.append(b"\n")
+}
+
+/// How far a client's view agrees with those of others, the first of which has this number.
+fn put_agreements_with(
+    out: &mut Bytes,
+    alloc: Global,
+    client: usize,
+    view: &[Shown],
+    first: usize,
+    others: &[View],
+) -> Result<(), NoMemory>
+    requires { first + length others.now < 2 ^ 64 }
+    ensures ok { OnOk result (out.new ≡ out.old ++ agree_with client view.now first others.now) }
+{
+    for (k, other) in others.iter().enumerate() {
+        let calls = common_calls(view, other.as_slice());
+        put_agreement(out, alloc, client, first + k, calls)?;
+    }
+    Ok(())
+}
+
+/// How far each two views agree.
+fn put_agreements(out: &mut Bytes, alloc: Global, views: &[View]) -> Result<(), NoMemory>
+    requires { length views.now < 2 ^ 32 }
+    ensures ok { OnOk result (out.new ≡ out.old ++ agree_texts 1 views.now) }
+{
+    for (k, view) in views.iter().enumerate() {
+        put_agreements_with(out, alloc, k + 1, view.as_slice(), k + 2, &views[k + 1..])?;
+    }
+    Ok(())
+}
+
+fn put_tags(out: &mut Bytes, forged: bool) -> Result<(), NoMemory>
+    ensures ok { OnOk result (out.new ≡ out.old ++ tags_line forged) }
+{
+    if forged {
+        out.append(b"tags not made\n")
+    } else {
+        out.append(b"tags made\n")
+    }
+}
+
+/// The lines of all views, how far each two agree, and whether each tag that was taken was made, which the caller knows.
+fn print_with(alloc: Global, t: &Transcript, forged: bool) -> Result<Bytes, NoMemory>
+    requires { IsLawful (group_of t.now) (history_of t.now) }
+    ensures { IfOk result (λ b. b ≡ every_view (group_of t.now) (history_of t.now) ++ every_agreement (group_of t.now) (history_of t.now) ++ tags_line forged) }
+{
+    let views = all_views(alloc, t)?;
+    let mut out = Bytes::new(alloc);
+    put_views(&mut out, alloc, views.as_slice())?;
+    put_agreements(&mut out, alloc, views.as_slice())?;
+    put_tags(&mut out, forged)?;
+    Ok(out)
+}
+
+/// What is printed at the end of a run: the lines of all views, how far each two agree, and whether each tag that was taken
+/// was made.
+pub fn print_views(alloc: Global, t: &Transcript) -> Result<Bytes, NoMemory>
+    requires { IsLawful (group_of t.now) (history_of t.now) }
+    ensures { IfOk result (λ b. b ≡ every_view (group_of t.now) (history_of t.now) ++ every_agreement (group_of t.now) (history_of t.now) ++ tags_line (is_forged (group_of t.now) (history_of t.now))) }
+{
+    let unmade = forged(alloc, t)?;
+    print_with(alloc, t, unmade)
+}

@@ -1,0 +1,162 @@
+//! Views, and how far two of them agree.
+
+ghost use Rattle.std.specs.Prelude.{◌≡◌, ◌<◌, ◌≤◌, ◌^◌, [], ◌∷◌, ◌++◌, ◌&&◌, length, OnOk, OnErr, slice_get, Some, nat_eq};
+ghost use Rattle.std.specs.Cmp.Lexicographic.{pointwise};
+ghost use Rattle.std.specs.Str.{bytes_eq};
+ghost use Rattle.vic_rules.specs.Client.{same_op as same_op_test, same_entry as same_entry_test};
+ghost use Rattle.vic_script.specs.Print.{same_answer as same_answer_test, same_outcome as same_outcome_test, same_shown as same_shown_test, agreement};
+
+use std::alloc::Global;
+use std::marker::Model;
+use vic_dict::{Answer, Bytes, Entry, Names, NoMemory, Op, Outcome};
+use vic_rules::Shown;
+
+/// The calls of a client's view, the oldest first.
+#[derive(Debug, Drop)]
+pub struct View {
+    items: Vec<Shown>,
+}
+
+impl Model for View {
+    ghost use Rattle.std.specs.Prelude.{List};
+    ghost use Rattle.vic_rules.specs.declared.trace.Shown.{Shown};
+
+    ghost Value = { List Shown };
+
+    ghost view = { λ a. a.items.items };
+}
+
+impl View {
+    /// The empty view; it takes no memory.
+    pub fn new(alloc: Global) -> View
+        ensures { result ≡ [] }
+    {
+        View {
+            items: Vec::new(alloc),
+        }
+    }
+
+    pub fn len(&self) -> usize
+        ensures { result ≡ length self.now }
+    {
+        self.items.len()
+    }
+
+    pub fn as_slice(&self) -> &[Shown]
+        ensures { result.now ≡ self.now }
+    {
+        self.items.as_slice()
+    }
+
+    /// The call at a place, counted from 0.
+    pub fn at(&self, place: usize) -> &Shown
+        requires { place < length self.now }
+        ensures { slice_get self.now place ≡ Some result.now }
+    {
+        &self.items[place]
+    }
+
+    /// Puts a call last.
+    pub fn push(&mut self, shown: Shown) -> Result<(), NoMemory>
+        ensures ok { OnOk result (self.new ≡ self.old ++ shown ∷ []) }
+        ensures err { OnErr result (self.new ≡ self.old) }
+    {
+        self.items.push(shown)?;
+        Ok(())
+    }
+}
+
+fn same_bytes(a: &Bytes, b: &Bytes) -> bool
+    ensures { result ≡ bytes_eq a.now b.now }
+{
+    a.as_slice() == b.as_slice()
+}
+
+fn same_op(a: &Op, b: &Op) -> bool
+    ensures { result ≡ same_op_test a.now b.now }
+{
+    match (a, b) {
+        (Op::Put(k, v), Op::Put(q, w)) => same_bytes(k, q) && same_bytes(v, w),
+        (Op::Get(k), Op::Get(q)) => same_bytes(k, q),
+        (Op::Del(k), Op::Del(q)) => same_bytes(k, q),
+        (Op::List(k), Op::List(q)) => same_bytes(k, q),
+        _ => false,
+    }
+}
+
+/// Whether two entries are the same.
+pub(crate) fn same_entry(a: &Entry, b: &Entry) -> bool
+    ensures { result ≡ same_entry_test a.now b.now }
+{
+    a.client == b.client && (a.seq == b.seq && same_op(&a.op, &b.op))
+}
+
+fn same_names(a: &Names, b: &Names) -> bool
+    ensures { result ≡ pointwise bytes_eq a.now b.now }
+{
+    let (left, right) = (a.as_slice(), b.as_slice());
+    if left.len() != right.len() {
+        return false;
+    }
+    for (i, name) in left.iter().enumerate() {
+        if !same_bytes(name, &right[i]) {
+            return false;
+        }
+    }
+    true
+}
+
+fn same_answer(a: &Answer, b: &Answer) -> bool
+    ensures { result ≡ same_answer_test a.now b.now }
+{
+    match (a, b) {
+        (Answer::Stored, Answer::Stored) => true,
+        (Answer::Found(v), Answer::Found(w)) => same_bytes(v, w),
+        (Answer::NotFound, Answer::NotFound) => true,
+        (Answer::Removed, Answer::Removed) => true,
+        (Answer::Absent, Answer::Absent) => true,
+        (Answer::Names(ks), Answer::Names(ls)) => same_names(ks, ls),
+        _ => false,
+    }
+}
+
+fn same_outcome(a: &Outcome, b: &Outcome) -> bool
+    ensures { result ≡ same_outcome_test a.now b.now }
+{
+    match (a, b) {
+        (Outcome::Done(x), Outcome::Done(y)) => same_answer(x, y),
+        (Outcome::Aborted(u), Outcome::Aborted(v)) => u == v,
+        (Outcome::Refused(r), Outcome::Refused(q)) => r == q,
+        (Outcome::Halted(k), Outcome::Halted(l)) => k == l,
+        _ => false,
+    }
+}
+
+fn same_shown(a: &Shown, b: &Shown) -> bool
+    ensures { result ≡ same_shown_test a.now b.now }
+{
+    same_entry(&a.entry, &b.entry) && same_outcome(&a.outcome, &b.outcome)
+}
+
+/// How many calls two views have in common at their front.
+pub(crate) fn common_calls(left: &[Shown], right: &[Shown]) -> usize
+    ensures value { result ≡ agreement left.now right.now }
+    ensures short { result ≤ length left.now }
+{
+    let mut common = 0;
+    for (i, shown) in left.iter().enumerate() {
+        if !(i < right.len() && same_shown(shown, &right[i])) {
+            return common;
+        }
+        common += 1;
+    }
+    common
+}
+
+/// How many calls two views have in common at their front. It takes no memory, and costs that number.
+pub fn agree(a: &View, b: &View) -> u32
+    requires { length a.now < 2 ^ 32 }
+    ensures { result ≡ agreement a.now b.now }
+{
+    common_calls(a.as_slice(), b.as_slice()) as u32
+}
