@@ -1,6 +1,7 @@
 //! Byte texts, lists of them, and the one error for want of memory.
 
 ghost use Rattle.std.specs.Prelude.{◌≡◌, ◌<◌, ◌↔◌, IsTrue, [], ◌∷◌, ◌++◌, length, IfOk, OnOk, OnErr, slice_get};
+ghost use Rattle.vic_dict.specs.Lists.{AreBytes};
 
 use std::alloc::{AllocError, AllocFailed, Global};
 use std::marker::Model;
@@ -89,6 +90,14 @@ impl Bytes {
         &self.items[place]
     }
 
+    /// What the type says of its numbers. It does nothing.
+    pub fn are_bytes(&self)
+        ensures { AreBytes self.now }
+    {
+        let items = self.items.as_slice();
+        let _len = items.len();
+    }
+
     /// Puts a byte last.
     pub fn push(&mut self, byte: u8) -> Result<(), NoMemory>
         ensures ok { OnOk result (self.new ≡ self.old ++ byte ∷ []) }
@@ -171,5 +180,15 @@ impl Names {
     {
         self.items.push(text)?;
         Ok(())
+    }
+
+    pub fn copy(&self, alloc: Global) -> Result<Names, NoMemory>
+        ensures { IfOk result (λ made. made ≡ self.now) }
+    {
+        let mut made = Names::new(alloc);
+        for text in self.as_slice() {
+            made.push(text.copy(alloc)?)?;
+        }
+        Ok(made)
     }
 }

@@ -5,6 +5,11 @@
 
 pub mod bytes;
 pub mod op;
+pub mod plain;
 
 pub use bytes::{Bytes, Names, NoMemory};
 pub use op::{Answer, Entry, Mode, Op, Outcome};
+pub use plain::PlainDict;
+
+#[cfg(test)]
+mod tests;

@@ -1,6 +1,10 @@
 //! Operations on the dictionary, their answers, and the entries in which clients order them.
 
-use crate::bytes::{Bytes, Names};
+ghost use Rattle.std.specs.Prelude.{◌≡◌, ◌↔◌, IsTrue, IfOk};
+ghost use Rattle.vic_dict.specs.Dictionary.{IsKey, Fits};
+
+use crate::bytes::{Bytes, Names, NoMemory};
+use std::alloc::Global;
 
 /// What a client asks of the dictionary. A key has 1 to 255 bytes, a value 0 to 64, a prefix 0 to 255.
 #[derive(Debug, Drop)]
@@ -51,4 +55,75 @@ pub struct Entry {
 pub enum Mode {
     Plain,
     Objects,
+}
+
+fn is_key(text: &Bytes) -> bool
+    ensures { IsTrue result ↔ IsKey text.now }
+{
+    0 < text.len() && text.len() < 256
+}
+
+impl Op {
+    /// Whether the lengths of the texts are within the limits.
+    pub fn fits(&self) -> bool
+        ensures { IsTrue result ↔ Fits self.now }
+    {
+        match self {
+            Op::Put(key, value) => is_key(key) && value.len() < 65,
+            Op::Get(key) => is_key(key),
+            Op::Del(key) => is_key(key),
+            Op::List(prefix) => prefix.len() < 256,
+        }
+    }
+
+    pub fn copy(&self, alloc: Global) -> Result<Op, NoMemory>
+        ensures { IfOk result (λ made. made ≡ self.now) }
+    {
+        Ok(match self {
+            Op::Put(key, value) => Op::Put(key.copy(alloc)?, value.copy(alloc)?),
+            Op::Get(key) => Op::Get(key.copy(alloc)?),
+            Op::Del(key) => Op::Del(key.copy(alloc)?),
+            Op::List(prefix) => Op::List(prefix.copy(alloc)?),
+        })
+    }
+}
+
+impl Answer {
+    pub fn copy(&self, alloc: Global) -> Result<Answer, NoMemory>
+        ensures { IfOk result (λ made. made ≡ self.now) }
+    {
+        Ok(match self {
+            Answer::Stored => Answer::Stored,
+            Answer::Found(value) => Answer::Found(value.copy(alloc)?),
+            Answer::NotFound => Answer::NotFound,
+            Answer::Removed => Answer::Removed,
+            Answer::Absent => Answer::Absent,
+            Answer::Names(names) => Answer::Names(names.copy(alloc)?),
+        })
+    }
+}
+
+impl Outcome {
+    pub fn copy(&self, alloc: Global) -> Result<Outcome, NoMemory>
+        ensures { IfOk result (λ made. made ≡ self.now) }
+    {
+        Ok(match self {
+            Outcome::Done(answer) => Outcome::Done(answer.copy(alloc)?),
+            Outcome::Aborted(position) => Outcome::Aborted(*position),
+            Outcome::Refused(reason) => Outcome::Refused(*reason),
+            Outcome::Halted(check) => Outcome::Halted(*check),
+        })
+    }
+}
+
+impl Entry {
+    pub fn copy(&self, alloc: Global) -> Result<Entry, NoMemory>
+        ensures { IfOk result (λ made. made ≡ self.now) }
+    {
+        Ok(Entry {
+            client: self.client,
+            seq: self.seq,
+            op: self.op.copy(alloc)?,
+        })
+    }
 }
