@@ -8,6 +8,8 @@ use Rattle.std.specs.declared.cmp.Ordering.TheVariants.{Less, Equal, Greater}
 use Rattle.std.specs.FinMap.{find, put, is_sorted, slice_cmp-IsAntisymmetric, nat_cmp-IsAntisymmetric}
 use Rattle.std.specs.FinMap.Entries.{by_order, where_key, below_all}
 use Rattle.std.proofs.lemmas.Cmp.{nat_list_cmp_total, tied_itself, eq_by_cmp_equiv}
+use Rattle.std.proofs.Common.{◌+◌, ◌-◌, take}
+use Rattle.std.proofs.lemmas.List.{take_more, get_or-take, get_or_default, length-take-le}
 use Rattle.std.proofs.lemmas.Bool.{and_parts, and_from}
 use Rattle.std.specs.FinMap as map
 use Rattle.std.specs.FinMap.Entries.{is_sorted-put, is_sorted-where_key, find-where_key}
@@ -29,7 +31,7 @@ holds false t = absurd t
 pub same_text : (k l : List ℕ) → bytes_cmp k l ≡ Equal → k ≡ l
 same_text = slice_cmp-IsAntisymmetric nat_cmp-IsAntisymmetric
 
-is_less : (o : Ordering) → is_lt o ≡ true → o ≡ Less
+pub is_less : (o : Ordering) → is_lt o ≡ true → o ≡ Less
 is_less Less e = refl
 is_less Equal e = cc
 is_less Greater e = cc
@@ -415,3 +417,57 @@ past_last k (e ∷ f ∷ es) (suc i) d s h =
     let less = below_at e.0 (f ∷ es) i d parts.0 (omega arith) in
     sym (and_below (bytes_cmp e.0 k) (bytes_cmp (get_or (f ∷ es) i d).0 k) (λ p. nat_list_cmp_total.trans e.0 (get_or (f ∷ es) i d).0 k less p))
     ∙ ap (λ b. is_lt (bytes_cmp e.0 k) && b) (past_last k (f ∷ es) i d parts.1 (omega arith))
+
+-- ---- rows that were read one by one
+
+pub sorted_push : (k v : List ℕ) (es : List Row) → is_sorted bytes_cmp es ≡ true → is_past k es ≡ true → is_sorted bytes_cmp (es ++ (k, v) ∷ []) ≡ true
+sorted_push k v es s h = subst (λ l. is_sorted bytes_cmp l ≡ true) (past_puts k v es h) (holds _ (is_sorted-put bytes_cmp nat_list_cmp_total k v es (passes _ s)))
+
+pub sorted_at : (es : List Row) (i : ℕ) (d : Row) → is_sorted bytes_cmp es ≡ true → suc i < length es → bytes_cmp (get_or es i d).0 (get_or es (suc i) d).0 ≡ Less
+sorted_at [] i d s h = absurd (omega arith)
+sorted_at (e ∷ es) zero d s h = below_at e.0 es 0 d (and_parts _ _ s).0 (omega arith)
+sorted_at (e ∷ es) (suc i) d s h = sorted_at es i d (and_parts _ _ s).1 (omega arith)
+
+-- one row more, above the one before it
+pub rising_more : (es : List Row) (i : ℕ) (d : Row) → suc i < length es → is_sorted bytes_cmp (take (suc i) es) ≡ true
+    → bytes_cmp (get_or es i d).0 (get_or es (suc i) d).0 ≡ Less → is_sorted bytes_cmp (take (suc i + 1) es) ≡ true
+rising_more es i d h s less =
+    let front = take (suc i) es in
+    let last : get_or front i d ≡ get_or es i d = get_or-take (suc i) es i d (omega arith) in
+    let past : is_past (get_or es (suc i) d).0 front ≡ true =
+    sym (past_last (get_or es (suc i) d).0 front i d s (omega (arith, length-take-le (suc i) es (omega arith))))
+    ∙ ap (λ r. is_lt (bytes_cmp r.0 (get_or es (suc i) d).0)) last ∙ ap is_lt less in
+    subst (λ l. is_sorted bytes_cmp l ≡ true) (sym (take_more es (suc i) d h)) (sorted_push (get_or es (suc i) d).0 (get_or es (suc i) d).1 front s past)
+
+pub rising_first : (es : List Row) (d : Row) → 0 < length es → is_sorted bytes_cmp (take (0 + 1) es) ≡ true
+rising_first [] d h = absurd (omega arith)
+rising_first (e ∷ es) d h = refl
+
+pub bytes_more : (es : List Row) (i : ℕ) (d : Row) → i < length es → AreByteRows (take i es) → AreBytes (get_or es i d).0 → AreBytes (get_or es i d).1 → AreByteRows (take (i + 1) es)
+bytes_more es i d h f a b = subst AreByteRows (sym (take_more es i d h)) (bytes_push (take i es) (get_or es i d) f a b)
+
+pub rising_next : (es : List Row) (i : ℕ) (d : Row) → 0 < i → i < length es → is_sorted bytes_cmp (take i es) ≡ true
+    → bytes_cmp (get_or es (i - 1) d).0 (get_or es i d).0 ≡ Less → is_sorted bytes_cmp (take (i + 1) es) ≡ true
+rising_next es zero d p h s less = absurd (omega arith)
+rising_next es (suc i) d p h s less =
+    let before : suc i - 1 ≡ i = omega arith in
+    rising_more es i d h s (subst (λ j. bytes_cmp (get_or es j d).0 (get_or es (suc i) d).0 ≡ Less) before less)
+
+pub less_before : (es : List Row) (i : ℕ) (d : Row) → is_sorted bytes_cmp es ≡ true → 0 < i → i < length es → bytes_cmp (get_or es (i - 1) d).0 (get_or es i d).0 ≡ Less
+less_before es zero d s p h = absurd (omega arith)
+less_before es (suc i) d s p h =
+    let before : i ≡ suc i - 1 = omega arith in
+    subst (λ j. bytes_cmp (get_or es j d).0 (get_or es (suc i) d).0 ≡ Less) before (sorted_at es i d s h)
+
+pub one_rising : (es : List Row) (i : ℕ) → i ≡ 0 → 0 < length es → is_sorted bytes_cmp (take (i + 1) es) ≡ true
+one_rising [] i e h = absurd (omega arith)
+one_rising (x ∷ es) zero e h = refl
+one_rising (x ∷ es) (suc i) e h = absurd (omega arith)
+
+-- the answer of a comparison of slices of two rows' keys
+pub compared : (es : List Row) (i : ℕ) (d e : Row) {x y : List ℕ} {o : Ordering} → o ≡ bytes_cmp x y → x ≡ (get_or es (i - 1) d).0 → y ≡ (get_or es i e).0 → i < length es → bytes_cmp (get_or es (i - 1) d).0 (get_or es i d).0 ≡ o
+compared es i d e {x} {y} {o} is a b h =
+    ap (bytes_cmp (get_or es (i - 1) d).0) (ap (λ r. r.0) (get_or_default es i d e h) ∙ sym b) ∙ ap (λ k. bytes_cmp k y) (sym a) ∙ sym is
+
+pub bytes_next : (es : List Row) (i : ℕ) (d e : Row) → i < length es → AreByteRows (take i es) → AreBytes (get_or es i d).0 → AreBytes (get_or es i e).1 → AreByteRows (take (i + 1) es)
+bytes_next es i d e h f a b = bytes_more es i d h f a (subst (λ r. AreBytes r.1) (get_or_default es i e d h) b)

@@ -1,12 +1,12 @@
 //! A plain dictionary: rows of keys and values in the order of their keys, searched by halves.
 
-ghost use Rattle.std.specs.Prelude.{◌≡◌, ◌<◌, ◌↔◌, [], ◌∷◌, ◌++◌, IsTrue, OnOk, OnErr, IfOk, option_copied, is_some, filter, nat_eq, slice_get};
+ghost use Rattle.std.specs.Prelude.{◌≡◌, ◌<◌, ◌↔◌, [], ◌∷◌, ◌++◌, IsTrue, OnOk, OnErr, IfOk, option_copied, is_some, filter, nat_eq, slice_get, if◌then◌else◌};
 ghost use Rattle.std.specs.Prelude.{map as map_list};
 ghost use Rattle.std.specs.List.{starts_with};
 ghost use Rattle.std.specs.FinMap as map;
 ghost use Rattle.std.specs.FinMap.{is_sorted};
 ghost use Rattle.vic_dict.specs.Dictionary.{nothing, Fits, found, reply, after};
-ghost use Rattle.vic_dict.specs.Rows.{IsTable, bytes_cmp, place_in, spot, is_past};
+ghost use Rattle.vic_dict.specs.Rows.{IsTable, AreFit, AreByteRows, bytes_cmp, place_in, spot, is_past};
 
 use crate::bytes::{Bytes, Names, NoMemory};
 use crate::op::{Answer, Op};
@@ -87,6 +87,21 @@ fn copy_rows(alloc: Global, rows: &[(Bytes, Bytes)]) -> Result<Vec<(Bytes, Bytes
     Ok(made)
 }
 
+/// Whether the keys rise strictly.
+fn is_rising(rows: &[(Bytes, Bytes)]) -> bool
+    ensures rising { result ≡ is_sorted bytes_cmp rows.now }
+    ensures bytes { IsTrue result → AreByteRows rows.now }
+{
+    for i in 0..rows.len() {
+        rows[i].0.are_bytes();
+        rows[i].1.are_bytes();
+        if i > 0 && !rows[i - 1].0.as_slice().cmp(rows[i].0.as_slice()).is_lt() {
+            return false;
+        }
+    }
+    true
+}
+
 /// What a look-up answers.
 fn answer_of(alloc: Global, value: Option<&Bytes>) -> Result<Answer, NoMemory>
     ensures { IfOk result (λ answer. answer ≡ found (option_copied value.entry)) }
@@ -105,6 +120,17 @@ impl PlainDict {
         PlainDict {
             rows: Vec::new(alloc),
         }
+    }
+
+    /// The dictionary of these rows, if their keys rise strictly.
+    pub fn from_rows(rows: Vec<(Bytes, Bytes)>) -> Option<PlainDict>
+        requires { AreFit rows.items }
+        ensures { result ≡ (if is_sorted bytes_cmp rows.items then Some (map.from_sorted rows.items) else None) }
+    {
+        if is_rising(rows.as_slice()) {
+            return Some(PlainDict { rows });
+        }
+        None
     }
 
     /// The key now has the value.

@@ -83,3 +83,6 @@ pub fn has_prefix(key: &[u8], prefix: &[u8]) -> bool
 {
     key.starts_with(prefix)
 }
+
+#[cfg(test)]
+mod tests;
