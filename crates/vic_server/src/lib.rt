@@ -4,11 +4,14 @@
 //! beside the lists that the rule speaks of (an index of commits and a counter of weight) is `specs/Keeping.antt`.
 #![tactic(auto)]
 
-pub mod change;
+mod change;
 mod requests;
-pub mod rows;
+mod rows;
 pub mod serve;
 pub mod served;
 
 pub use serve::Serve;
 pub use served::Served;
+
+#[cfg(test)]
+mod tests;

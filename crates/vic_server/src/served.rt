@@ -486,7 +486,6 @@ impl Served {
         ensures is { IfOk result (λ a. a ≡ turn_from seal self.now.dictionary who (ordered_at self.now position) status) }
         ensures spelled { IfOk result (λ a. HasSpelling a) }
     {
-        let _few = self.pairs();
         turn_of(
             alloc,
             seal,
@@ -501,7 +500,6 @@ impl Served {
     pub(crate) fn part_for(&self, alloc: Global, op: &Op) -> Result<Bytes, NoMemory>
         ensures { IfOk result (λ b. b ≡ part_for self.now.dictionary op.now) }
     {
-        let _few = self.pairs();
         pairs_bytes(alloc, &self.dictionary)
     }
 
