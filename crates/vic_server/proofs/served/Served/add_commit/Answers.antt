@@ -1,4 +1,4 @@
-use Rattle.std.proofs.Common.{◌≡◌, ◌-◌, Some, [], ◌∷◌, ◌++◌, set, sym, ap, subst, ◌∙◌, arith}
+use Rattle.std.proofs.Common.{◌≡◌, ◌-◌, Some, List, [], ◌∷◌, ◌++◌, set, sym, ap, subst, ◌∙◌, arith}
 use Rattle.vic_order.specs.Order.{Committed}
 use Rattle.vic_server.specs.Keeping.{IsSound}
 use Rattle.vic_server.proofs.Seen.{size-rows}
