@@ -1,0 +1,4 @@
+pub mod Logs
+pub mod Weights
+pub mod Sound
+pub mod Seen

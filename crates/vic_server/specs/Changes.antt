@@ -1,0 +1,33 @@
+-- What a request changes, once it was accepted.
+use Rattle.std.specs.Prelude.{◌≡◌, ℕ, ◌+◌, ◌<◌, ◌≤◌, ◌∷◌, length, Some}
+use Rattle.vic_wire.specs.Messages.{HasSpelling, IsSeal}
+use Rattle.vic_order.specs.declared.Stage.TheVariants as stage
+use Rattle.vic_order.specs.Order.{Server, Answered, set_member, set_stage, size, sealed_count, weight, op_weight, commit_at, with_commit, with_seal}
+use Rattle.vic_server.specs.declared.change.Change.{Change}
+use Rattle.vic_server.specs.declared.change.Change.TheVariants as change
+use Rattle.vic_server.specs.declared.change.Plan.{Plan}
+
+-- the server that a change leaves
+abbrev pub leaves : Server → Change → Server
+leaves s change.Nothing = s
+leaves s (change.Enters client) = set_stage s client stage.Ready
+leaves s (change.Orders who row) = set_member (record s { log = row ∷ s.log }) who (record { last = row.entry.seq; stage = stage.Open (size s + 1) })
+leaves s (change.Commits who position done tag) = set_stage (with_commit s position done tag) who stage.Ready
+leaves s (change.Seals seal done) = with_seal s seal
+leaves s (change.Leaves who) = set_stage s who stage.Left
+
+abbrev pub IsSeat : Server → ℕ → Type 0
+IsSeat s who = (0 < who) × (who ≤ length s.members)
+
+-- what a change needs
+abbrev pub IsPossible : Server → Change → Type 0
+IsPossible s change.Nothing = Unit {0}
+IsPossible s (change.Enters client) = IsSeat s client
+IsPossible s (change.Orders who row) = IsSeat s who × ((size s < 1048576) × (weight s + op_weight row.entry.op ≤ 8388608))
+IsPossible s (change.Commits who position done tag) = IsSeat s who × ((0 < position) × (position ≤ size s))
+IsPossible s (change.Seals seal done) = (seal.position ≡ sealed_count s + 1) × ((seal.position ≤ size s) × ((commit_at s seal.position ≡ Some done) × IsSeal seal))
+IsPossible s (change.Leaves who) = IsSeat s who
+
+-- a plan is what the rule says: the server that it leaves, and the answer, which has a spelling
+abbrev pub Follows : Answered → Server → Plan → Type 0
+Follows a s p = (leaves s p.change ≡ a.next) × ((p.answer ≡ a.answer) × (HasSpelling p.answer × IsPossible s p.change))

@@ -1,0 +1,17 @@
+//! The server: it orders the calls of clients, keeps their commits and seals, and answers each request.
+//!
+//! Its rule is `serve` of `vic_order`, in `specs/Order.antt`; the contract of [`Served::step`] carries it. What it keeps
+//! beside the lists that the rule speaks of (an index of commits and a counter of weight) is `specs/Keeping.antt`.
+#![tactic(auto)]
+
+mod change;
+mod requests;
+mod rows;
+pub mod serve;
+pub mod served;
+
+pub use serve::Serve;
+pub use served::Served;
+
+#[cfg(test)]
+mod tests;

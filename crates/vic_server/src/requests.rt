@@ -1,0 +1,440 @@
+//! One function for each kind of request: the tests in the order of the rule, what changes, and the answer.
+
+ghost use Rattle.std.specs.Prelude.{◌≡◌, ℕ, ◌&&◌, ◌||◌, not, nat_lt, nat_le, List, ◌∷◌, ◌<◌, ◌≤◌, ◌+◌, true, false, None, length, IfNone, IfSome, IfOk, OnOk, OnErr, IsTrue};
+ghost use Rattle.vic_dict.specs.Dictionary.{Fits};
+ghost use Rattle.vic_wire.specs.declared.message.ToServer.TheVariants as ask;
+ghost use Rattle.vic_wire.specs.Messages.{HasRequestSpelling, HasSpelling, IsSeal, IsTagged};
+ghost use Rattle.vic_wire.specs.declared.message.Digest32.{Digest32 as ADigest};
+ghost use Rattle.vic_wire.specs.declared.message.ToClient.TheVariants as say;
+ghost use Rattle.vic_wire.specs.Parts.{part_for};
+ghost use Rattle.vic_rules.specs.Client.{first_failing};
+ghost use Rattle.vic_server.specs.declared.change.Change.TheVariants as change;
+ghost use Rattle.vic_order.specs.Order.{is_ready, is_away, is_open_at, is_inside, is_put, same_mode, is_member, owns_committed, ordered_at, commit_at, size, sealed_count, op_weight, weight, turn, turn_on, set_stage, with_seal, on_request, on_hello, serve_read, serve, top_seal, entries_above};
+ghost use Rattle.vic_server.specs.Keeping.{IsWithin, IsAllowed, invoke_tests};
+ghost use Rattle.vic_server.specs.Changes.{Follows, IsSeat, IsPossible, leaves};
+
+use crate::change::{Change, Plan};
+use crate::rows::{Row, Seat};
+use crate::served::{Served, op_weight};
+use std::alloc::Global;
+use vic_dict::{Entry, Mode, NoMemory, Op};
+use vic_frames::decode_request;
+use vic_order::Stage;
+use vic_wire::{Digest32, Seal, Tagged, ToClient, ToServer};
+
+fn is_ready(stage: Stage) -> bool
+    ensures { result ≡ is_ready stage }
+{
+    match stage {
+        Stage::Ready => true,
+        _ => false,
+    }
+}
+
+fn is_away(stage: Stage) -> bool
+    ensures { result ≡ is_away stage }
+{
+    match stage {
+        Stage::Away => true,
+        _ => false,
+    }
+}
+
+fn is_inside(stage: Stage) -> bool
+    ensures { result ≡ is_inside stage }
+{
+    match stage {
+        Stage::Ready | Stage::Open(_) => true,
+        _ => false,
+    }
+}
+
+fn is_open_at(position: u32, stage: Stage) -> bool
+    ensures { result ≡ is_open_at position stage }
+{
+    match stage {
+        Stage::Open(at) => at == position,
+        _ => false,
+    }
+}
+
+fn same_mode(one: Mode, other: Mode) -> bool
+    ensures { result ≡ same_mode one other }
+{
+    match (one, other) {
+        (Mode::Plain, Mode::Plain) => true,
+        (Mode::Objects, Mode::Objects) => true,
+        _ => false,
+    }
+}
+
+/// Whether an Invoke comes in its order.
+fn is_in_order(stage: Stage, last: u32, seq: u32, known: u32, length: u32) -> bool
+    ensures is { result ≡ (is_ready stage && (nat_lt last seq && nat_le known length)) }
+    ensures known { IsTrue result → known ≤ length }
+{
+    is_ready(stage) && (last < seq && known <= length)
+}
+
+/// Whether an operation keeps the weight within its limit.
+fn is_light(weight: u64, op: &Op) -> bool
+    requires fits { Fits op.now }
+    requires light { weight ≤ 8388608 }
+    ensures is { result ≡ (not (is_put op.now) || nat_le (weight + op_weight op.now) 8388608) }
+    ensures light { IsTrue result → weight + op_weight op.now ≤ 8388608 }
+{
+    match op {
+        Op::Put(_, _) => weight + op_weight(op) <= 8_388_608,
+        _ => true,
+    }
+}
+
+fn refused(reason: u8) -> Plan
+    ensures { result ≡ record { answer = say.Refused reason; change = change.Nothing } }
+{
+    Plan {
+        answer: ToClient::Refused(reason),
+        change: Change::Nothing,
+    }
+}
+
+/// An answer that changes nothing.
+fn only(answer: ToClient) -> Plan
+    ensures { result ≡ record { answer = answer; change = change.Nothing } }
+{
+    Plan {
+        answer,
+        change: Change::Nothing,
+    }
+}
+
+impl Served {
+    /// Whether this client has come in and not left.
+    fn is_member(&self, who: u8) -> bool
+        ensures is { result ≡ is_member self.now who }
+        ensures bounds { IsTrue result → IsSeat self.now who × (who ≤ 64) }
+    {
+        0 < who && (who <= self.count() && is_inside(self.stage_of(who)))
+    }
+
+    fn set_stage(&mut self, who: u8, stage: Stage)
+        requires seat { IsSeat self.old who }
+        requires stage { IsWithin (size self.old) stage }
+        ensures { self.new ≡ set_stage self.old who stage }
+    {
+        let last = self.last_of(who);
+        self.set_seat(who, Seat::new(last, stage));
+    }
+
+    // ---- what is planned
+
+    fn on_hello(&self, who: u8, kind: Mode, client: u8) -> Plan
+        ensures { Follows (on_hello self.now who kind client) self.now result }
+    {
+        if who != 0 {
+            return refused(5);
+        }
+        if !(0 < client
+            && (client <= self.count()
+                && (same_mode(kind, self.mode()) && is_away(self.stage_of(client)))))
+        {
+            return refused(6);
+        }
+        Plan {
+            answer: ToClient::Hi,
+            change: Change::Enters(client),
+        }
+    }
+
+    fn on_bye(&self, who: u8) -> Plan
+        requires { IsSeat self.now who }
+        ensures { Follows (on_request self.now who ask.Bye) self.now result }
+    {
+        if !is_ready(self.stage_of(who)) {
+            return refused(5);
+        }
+        Plan {
+            answer: ToClient::Gone,
+            change: Change::Leaves(who),
+        }
+    }
+
+    /// The turn, where the first entry that isn't sealed has this commit.
+    fn turn_with(&self, alloc: Global, who: u8, status: Option<bool>) -> Result<ToClient, NoMemory>
+        ensures is { IfOk result (λ a. a ≡ turn_on self.now who (ordered_at self.now (sealed_count self.now + 1)) status) }
+        ensures spelled { IfOk result (λ a. HasSpelling a) }
+    {
+        let sealed = self.sealed();
+        self.tell_turn(alloc, self.seal_at(sealed), who, sealed + 1, status)
+    }
+
+    fn on_poll(&self, alloc: Global, who: u8) -> Result<Plan, NoMemory>
+        ensures { IfOk result (λ p. Follows (on_request self.now who ask.Poll) self.now p) }
+    {
+        if !is_ready(self.stage_of(who)) {
+            return Ok(refused(5));
+        }
+        let status = self.status_at(self.sealed() + 1);
+        let answer = self.turn_with(alloc, who, status)?;
+        Ok(only(answer))
+    }
+
+    fn on_sync(&self, alloc: Global, who: u8, known: u32) -> Result<Plan, NoMemory>
+        ensures { IfOk result (λ p. Follows (on_request self.now who (ask.Sync known)) self.now p) }
+    {
+        let length = self.length();
+        if !(is_ready(self.stage_of(who)) && known <= length) {
+            return Ok(refused(5));
+        }
+        let end = length.min(known + 8192);
+        let entries = self.told(alloc, known, end)?;
+        let seal = self.seal_at(self.sealed().min(end));
+        Ok(only(ToClient::Entries { seal, entries }))
+    }
+
+    fn on_commit(
+        &self,
+        alloc: Global,
+        who: u8,
+        position: u32,
+        done: bool,
+        tag: Digest32,
+    ) -> Result<Plan, NoMemory>
+        requires seat { IsSeat self.now who }
+        requires above { 0 < position }
+        ensures { IfOk result (λ p. Follows (on_request self.now who (ask.Commit position done tag)) self.now p) }
+    {
+        if !is_open_at(position, self.stage_of(who)) {
+            return Ok(refused(5));
+        }
+        let next = self.sealed() + 1;
+        let status = if position == next {
+            Some(done)
+        } else {
+            self.status_at(next)
+        };
+        let answer = self.turn_with(alloc, who, status)?;
+        Ok(Plan {
+            answer,
+            change: Change::Commits(who, position, done, tag),
+        })
+    }
+
+    fn on_seal(&self, alloc: Global, who: u8, seal: Seal) -> Result<Plan, NoMemory>
+        requires { IsSeal seal × (0 < seal.position) }
+        ensures { IfOk result (λ p. Follows (on_request self.now who (ask.Seal seal.position seal.root seal.tag)) self.now p) }
+    {
+        if !(is_ready(self.stage_of(who)) && seal.position == self.sealed() + 1) {
+            return Ok(refused(5));
+        }
+        match self.commit_of(who, seal.position) {
+            None => Ok(refused(5)),
+            Some(done) => {
+                let answer = self.turn_after(alloc, who, seal, done)?;
+                Ok(Plan {
+                    answer,
+                    change: Change::Seals(seal, done),
+                })
+            }
+        }
+    }
+
+    /// The number of the first test that an Invoke fails, if it fails one.
+    fn invoke_refusal(&self, who: u8, known: u32, seq: u32, op: &Op) -> Option<u8>
+        requires { Fits op.now }
+        ensures is { result ≡ first_failing (invoke_tests self.now who known seq op.now) }
+        ensures number { IfSome result (λ r. (0 < r) × (r ≤ 7)) }
+        ensures allowed { IfNone result (IsAllowed self.now known op.now) }
+    {
+        let length = self.length();
+        if !is_in_order(self.stage_of(who), self.last_of(who), seq, known, length) {
+            return Some(5);
+        }
+        if length == 1_048_576 {
+            return Some(4);
+        }
+        if length - self.sealed() == 1024 {
+            return Some(2);
+        }
+        if !is_light(self.weight(), op) {
+            return Some(3);
+        }
+        if !(length + 1 - known <= 8192) {
+            return Some(1);
+        }
+        None
+    }
+
+    /// The Reply to an entry that is about to go onto the log.
+    fn reply_to(&self, alloc: Global, known: u32, row: &Row) -> Result<ToClient, NoMemory>
+        requires { IsAllowed self.now known row.now.entry.op }
+        ensures is { IfOk result (λ a. a ≡ say.Reply (top_seal self.now) (entries_above known (row.now ∷ self.now.log)) (part_for self.now.dictionary row.now.entry.op)) }
+        ensures spelled { IfOk result (λ a. HasSpelling a) }
+    {
+        let seal = self.seal_at(self.sealed());
+        let mut entries = self.told(alloc, known, self.length())?;
+        let item = row.tagged(alloc)?;
+        entries.push(item)?;
+        let part = self.part_for(alloc, row.op())?;
+        Ok(ToClient::Reply {
+            seal,
+            entries,
+            part,
+        })
+    }
+
+    fn on_invoke(
+        &self,
+        alloc: Global,
+        who: u8,
+        known: u32,
+        seq: u32,
+        op: Op,
+        tag: Digest32,
+    ) -> Result<Plan, NoMemory>
+        requires seat { IsSeat self.now who × (who ≤ 64) }
+        requires spelled { HasRequestSpelling (ToServer.Invoke known seq op tag) }
+        ensures { IfOk result (λ p. Follows (on_request self.now who (ask.Invoke known seq op tag)) self.now p) }
+    {
+        match self.invoke_refusal(who, known, seq, &op) {
+            Some(reason) => Ok(refused(reason)),
+            None => {
+                let entry = Entry {
+                    client: who,
+                    seq,
+                    op,
+                };
+                let row = Row::new(Tagged { entry, tag }, self.sealed());
+                let answer = self.reply_to(alloc, known, &row)?;
+                Ok(Plan {
+                    answer,
+                    change: Change::Orders(who, row),
+                })
+            }
+        }
+    }
+
+    /// A group without objects keeps no contents.
+    fn on_content(&self) -> Plan
+        ensures keep { (who : ℕ) (content : List ℕ) → Follows (on_request self.now who (ask.Keep content)) self.now result }
+        ensures fetch { (who : ℕ) (hash : ADigest) → Follows (on_request self.now who (ask.Fetch hash)) self.now result }
+    {
+        let _plain = self.mode();
+        refused(5)
+    }
+
+    fn on_request(&self, alloc: Global, who: u8, request: ToServer) -> Result<Plan, NoMemory>
+        requires seat { IsSeat self.now who × (who ≤ 64) }
+        requires spelled { HasRequestSpelling request }
+        ensures { IfOk result (λ p. Follows (on_request self.now who request) self.now p) }
+    {
+        match request {
+            ToServer::Hello(_, _) => Ok(refused(5)),
+            ToServer::Invoke {
+                known,
+                seq,
+                op,
+                tag,
+            } => self.on_invoke(alloc, who, known, seq, op, tag),
+            ToServer::Commit {
+                position,
+                done,
+                tag,
+            } => self.on_commit(alloc, who, position, done, tag),
+            ToServer::Poll => self.on_poll(alloc, who),
+            ToServer::Seal {
+                position,
+                root,
+                tag,
+            } => self.on_seal(
+                alloc,
+                who,
+                Seal {
+                    position,
+                    root,
+                    tag,
+                },
+            ),
+            ToServer::Sync(known) => self.on_sync(alloc, who, known),
+            ToServer::Keep(_) => Ok(self.on_content()),
+            ToServer::Fetch(_) => Ok(self.on_content()),
+            ToServer::Bye => Ok(self.on_bye(who)),
+        }
+    }
+
+    fn on_read(&self, alloc: Global, who: u8, request: Option<ToServer>) -> Result<Plan, NoMemory>
+        requires { IfSome request (λ m. HasRequestSpelling m) }
+        ensures { IfOk result (λ p. Follows (serve_read self.now who request) self.now p) }
+    {
+        match request {
+            None => Ok(refused(5)),
+            Some(ToServer::Hello(kind, client)) => Ok(self.on_hello(who, kind, client)),
+            Some(request) => {
+                if !self.is_member(who) {
+                    return Ok(refused(6));
+                }
+                self.on_request(alloc, who, request)
+            }
+        }
+    }
+
+    /// What the rule says of a payload.
+    #[tactic(auto, unfolding(vic_order::specs::Order::serve))]
+    pub(crate) fn plan(&self, alloc: Global, who: u8, payload: &[u8]) -> Result<Plan, NoMemory>
+        ensures { IfOk result (λ p. Follows (serve self.now who payload.now) self.now p) }
+    {
+        let request = decode_request(alloc, payload)?;
+        self.on_read(alloc, who, request)
+    }
+
+    // ---- what is changed
+
+    pub(crate) fn enact(&mut self, alloc: Global, change: Change) -> Result<(), NoMemory>
+        requires { IsPossible self.old change }
+        ensures ok { OnOk result (self.new ≡ leaves self.old change) }
+        ensures err { OnErr result (self.new ≡ self.old) }
+    {
+        match change {
+            Change::Nothing => {}
+            Change::Enters(client) => self.set_stage(client, Stage::Ready),
+            Change::Orders(who, row) => self.order(who, row)?,
+            Change::Commits(who, position, done, tag) => {
+                self.add_commit(position, done, tag)?;
+                self.set_stage(who, Stage::Ready);
+            }
+            Change::Seals(seal, done) => self.add_seal(alloc, seal, done)?,
+            Change::Leaves(who) => self.set_stage(who, Stage::Left),
+        }
+        Ok(())
+    }
+
+    fn order(&mut self, who: u8, row: Row) -> Result<(), NoMemory>
+        requires { IsPossible self.old (Change.Orders who row) }
+        ensures ok { OnOk result (self.new ≡ leaves self.old (Change.Orders who row)) }
+        ensures err { OnErr result (self.new ≡ self.old) }
+    {
+        let last = row.seq();
+        let position = self.length() + 1;
+        self.add_row(row)?;
+        self.set_seat(who, Seat::new(last, Stage::Open(position)));
+        Ok(())
+    }
+
+    /// Serves one request: what it changes, and the answer. It costs what its answer costs, and a Seal what the change of the
+    /// dictionary costs. The seat is that of the connection; the rule doesn't ask for it.
+    pub fn step(
+        &mut self,
+        alloc: Global,
+        _seat: u32,
+        who: u8,
+        payload: &[u8],
+    ) -> Result<ToClient, NoMemory>
+        ensures ok { IfOk result (λ a. (self.new ≡ (serve self.old who payload.now).next) × (a ≡ (serve self.old who payload.now).answer)) }
+        ensures spelled { IfOk result (λ a. HasSpelling a) }
+        ensures err { OnErr result (self.new ≡ self.old) }
+    {
+        let Plan { answer, change } = self.plan(alloc, who, payload)?;
+        self.enact(alloc, change)?;
+        Ok(answer)
+    }
+}
