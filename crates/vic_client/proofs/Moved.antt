@@ -1,6 +1,5 @@
 -- The moves of answers, from what is known of them; and that a client stays sound.
-use Rattle.std.proofs.Common.{◌≡◌, ℕ, ◌+◌, ◌≤◌, ◌<◌, Bool, true, false, List, [], ◌∷◌, ◌++◌, length, drop, Option, Some, None, nat_eq, refl, sym, ap, subst, ◌∙◌, arith}
-use Rattle.std.specs.List.{AllByRecursion}
+use Rattle.std.proofs.Common.{◌≡◌, ℕ, ◌≤◌, ◌<◌, true, List, [], ◌∷◌, ◌++◌, length, drop, Option, Some, None, refl, ap, subst, ◌∙◌, arith}
 use Rattle.vic_dict.specs.declared.op.Op.{Op}
 use Rattle.vic_dict.specs.declared.op.Entry.{Entry}
 use Rattle.vic_wire.specs.declared.message.Seal.{Seal}
@@ -10,7 +9,7 @@ use Rattle.vic_rules.specs.declared.state.Own.{Own}
 use Rattle.vic_rules.specs.declared.trace.Input.TheVariants as input
 use Rattle.vic_rules.specs.declared.state.Awaiting.{Awaiting}
 use Rattle.vic_rules.specs.declared.state.Awaiting.TheVariants as awaits
-use Rattle.vic_rules.specs.Client.{Standing, Move, halts, grown, onto, replied, replied_to, updated, is_next, is_done, decision, verdict, verdict_on, taken_or_halts, taken, step, on_payload}
+use Rattle.vic_rules.specs.Client.{Standing, halts, grown, replied, replied_to, updated, is_next, is_done, decision, verdict, verdict_on, taken_or_halts, taken, step, on_payload}
 use Rattle.vic_client.specs.Sound.{OwnWithin}
 use Rattle.vic_client.specs.Moves.{reply_move}
 use Rattle.vic_wire.specs.declared.message.ToClient.{ToClient}
@@ -121,3 +120,12 @@ judged_calls me s (Some m) None = taken_calls me s m
 
 pub heard_calls : (g : Group) (me : ℕ) (s : Standing) (payload : List ℕ) → (heard_move g me s payload).next.calls ≡ s.calls
 heard_calls g me s payload = judged_calls me s (read_answer payload) (verdict g me s payload)
+
+-- own calls that stand on a path stand on a longer one, and so does one that joins them
+pub own_grows : (n m : ℕ) (own : List Own) → n ≤ m → OwnWithin n own → OwnWithin m own
+own_grows n m [] h w = tt
+own_grows n m (o ∷ own) h w = (omega (arith, w.0), own_grows n m own h w.1)
+
+pub own_joins : (m : ℕ) (own : List Own) (o : Own) → OwnWithin m own → o.position ≤ m → OwnWithin m (own ++ o ∷ [])
+own_joins m [] o w h = (h, tt)
+own_joins m (p ∷ own) o w h = (w.0, own_joins m own o w.1 h)

@@ -1,6 +1,5 @@
 -- What a client keeps, and for which standings it stands.
-use Rattle.std.specs.Prelude.{◌≡◌, ℕ, Bool, ◌&&◌, List, Option, Some, None, is_none}
-use Rattle.vic_dict.specs.declared.op.Outcome.{Outcome}
+use Rattle.std.specs.Prelude.{◌≡◌, ℕ, Bool, ◌&&◌, List, Option, is_none}
 use Rattle.vic_dict.specs.declared.op.Mode.{Mode}
 use Rattle.vic_wire.specs.Hashes.{Group}
 use Rattle.vic_rules.specs.declared.state.Own.{Own}

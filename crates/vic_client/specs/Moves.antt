@@ -1,7 +1,6 @@
 -- What taking an answer does to a client's state.
-use Rattle.std.specs.Prelude.{◌≡◌, ℕ, ◌+◌, Bool, List, [], ◌∷◌, ◌++◌, length, Option, Some, None}
+use Rattle.std.specs.Prelude.{◌≡◌, ℕ, Bool, List, [], ◌∷◌, ◌++◌, length}
 use Rattle.vic_dict.specs.declared.op.Op.{Op}
-use Rattle.vic_dict.specs.declared.op.Outcome.{Outcome}
 use Rattle.vic_wire.specs.declared.message.Seal.{Seal}
 use Rattle.vic_wire.specs.declared.message.Tagged.{Tagged}
 use Rattle.vic_wire.specs.Parts.{Part}

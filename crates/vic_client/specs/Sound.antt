@@ -1,5 +1,5 @@
 -- What holds of every client.
-use Rattle.std.specs.Prelude.{◌≡◌, ℕ, ◌<◌, ◌≤◌, length, List}
+use Rattle.std.specs.Prelude.{ℕ, ◌<◌, ◌≤◌, length, List}
 use Rattle.std.specs.List.{AllByRecursion}
 use Rattle.vic_dict.specs.Dictionary.{Fits}
 use Rattle.vic_rules.specs.declared.state.Own.{Own}

@@ -188,6 +188,9 @@ impl Client {
     pub fn unsettled(&self) -> u32
         ensures { result ≡ length self.now.own }
     {
+        let length = self.state.window.length() as usize;
+        let few = self.state.own.len() <= length;
+        prove!(few);
         self.state.own.len() as u32
     }
 

@@ -48,7 +48,13 @@ fn awaited_op(alloc: Global, awaiting: &Awaiting) -> Result<Option<Op>, NoMemory
     }
 }
 
-fn hear_reply(alloc: Global, state: &mut State, seal: &Seal, entries: &TaggedList, part: Option<PlainDict>) -> Result<Heard, NoMemory>
+fn hear_reply(
+    alloc: Global,
+    state: &mut State,
+    seal: &Seal,
+    entries: &TaggedList,
+    part: Option<PlainDict>,
+) -> Result<Heard, NoMemory>
     requires sound { IsSoundState state.old }
     requires spelled { HasSpelling (ToClient.Reply seal.now entries.now []) }
     requires formed { IsFormed (held_length state.old.window) state.old.awaiting (is_some part) (ToClient.Reply seal.now entries.now []) }
@@ -59,12 +65,19 @@ fn hear_reply(alloc: Global, state: &mut State, seal: &Seal, entries: &TaggedLis
     ensures err { (s : Standing) → StandsForState state.old s → OnErr result (StandsForState state.new s) }
 {
     match (awaited_op(alloc, &state.awaiting)?, part) {
-        (Some(op), Some(part)) => Ok(Heard::Goes(take_reply(alloc, state, seal, entries, part, op)?)),
+        (Some(op), Some(part)) => Ok(Heard::Goes(take_reply(
+            alloc, state, seal, entries, part, op,
+        )?)),
         _ => Ok(Heard::Halts(1)),
     }
 }
 
-fn hear_update(alloc: Global, state: &mut State, seal: &Seal, part: Option<PlainDict>) -> Result<Heard, NoMemory>
+fn hear_update(
+    alloc: Global,
+    state: &mut State,
+    seal: &Seal,
+    part: Option<PlainDict>,
+) -> Result<Heard, NoMemory>
     requires sound { IsSoundState state.old }
     requires above { state.old.window.sealed ≤ seal.now.position }
     requires turn { IsTurn state.old (ToClient.Update seal.now []) }
@@ -109,7 +122,12 @@ fn hear_rest(state: &mut State, returned: Option<Outcome>) -> Heard
 }
 
 // The effect of an answer that passed the checks.
-fn hear_message(alloc: Global, state: &mut State, message: &ToClient, part: Option<PlainDict>) -> Result<Heard, NoMemory>
+fn hear_message(
+    alloc: Global,
+    state: &mut State,
+    message: &ToClient,
+    part: Option<PlainDict>,
+) -> Result<Heard, NoMemory>
     requires sound { IsSoundState state.old }
     requires spelled { HasSpelling message.now }
     requires part { part ≡ part_by message.now }
@@ -132,7 +150,12 @@ fn hear_message(alloc: Global, state: &mut State, message: &ToClient, part: Opti
 }
 
 // The effect of what a payload spells, once it passed the checks.
-fn hear_passed(alloc: Global, state: &mut State, message: Option<&ToClient>, part: Option<PlainDict>) -> Result<Heard, NoMemory>
+fn hear_passed(
+    alloc: Global,
+    state: &mut State,
+    message: Option<&ToClient>,
+    part: Option<PlainDict>,
+) -> Result<Heard, NoMemory>
     requires sound { IsSoundState state.old }
     requires spelled { IfSome (option_copied message) HasSpelling }
     requires part { part ≡ part_in (option_copied message) }
@@ -152,7 +175,12 @@ fn hear_passed(alloc: Global, state: &mut State, message: Option<&ToClient>, par
 }
 
 // What the client makes of what a payload spells.
-fn hear_read(alloc: Global, state: &mut State, message: Option<&ToClient>, part: Option<PlainDict>) -> Result<Heard, NoMemory>
+fn hear_read(
+    alloc: Global,
+    state: &mut State,
+    message: Option<&ToClient>,
+    part: Option<PlainDict>,
+) -> Result<Heard, NoMemory>
     requires sound { IsSoundState state.old }
     requires spelled { IfSome (option_copied message) HasSpelling }
     requires part { part ≡ part_in (option_copied message) }

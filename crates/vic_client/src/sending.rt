@@ -43,7 +43,12 @@ pub(crate) fn commit_tag(key: &GroupKey, position: u32, chained: &Digest32, done
 }
 
 /// The tag of the seal text of a position.
-pub(crate) fn seal_tag(key: &GroupKey, position: u32, chained: &Digest32, root: &Digest32) -> Digest32
+pub(crate) fn seal_tag(
+    key: &GroupKey,
+    position: u32,
+    chained: &Digest32,
+    root: &Digest32,
+) -> Digest32
     ensures { result.bytes ≡ tag_of key.now (seal_text position chained.now.bytes root.now.bytes) }
 {
     let mut hasher = key.begin();
@@ -68,7 +73,12 @@ fn are_bytes_in(op: &Op)
 }
 
 /// The Invoke of a call.
-pub(crate) fn invoke_payload(alloc: Global, state: &State, seq: u32, op: &Op) -> Result<Bytes, NoMemory>
+pub(crate) fn invoke_payload(
+    alloc: Global,
+    state: &State,
+    seq: u32,
+    op: &Op,
+) -> Result<Bytes, NoMemory>
     requires fits { Fits op.now }
     requires number { 0 < seq }
     ensures { (s : Standing) → ShowsPath (group_of state.now) s.path state.now.window
@@ -99,11 +109,23 @@ pub(crate) fn commit_payload(alloc: Global, state: &State, done: bool) -> Result
     let position = state.window.length();
     let chained = state.window.hash_at(position);
     let tag = commit_tag(&state.key, position, &chained, done);
-    encode_request(alloc, &ToServer::Commit { position, done, tag })
+    encode_request(
+        alloc,
+        &ToServer::Commit {
+            position,
+            done,
+            tag,
+        },
+    )
 }
 
 /// The Seal of a position.
-pub(crate) fn seal_payload(alloc: Global, state: &State, position: u32, root: Digest32) -> Result<Bytes, NoMemory>
+pub(crate) fn seal_payload(
+    alloc: Global,
+    state: &State,
+    position: u32,
+    root: Digest32,
+) -> Result<Bytes, NoMemory>
     requires some { 0 < position }
     requires above { state.now.window.sealed ≤ position }
     requires within { position ≤ held_length state.now.window }
@@ -112,5 +134,12 @@ pub(crate) fn seal_payload(alloc: Global, state: &State, position: u32, root: Di
 {
     let chained = state.window.hash_at(position);
     let tag = seal_tag(&state.key, position, &chained, &root);
-    encode_request(alloc, &ToServer::Seal { position, root, tag })
+    encode_request(
+        alloc,
+        &ToServer::Seal {
+            position,
+            root,
+            tag,
+        },
+    )
 }

@@ -118,7 +118,12 @@ fn is_write(op: &Op) -> bool
 }
 
 // The root after an own call is sealed, from the seal's part and root.
-fn root_after(alloc: Global, call: &Own, part: PlainDict, root: Digest32) -> Result<Digest32, NoMemory>
+fn root_after(
+    alloc: Global,
+    call: &Own,
+    part: PlainDict,
+    root: Digest32,
+) -> Result<Digest32, NoMemory>
     requires { Fits call.now.op }
     ensures { IfOk result (λ r. r.bytes ≡ new_root call.now part root.bytes) }
 {
@@ -132,7 +137,12 @@ fn root_after(alloc: Global, call: &Own, part: PlainDict, root: Digest32) -> Res
 
 /// After an Update that passed the checks: the first own call is sealed at the position above the seal, and the Seal is sent.
 /// The part is taken, since the call is done on it.
-pub(crate) fn take_update(alloc: Global, state: &mut State, seal: &Seal, part: PlainDict) -> Result<Step, NoMemory>
+pub(crate) fn take_update(
+    alloc: Global,
+    state: &mut State,
+    seal: &Seal,
+    part: PlainDict,
+) -> Result<Step, NoMemory>
     requires some { 0 < length state.old.own }
     requires above { state.old.window.sealed ≤ seal.now.position }
     requires within { seal.now.position + 1 ≤ held_length state.old.window }
@@ -161,7 +171,11 @@ pub(crate) fn take_update(alloc: Global, state: &mut State, seal: &Seal, part: P
 }
 
 /// After Entries that passed the checks: they stand on the path, and their seal is the window's.
-pub(crate) fn take_entries(state: &mut State, seal: &Seal, entries: &TaggedList) -> Result<Step, NoMemory>
+pub(crate) fn take_entries(
+    state: &mut State,
+    seal: &Seal,
+    entries: &TaggedList,
+) -> Result<Step, NoMemory>
     requires spelled { AllByRecursion IsTagged entries.now }
     requires above { state.old.window.sealed ≤ seal.now.position }
     requires within { seal.now.position ≤ held_length state.old.window + length entries.now }

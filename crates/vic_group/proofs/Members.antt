@@ -8,7 +8,6 @@ use Rattle.vic_laws.proofs.Standings.{standing_moved, standing_kept}
 use Rattle.vic_group.specs.Members.{AllStand}
 
 module _ {M : Type 0} (Stands : M → ℕ → Standing → Type 0) (g : Group) where
-
   -- each one stands where the history leaves it
   pub stand_at : (h : List TraceStep) (i k : ℕ) (ms : List M) (m : M) → AllStand Stands g h i ms → slice_get ms k ≡ Some m → Stands m (i + k) (standing g (i + k) h)
   stand_at h i k [] m all is = absurd cc
@@ -32,10 +31,12 @@ module _ {M : Type 0} (Stands : M → ℕ → Standing → Type 0) (g : Group) w
   stand_set h x i k [] m is lt all now = absurd (omega arith)
   stand_set h x i zero (n ∷ ms) m is lt all now =
       let same : i + zero ≡ i = omega arith in
-      let here : x.client ≡ i = is ∙ same in
-      (subst (λ (s : Standing). Stands m i s) (sym (standing_moved g i x h here)) (subst (λ (j : ℕ). Stands m j (move_of g h x).next) same now),
-       stand_above h x (suc i) ms (omega arith) all.1)
+      let here : x.client ≡ i = is ∙ same in (
+        subst (λ (s : Standing). Stands m i s) (sym (standing_moved g i x h here)) (subst (λ (j : ℕ). Stands m j (move_of g h x).next) same now),
+        stand_above h x (suc i) ms (omega arith) all.1,
+      )
   stand_set h x i (suc k) (n ∷ ms) m is lt all now =
-      let same : i + suc k ≡ suc i + k = omega arith in
-      (subst (λ (s : Standing). Stands n i s) (sym (standing_kept g i x h (λ e. omega arith))) all.0,
-       stand_set h x (suc i) k ms m (is ∙ same) (omega arith) all.1 (subst (λ (j : ℕ). Stands m j (move_of g h x).next) same now))
+      let same : i + suc k ≡ suc i + k = omega arith in (
+        subst (λ (s : Standing). Stands n i s) (sym (standing_kept g i x h (λ e. omega arith))) all.0,
+        stand_set h x (suc i) k ms m (is ∙ same) (omega arith) all.1 (subst (λ (j : ℕ). Stands m j (move_of g h x).next) same now),
+      )

@@ -1,4 +1,4 @@
-use Rattle.std.proofs.Common.{◌≡◌, IfOk, refl, sym, ap, subst, ◌∙◌}
+use Rattle.std.proofs.Common.{IfOk, refl, sym, subst}
 use Rattle.std.proofs.Common.{Option}
 use Rattle.vic_wire.specs.declared.message.ToClient.{ToClient}
 use Rattle.vic_rules.specs.Client.{Move, verdict_on}

@@ -1,4 +1,4 @@
-use Rattle.std.proofs.Common.{◌≡◌, ℕ, Option, IfOk, sym, ap, subst}
+use Rattle.std.proofs.Common.{ℕ, Option, IfOk, sym, ap, subst}
 use Rattle.std.specs.Option.{option_copied}
 use Rattle.vic_rules.specs.Client.{taken_or_halts}
 use Rattle.vic_client.specs.Hearing.{Hears}

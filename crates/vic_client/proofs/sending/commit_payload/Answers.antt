@@ -6,4 +6,4 @@ pub returns : goal.returns
 returns c s shows =
     let g = group_of c.args.state.now in
     written c.encode_request.result _ _ (commit_is g c.args.state.now.id s _ c.args.done c.hash_at-chained.result c.commit_tag-tag.result
-        (c.length-position.ensures.shows g s.path shows) (c.hash_at-chained.ensures.shows g s.path shows) c.commit_tag-tag.ensures) c.encode_request.ensures
+    (c.length-position.ensures.shows g s.path shows) (c.hash_at-chained.ensures.shows g s.path shows) c.commit_tag-tag.ensures) c.encode_request.ensures

@@ -13,6 +13,6 @@ returns c s shows =
     let g = group_of c.args.state.now in
     let tag = c.invoke_tag-tag.result in
     let tagged : tag.bytes ≡ tag_of c.args.state.now.key (invoke_text (record { client = c.args.state.now.id; seq = c.args.seq; op = c.args.op.now })) =
-        subst (λ (o : Op). tag.bytes ≡ tag_of c.args.state.now.key (invoke_text (record { client = c.args.state.now.id; seq = c.args.seq; op = o }))) c.in_ok-copy.ensures c.invoke_tag-tag.ensures in
+    subst (λ (o : Op). tag.bytes ≡ tag_of c.args.state.now.key (invoke_text (record { client = c.args.state.now.id; seq = c.args.seq; op = o }))) c.in_ok-copy.ensures c.invoke_tag-tag.ensures in
     written c.encode_request.result _ _ (invoke_is g c.args.state.now.id s c.length.result c.args.seq c.args.op.now tag (c.length.ensures.shows g s.path shows) tagged)
-        (subst (λ (o : Op). IfOk c.encode_request.result (λ b. b ≡ request_text (ask.Invoke c.length.result c.args.seq o tag))) c.in_ok-copy.ensures c.encode_request.ensures)
+    (subst (λ (o : Op). IfOk c.encode_request.result (λ b. b ≡ request_text (ask.Invoke c.length.result c.args.seq o tag))) c.in_ok-copy.ensures c.encode_request.ensures)

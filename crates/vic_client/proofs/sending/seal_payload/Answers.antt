@@ -6,4 +6,4 @@ pub returns : goal.returns
 returns c s shows is rooted =
     let g = group_of c.args.state.now in
     written c.encode_request.result _ _ (seal_is g c.args.state.now.id s c.args.position _ c.hash_at-chained.result c.seal_tag-tag.result is rooted
-        (c.hash_at-chained.ensures.shows g s.path shows) c.seal_tag-tag.ensures) c.encode_request.ensures
+    (c.hash_at-chained.ensures.shows g s.path shows) c.seal_tag-tag.ensures) c.encode_request.ensures

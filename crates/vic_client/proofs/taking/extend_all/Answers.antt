@@ -1,4 +1,4 @@
-use Rattle.std.proofs.Common.{◌≡◌, ◌≤◌, ℕ, List, take, length, sym, ap, ◌∙◌, subst, arith, refl, rules}
+use Rattle.std.proofs.Common.{◌≡◌, ◌≤◌, ℕ, List, take, length, sym, ap, ◌∙◌, subst, arith}
 use Rattle.vic_dict.specs.declared.op.Entry.{Entry}
 use Rattle.vic_dict.specs.Lists.{front}
 use Rattle.vic_chain.specs.Held.{Held, ShowsPath}
@@ -28,5 +28,5 @@ returns-in-Err-clause-err c = λ g s h.
     let onto_it = onto (take c.loop-item.item-index c.args.items.now) s.path in
     let before : ShowsPath g onto_it c.extend.new.self = subst (λ (w : Held). ShowsPath g onto_it w) (sym c.in-Err.ensures.err) (c.loop-item.invariant.shows g s h) in
     let back : front n onto_it ≡ s.path =
-        front_below (take c.loop-item.item-index c.args.items.now) n s.path few ∙ ap (λ (m : ℕ). front m s.path) there ∙ front_whole s.path in
+    front_below (take c.loop-item.item-index c.args.items.now) n s.path few ∙ ap (λ (m : ℕ). front m s.path) there ∙ front_whole s.path in
     subst (λ (p : List Entry). ShowsPath g p c.cut_back.new.self) back (c.cut_back.ensures.shows g onto_it before)

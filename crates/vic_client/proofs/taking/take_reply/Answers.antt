@@ -1,4 +1,4 @@
-use Rattle.std.proofs.Common.{◌≡◌, ◌≤◌, ◌+◌, ℕ, Bool, List, [], ◌∷◌, ◌++◌, Some, length, sym, ap, ◌∙◌, subst, arith, refl}
+use Rattle.std.proofs.Common.{◌≡◌, ◌≤◌, ℕ, Bool, List, [], ◌∷◌, ◌++◌, Some, length, sym, ap, ◌∙◌, subst, arith, refl}
 use Rattle.vic_dict.specs.declared.op.Entry.{Entry}
 use Rattle.vic_dict.specs.Lists.{front}
 use Rattle.vic_wire.specs.declared.message.Tagged.{Tagged}
@@ -22,21 +22,21 @@ returns-in-Ok-clause-taken c = λ s st.
     let v = reply_move me s c.args.seal.now c.args.entries.now c.args.part c.args.op in
     let decided : c.in_ok-outcome.outcome ≡ ends = c.in_ok-outcome.ensures s st in
     let shown : ShowsPath g p c.extend_all.new.window =
-        subst (λ (ts : List Tagged). ShowsPath g (onto ts s.path) c.extend_all.new.window) c.as_slice.ensures (c.in_ok-extend_all.ensures.ok g s st.path) in
+    subst (λ (ts : List Tagged). ShowsPath g (onto ts s.path) c.extend_all.new.window) c.as_slice.ensures (c.in_ok-extend_all.ensures.ok g s st.path) in
     let done : c.is_done.result ≡ is_done ends = c.is_done.ensures ∙ ap is_done decided in
     let sent : c.in-Ok.sent ≡ request_text (request_of g me v.next (Commits c.is_done.result)) = c.in-Ok.ensures.sent v.next shown in
     let after = c.in-Ok.ensures.own in
     let there : ShowsPath g p c.advance.new.self =
-        c.advance.ensures.shows g p (subst (λ (x : State). ShowsPath g p x.window) (sym after) shown) in
+    c.advance.ensures.shows g p (subst (λ (x : State). ShowsPath g p x.window) (sym after) shown) in
     let old_length : c.length-length.result ≡ length s.path = c.length-length.ensures.shows g s.path st.path in
     let items : length c.as_slice.result.now ≡ length c.args.entries.now = ap (λ (ts : List Tagged). length ts) c.as_slice.ensures in
     let position : held_length c.extend_all.new.window ≡ length p =
-        omega (arith, c.in_ok-extend_all.ensures.length, c.length-length.ensures.value, old_length, items, length-onto c.args.entries.now s.path) in
+    omega (arith, c.in_ok-extend_all.ensures.length, c.length-length.ensures.value, old_length, items, length-onto c.args.entries.now s.path) in
     let own_is : c.own_call.new.state.own ≡ s.own ++ record { position = length p; op = c.args.op; done = is_done ends } ∷ [] =
-        ap (λ (x : State). x.own) after
-        ∙ ap (λ (own : List Own). own ++ record { position = held_length c.extend_all.new.window; op = c.args.op; done = c.is_done.result } ∷ []) (sym st.own)
-        ∙ ap (λ n. s.own ++ record { position = n; op = c.args.op; done = c.is_done.result } ∷ []) position
-        ∙ ap (λ (b : Bool). s.own ++ record { position = length p; op = c.args.op; done = b } ∷ []) done in
+    ap (λ (x : State). x.own) after
+    ∙ ap (λ (own : List Own). own ++ record { position = held_length c.extend_all.new.window; op = c.args.op; done = c.is_done.result } ∷ []) (sym st.own)
+    ∙ ap (λ n. s.own ++ record { position = n; op = c.args.op; done = c.is_done.result } ∷ []) position
+    ∙ ap (λ (b : Bool). s.own ++ record { position = length p; op = c.args.op; done = b } ∷ []) done in
     record {
       send = ap Some (sent ∙ ap (λ (b : Bool). request_text (request_of g me v.next (Commits b))) done);
       returned = ap Some decided;
@@ -56,14 +56,14 @@ returns-in-Err-clause-err c = λ s st.
     let p : List Entry = grown s c.args.entries.now in
     let n = c.length-length.result in
     let shown : ShowsPath g p c.extend_all.new.window =
-        subst (λ (ts : List Tagged). ShowsPath g (onto ts s.path) c.extend_all.new.window) c.as_slice.ensures (c.in_ok-extend_all.ensures.ok g s st.path) in
+    subst (λ (ts : List Tagged). ShowsPath g (onto ts s.path) c.extend_all.new.window) c.as_slice.ensures (c.in_ok-extend_all.ensures.ok g s st.path) in
     let after = c.in-Err.ensures.err in
     let old_length : n ≡ length s.path = c.length-length.ensures.shows g s.path st.path in
     let few : n ≤ length s.path = omega (arith, old_length) in
     let back : front n p ≡ s.path = front_below c.args.entries.now n s.path few ∙ ap (λ (m : ℕ). front m s.path) old_length ∙ front_whole s.path in
     let there : ShowsPath g s.path c.cut_back.new.self =
-        subst (λ (q : List Entry). ShowsPath g q c.cut_back.new.self) back
-        (c.cut_back.ensures.shows g p (subst (λ (x : State). ShowsPath g p x.window) (sym after) shown)) in
+    subst (λ (q : List Entry). ShowsPath g q c.cut_back.new.self) back
+    (c.cut_back.ensures.shows g p (subst (λ (x : State). ShowsPath g p x.window) (sym after) shown)) in
     record {
       path = subst (λ (x : State). ShowsPath (record { mode = x.mode; count = x.count; key = x.key }) s.path c.cut_back.new.self) (sym after) there;
       sealed = st.sealed ∙ sym (ap (λ (w : Held). w.sealed) c.cut_back.ensures.value ∙ ap (λ (x : State). x.window.sealed) after ∙ c.in_ok-extend_all.ensures.sealed);

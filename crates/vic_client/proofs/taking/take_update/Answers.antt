@@ -1,10 +1,9 @@
-use Rattle.std.proofs.Common.{◌≡◌, ◌+◌, ℕ, List, [], ◌∷◌, Some, drop, sym, ap, ◌∙◌, subst, refl}
-use Rattle.std.specs.Prelude.{slice_get, Option}
+use Rattle.std.proofs.Common.{◌≡◌, ◌+◌, List, ◌∷◌, Some, drop, sym, ap, ◌∙◌, refl}
+use Rattle.std.specs.Prelude.{slice_get}
 use Rattle.vic_wire.specs.Hashes.{Group}
-use Rattle.vic_wire.specs.Messages.{request_text}
 use Rattle.vic_chain.specs.Held.{Held, ShowsPath}
 use Rattle.vic_rules.specs.declared.state.Own.{Own}
-use Rattle.vic_rules.specs.Client.{request_of, Seals, sealed_to, new_root}
+use Rattle.vic_rules.specs.Client.{sealed_to, new_root}
 use Rattle.vic_checks.specs.State.{group_of}
 use Rattle.vic_client.proofs.taking.take_update.Goals as goal
 
@@ -16,7 +15,7 @@ returns-clause-taken c = λ s o others st is.
     let first : Some o ≡ Some c.at-call.result.now = sym (ap (λ (l : List Own). slice_get l 0) own) ∙ c.at-call.ensures.item in
     let call : o ≡ c.at-call.result.now = cc in
     let rooted : v.next.root ≡ c.in_ok-root.root.bytes =
-        ap (λ (x : Own). new_root x c.args.part c.args.seal.now.root.bytes) call ∙ sym c.in_ok-root.ensures in
+    ap (λ (x : Own). new_root x c.args.part c.args.seal.now.root.bytes) call ∙ sym c.in_ok-root.ensures in
     let there : ShowsPath g s.path c.advance.new.self = c.advance.ensures.shows g s.path st.path in
     record {
       send = ap Some (c.in_ok-sent.ensures v.next st.path refl rooted);

@@ -2,7 +2,7 @@ use Rattle.std.proofs.Common.{◌≡◌, ℕ, Some, length, ap, ◌∙◌, subst
 use Rattle.vic_wire.specs.declared.message.ToServer.TheVariants as ask
 use Rattle.vic_wire.specs.Messages.{request_text}
 use Rattle.vic_rules.specs.Client.{step}
-use Rattle.vic_client.specs.Kept.{Kept, StandsFor, group_of}
+use Rattle.vic_client.specs.Kept.{Kept, StandsFor}
 use Rattle.vic_client.proofs.client.Client.sync.Goals as goal
 
 pub returns-clause-sent : goal.returns-clause-sent
