@@ -2,3 +2,4 @@ pub mod Words
 pub mod Ends
 pub mod Output
 pub mod Members
+pub mod World

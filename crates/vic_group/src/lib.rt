@@ -5,9 +5,13 @@
 #![tactic(auto)]
 
 pub mod finish;
+pub mod member;
 pub mod output;
 pub mod place;
 pub mod queue;
 pub mod status;
+pub mod world;
 
 pub use status::Status;
+pub use world::World;
+pub use world::WorldFault;
