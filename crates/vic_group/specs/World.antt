@@ -3,10 +3,12 @@ use Rattle.std.specs.Prelude.{◌≡◌, ℕ, ◌+◌, ◌<◌, ◌^◌, Bool, L
 use Rattle.std.specs.List.{AllByRecursion}
 use Rattle.vic_dict.specs.declared.op.Mode.TheVariants as mode
 use Rattle.vic_wire.specs.Hashes.{Group}
-use Rattle.vic_rules.specs.Client.{Standing}
+use Rattle.vic_rules.specs.declared.trace.Input.{Input}
+use Rattle.vic_rules.specs.declared.trace.TraceStep.{TraceStep}
+use Rattle.vic_rules.specs.Client.{Standing, step, payload_of}
 use Rattle.vic_client.specs.Kept.{StandsFor, group_of}
 use Rattle.vic_view.specs.Transcripts.{history_of, group_of as transcript_group}
-use Rattle.vic_script.specs.Scenes.{Scene}
+use Rattle.vic_script.specs.Scenes.{Scene, queued}
 use Rattle.vic_group.specs.declared.member.Member.{Member}
 use Rattle.vic_group.specs.declared.world.World.{World}
 use Rattle.vic_group.specs.Members.{AllStand}
@@ -32,3 +34,10 @@ IsReady m = (m.client.mode ≡ mode.Plain) × (m.client.calls + 1 < 2 ^ 32)
 
 abbrev pub AllReady : World → Type 0
 AllReady w = AllByRecursion IsReady w.members.items
+
+-- what a client does at a step: the step as the history has it, what joined its queue, and where it then stands
+pub record Acts (g : Group) (i : ℕ) (s : Standing) (given : Input) (old new : Member) (x : TraceStep) : Type 0 where
+  pub step_is : x ≡ record { client = i; input = given; sent = payload_of g i (step g i s given).next (step g i s given).sends; returned = (step g i s given).returns }
+  pub up : new.up ≡ queued old.up (payload_of g i (step g i s given).next (step g i s given).sends)
+  pub down : new.down ≡ old.down
+  pub stands : MemberStands g new i (step g i s given).next

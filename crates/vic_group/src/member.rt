@@ -1,7 +1,18 @@
 //! A client of a script, with the payloads that wait for the server and for it.
 
+ghost use Rattle.std.specs.Prelude.{◌≡◌, ◌<◌, ◌+◌, ◌^◌, ℕ, IsTrue, IfOk, OnOk, Option, Some, None};
+ghost use Rattle.vic_dict.specs.Dictionary.{Fits};
+ghost use Rattle.vic_wire.specs.Hashes.{Group};
+ghost use Rattle.vic_rules.specs.declared.trace.Input.TheVariants as input;
+ghost use Rattle.vic_rules.specs.Client.{Standing};
+ghost use Rattle.vic_client.specs.Kept.{is_idle};
+ghost use Rattle.vic_script.specs.Scenes.{queued};
+
 use crate::queue::Queue;
+use std::alloc::Global;
 use vic_client::Client;
+use vic_dict::{Bytes, NoMemory, Op, Outcome};
+use vic_view::{Input, TraceStep};
 
 /// A client, its queue of requests and its queue of answers.
 #[derive(Debug, Drop)]
@@ -9,4 +20,78 @@ pub struct Member {
     pub client: Client,
     pub up: Queue,
     pub down: Queue,
+}
+
+// What was sent joins the queue of requests, and a copy of it is handed back.
+fn join(alloc: Global, up: &mut Queue, sent: Option<Bytes>) -> Result<Option<Bytes>, NoMemory>
+    ensures queue { OnOk result (up.new ≡ queued up.old sent) }
+    ensures copy { IfOk result (λ made. made ≡ sent) }
+{
+    match sent {
+        None => Ok(None),
+        Some(payload) => {
+            let copy = payload.copy(alloc)?;
+            up.push(payload)?;
+            Ok(Some(copy))
+        }
+    }
+}
+
+impl Member {
+    ghost use Rattle.vic_group.specs.World.{Acts, MemberStands, IsReady};
+
+    // The step of a client, once it has sent and returned.
+    fn stepped(&mut self, alloc: Global, input: Input, sent: Option<Bytes>, returned: Option<Outcome>) -> Result<TraceStep, NoMemory>
+        ensures client { self.new.client ≡ self.old.client }
+        ensures down { self.new.down ≡ self.old.down }
+        ensures up { OnOk result (self.new.up ≡ queued self.old.up sent) }
+        ensures step_is { IfOk result (λ x. x ≡ record { client = self.old.client.id; input = input; sent = sent; returned = returned }) }
+    {
+        let client = self.client.id();
+        let sent = join(alloc, &mut self.up, sent)?;
+        Ok(TraceStep {
+            client,
+            input,
+            sent,
+            returned,
+        })
+    }
+
+    /// The client calls an operation.
+    pub fn call(&mut self, alloc: Global, op: &Op) -> Result<TraceStep, NoMemory>
+        requires idle { IsTrue (is_idle self.old.client) }
+        requires ready { IsReady self.old }
+        requires fits { Fits op.now }
+        ensures { (g : Group) (i : ℕ) (s : Standing) → MemberStands g self.old i s → IfOk result (λ x. Acts g i s (input.Call op.now) self.old self.new x) }
+    {
+        let sent = self.client.invoke(alloc, op)?;
+        let input = Input::Call(op.copy(alloc)?);
+        self.stepped(alloc, input, Some(sent), None)
+    }
+
+    /// The client polls.
+    pub fn poll(&mut self, alloc: Global) -> Result<TraceStep, NoMemory>
+        requires { IsTrue (is_idle self.old.client) }
+        ensures { (g : Group) (i : ℕ) (s : Standing) → MemberStands g self.old i s → IfOk result (λ x. Acts g i s input.Poll self.old self.new x) }
+    {
+        let sent = self.client.poll(alloc)?;
+        self.stepped(alloc, Input::Poll, Some(sent), None)
+    }
+
+    /// The client syncs.
+    pub fn sync(&mut self, alloc: Global) -> Result<TraceStep, NoMemory>
+        requires { IsTrue (is_idle self.old.client) }
+        ensures { (g : Group) (i : ℕ) (s : Standing) → MemberStands g self.old i s → IfOk result (λ x. Acts g i s input.Sync self.old self.new x) }
+    {
+        let sent = self.client.sync(alloc)?;
+        self.stepped(alloc, Input::Sync, Some(sent), None)
+    }
+
+    /// The client takes a payload.
+    pub fn take(&mut self, alloc: Global, payload: Bytes) -> Result<TraceStep, NoMemory>
+        ensures { (g : Group) (i : ℕ) (s : Standing) → MemberStands g self.old i s → IfOk result (λ x. Acts g i s (input.Payload payload) self.old self.new x) }
+    {
+        let step = self.client.take(alloc, payload.as_slice())?;
+        self.stepped(alloc, Input::Payload(payload), step.send, step.returned)
+    }
 }
