@@ -40,3 +40,11 @@ module _ {M : Type 0} (Stands : M → ℕ → Standing → Type 0) (g : Group) w
         subst (λ (s : Standing). Stands n i s) (sym (standing_kept g i x h (λ e. omega arith))) all.0,
         stand_set h x (suc i) k ms m (is ∙ same) (omega arith) all.1 (subst (λ (j : ℕ). Stands m j (move_of g h x).next) same now),
       )
+
+  -- one is exchanged for another that stands where it stood
+  pub stand_swap : (h : List TraceStep) (i k : ℕ) (ms : List M) (m n : M) → AllStand Stands g h i ms → slice_get ms k ≡ Some m
+      → ((j : ℕ) (s : Standing) → Stands m j s → Stands n j s) → AllStand Stands g h i (slice_set ms k n)
+  stand_swap h i k [] m n all at swap = tt
+  stand_swap h i zero (p ∷ ms) m n all at swap =
+      let e : p ≡ m = cc in (swap i (standing g i h) (subst (λ (c : M). Stands c i (standing g i h)) e all.0), all.1)
+  stand_swap h i (suc k) (p ∷ ms) m n all at swap = (all.0, stand_swap h (suc i) k ms m n all.1 at swap)

@@ -9,6 +9,7 @@ pub mod member;
 pub mod output;
 pub mod place;
 pub mod queue;
+mod said;
 pub mod status;
 pub mod world;
 

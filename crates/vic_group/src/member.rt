@@ -12,6 +12,8 @@ use crate::queue::Queue;
 use std::alloc::Global;
 use vic_client::Client;
 use vic_dict::{Bytes, NoMemory, Op, Outcome};
+use vic_frames::encode_answer;
+use vic_server::Served;
 use vic_view::{Input, TraceStep};
 
 /// A client, its queue of requests and its queue of answers.
@@ -38,7 +40,7 @@ fn join(alloc: Global, up: &mut Queue, sent: Option<Bytes>) -> Result<Option<Byt
 }
 
 impl Member {
-    ghost use Rattle.vic_group.specs.World.{Acts, MemberStands, IsReady};
+    ghost use Rattle.vic_group.specs.World.{Acts, MemberStands, IsReady, CanAsk, Takes, Serves};
 
     // The step of a client, once it has sent and returned.
     fn stepped(&mut self, alloc: Global, input: Input, sent: Option<Bytes>, returned: Option<Outcome>) -> Result<TraceStep, NoMemory>
@@ -93,5 +95,47 @@ impl Member {
     {
         let step = self.client.take(alloc, payload.as_slice())?;
         self.stepped(alloc, Input::Payload(payload), step.send, step.returned)
+    }
+
+    /// The client calls, polls or syncs; or it takes a payload.
+    pub fn ask(&mut self, alloc: Global, input: Input) -> Result<TraceStep, NoMemory>
+        requires idle { IsTrue (is_idle self.old.client) }
+        requires can { CanAsk self.old input }
+        ensures { (g : Group) (i : ℕ) (s : Standing) → MemberStands g self.old i s → IfOk result (λ x. Acts g i s input self.old self.new x) }
+    {
+        match input {
+            Input::Call(op) => self.call(alloc, &op),
+            Input::Poll => self.poll(alloc),
+            Input::Sync => self.sync(alloc),
+            Input::Payload(payload) => self.take(alloc, payload),
+        }
+    }
+
+    /// The client takes its oldest answer, if one waits.
+    pub fn take_oldest(&mut self, alloc: Global) -> Result<Option<TraceStep>, NoMemory>
+        ensures { (g : Group) (i : ℕ) (s : Standing) → MemberStands g self.old i s → IfOk result (λ x. Takes g i s self.old.down self.old self.new x) }
+    {
+        match self.down.take() {
+            None => Ok(None),
+            Some(payload) => {
+                let step = self.take(alloc, payload)?;
+                Ok(Some(step))
+            }
+        }
+    }
+
+    /// The server serves the client's oldest request, if one waits; whether one did.
+    pub fn serve_oldest(&mut self, alloc: Global, server: &mut Served, who: u8) -> Result<bool, NoMemory>
+        ensures { IfOk result (λ went. Serves who self.old.up self.old self.new server.old server.new went) }
+    {
+        match self.up.take() {
+            None => Ok(false),
+            Some(payload) => {
+                let answer = server.step(alloc, 0, who, payload.as_slice())?;
+                let text = encode_answer(alloc, &answer)?;
+                self.down.push(text)?;
+                Ok(true)
+            }
+        }
     }
 }
