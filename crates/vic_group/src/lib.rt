@@ -6,6 +6,7 @@
 
 pub mod finish;
 pub mod member;
+mod opening;
 pub mod output;
 pub mod place;
 pub mod queue;

@@ -8,12 +8,13 @@ ghost use Rattle.vic_script.specs.Run.{plain_group};
 ghost use Rattle.vic_script.specs.Print.{end_text};
 
 use crate::member::Member;
+use crate::opening::gather;
 use std::alloc::Global;
 use thiserror::Error;
 use vic_dict::{Bytes, NoMemory};
 use vic_script::Line;
 use vic_server::Served;
-use vic_view::Transcript;
+use vic_view::{Transcript, print_views};
 
 /// Why a line was not done.
 #[derive(Clone, Copy, Debug, PartialEq, Eq, Error)]
@@ -43,7 +44,12 @@ impl World {
         requires few { count ≤ 64 }
         ensures { IfOk result (λ w. ShowsScene w (opening (plain_group count))) }
     {
-        Err(NoMemory)
+        let gathered = gather(alloc, count)?;
+        Ok(World {
+            transcript: gathered.transcript,
+            members: gathered.members,
+            server: gathered.server,
+        })
     }
 
     /// Does a line, and answers the text that it prints. Where it is bad, nothing changes.
@@ -62,6 +68,6 @@ impl World {
         requires { IsLawful (group_of self.now.transcript) (history_of self.now.transcript) }
         ensures { IfOk result (λ text. text ≡ end_text (group_of self.now.transcript) (history_of self.now.transcript) None) }
     {
-        Err(NoMemory)
+        print_views(alloc, &self.transcript)
     }
 }
