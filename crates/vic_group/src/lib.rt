@@ -14,5 +14,4 @@ pub mod status;
 pub mod world;
 
 pub use status::Status;
-pub use world::World;
-pub use world::WorldFault;
+pub use world::{World, WorldFault};

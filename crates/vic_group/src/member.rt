@@ -41,7 +41,13 @@ impl Member {
     ghost use Rattle.vic_group.specs.World.{Acts, MemberStands, IsReady};
 
     // The step of a client, once it has sent and returned.
-    fn stepped(&mut self, alloc: Global, input: Input, sent: Option<Bytes>, returned: Option<Outcome>) -> Result<TraceStep, NoMemory>
+    fn stepped(
+        &mut self,
+        alloc: Global,
+        input: Input,
+        sent: Option<Bytes>,
+        returned: Option<Outcome>,
+    ) -> Result<TraceStep, NoMemory>
         ensures client { self.new.client ≡ self.old.client }
         ensures down { self.new.down ≡ self.old.down }
         ensures up { OnOk result (self.new.up ≡ queued self.old.up sent) }
