@@ -42,4 +42,4 @@ acts_if g i s given old new (Ok x) mid input sent returned at same sends returns
     (subst (λ (k : Kept). IsSame old.client k) (sym client) same) sends returns
     (subst (λ (k : Kept). StandsFor k (move_of old.client s given).next) (sym client) stands)
     (subst (λ (k : Kept). x ≡ record { client = k.id; input = given; sent = sent; returned = returned }) (sym client)
-        (subst (λ (h : Input). x ≡ record { client = mid.id; input = h; sent = sent; returned = returned }) asked is)) up down
+    (subst (λ (h : Input). x ≡ record { client = mid.id; input = h; sent = sent; returned = returned }) asked is)) up down

@@ -1,3 +1,4 @@
 pub mod Members
 pub mod Acting
 pub mod Scenes
+pub mod Entering

@@ -98,8 +98,8 @@ module _ (t : Transcript) (ms : List Member) (server : Server) (s : Scene) (i k 
     clients =
         let same : i ≡ 1 + k = omega arith in
         stand_set (MemberStands s.group) s.group s.history
-            (record { client = i; input = given; sent = payload_of s.group i (step s.group i (stands s i) given).next (step s.group i (stands s i) given).sends; returned = (step s.group i (stands s i) given).returns })
-            1 k ms n same lt shows.clients (subst (λ (j : ℕ). MemberStands s.group n j (step s.group i (stands s i) given).next) same acts.stands);
+        (record { client = i; input = given; sent = payload_of s.group i (step s.group i (stands s i) given).next (step s.group i (stands s i) given).sends; returned = (step s.group i (stands s i) given).returns })
+        1 k ms n same lt shows.clients (subst (λ (j : ℕ). MemberStands s.group n j (step s.group i (stands s i) given).next) same acts.stands);
   }
 
   -- a client's oldest answer is taken off its queue
@@ -146,9 +146,9 @@ unfolding takes
 shows_taken t after ms server s i k m n payload rest x shows is at lt waits does group trans =
     subst (λ (q : Queue). Shows after (slice_set ms k n) server (taken s i q)) (sym waits)
     (subst (λ (ns : List Member). Shows after ns server (taken s i (payload ∷ rest))) (set_twice ms k (record m { down = rest }) n)
-        (shows_step t (slice_set ms k (record m { down = rest })) server (record s { down = set_queue s.down i rest }) i k (record m { down = rest })
-            (shows_rest t ms server s i k m shows is at payload rest) is (get_set ms k (record m { down = rest }) lt) after (input.Payload payload) n x
-            (subst (λ (l : ℕ). k < l) (sym (length_set ms k (record m { down = rest }))) lt) does group trans))
+    (shows_step t (slice_set ms k (record m { down = rest })) server (record s { down = set_queue s.down i rest }) i k (record m { down = rest })
+    (shows_rest t ms server s i k m shows is at payload rest) is (get_set ms k (record m { down = rest }) lt) after (input.Payload payload) n x
+    (subst (λ (l : ℕ). k < l) (sym (length_set ms k (record m { down = rest }))) lt) does group trans))
 
 -- the server's turn, from the queue that it serves
 pub shows_serves : (t : Transcript) (ms : List Member) (server next : Server) (s : Scene) (i k : ℕ) (m n : Member) (went : Bool) → Shows t ms server s → i ≡ k + 1 → slice_get ms k ≡ Some m → k < length ms

@@ -1,18 +1,16 @@
-//! The command that runs the script of a group.
-//!
-//! `run_group` carries the claim on views: what it writes is the print of the one run that the script gives, by `run_of` and
-//! `print_of` of `vic_script`, and the history of that run is lawful.
+//! The parts that run the script of a group: its clients with their queues, the server's turns, the opening of a world and its
+//! views, what is printed when a client takes an answer, and how a command ends.
 #![tactic(auto)]
 
 pub mod finish;
 pub mod member;
+mod opening;
 pub mod output;
 pub mod place;
 pub mod queue;
-mod said;
+pub mod said;
 pub mod status;
 pub mod world;
 
 pub use status::Status;
 pub use world::World;
-pub use world::WorldFault;

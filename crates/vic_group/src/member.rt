@@ -43,7 +43,13 @@ impl Member {
     ghost use Rattle.vic_group.specs.World.{Acts, MemberStands, IsReady, CanAsk, Takes, Serves};
 
     // The step of a client, once it has sent and returned.
-    fn stepped(&mut self, alloc: Global, input: Input, sent: Option<Bytes>, returned: Option<Outcome>) -> Result<TraceStep, NoMemory>
+    fn stepped(
+        &mut self,
+        alloc: Global,
+        input: Input,
+        sent: Option<Bytes>,
+        returned: Option<Outcome>,
+    ) -> Result<TraceStep, NoMemory>
         ensures client { self.new.client ≡ self.old.client }
         ensures down { self.new.down ≡ self.old.down }
         ensures up { OnOk result (self.new.up ≡ queued self.old.up sent) }
@@ -125,7 +131,12 @@ impl Member {
     }
 
     /// The server serves the client's oldest request, if one waits; whether one did.
-    pub fn serve_oldest(&mut self, alloc: Global, server: &mut Served, who: u8) -> Result<bool, NoMemory>
+    pub fn serve_oldest(
+        &mut self,
+        alloc: Global,
+        server: &mut Served,
+        who: u8,
+    ) -> Result<bool, NoMemory>
         ensures { IfOk result (λ went. Serves who self.old.up self.old self.new server.old server.new went) }
     {
         match self.up.take() {

@@ -9,7 +9,7 @@ use vic_text::{put_number, put_outcome};
 use vic_view::TraceStep;
 
 /// Appends a client's outcome, or that it took an answer.
-pub(crate) fn put_said(out: &mut Bytes, alloc: Global, who: u8, step: &TraceStep) -> Result<(), NoMemory>
+pub fn put_said(out: &mut Bytes, alloc: Global, who: u8, step: &TraceStep) -> Result<(), NoMemory>
     ensures { OnOk result (out.new ≡ out.old ++ said who step.now.returned) }
 {
     put_number(out, alloc, who as u32)?;
