@@ -19,10 +19,10 @@ abbrev pub IsSpent : Option (List ℕ) → Type 0
 IsSpent None = Unit {0}
 IsSpent (Some l) = length l ≡ 0
 
--- what a read does, by its answer
+-- what a read does, by its answer; the count of faults moves only where it failed
 abbrev pub ReadGives : List ℕ → Option (List ℕ) → Option (List ℕ) → ℕ → ℕ → Bool → Bool → Got → Type 0
-ReadGives into old new before now was is (got.Bytes n) = (0 < n) × (n ≤ length into) × LeavesBehind (take n into) old new × (is ≡ was)
-ReadGives into old new before now was is got.End = IsSpent old × (new ≡ old) × (is ≡ true)
+ReadGives into old new before now was is (got.Bytes n) = (0 < n) × (n ≤ length into) × LeavesBehind (take n into) old new × (is ≡ was) × (now ≡ before)
+ReadGives into old new before now was is got.End = IsSpent old × (new ≡ old) × (is ≡ true) × (now ≡ before)
 ReadGives into old new before now was is got.Failed = Rose before now × (new ≡ old) × (is ≡ was)
 
 -- a piece has joined what is held, where that is told
@@ -30,8 +30,8 @@ abbrev pub Appended : List ℕ → Option (List ℕ) → Option (List ℕ) → T
 Appended piece None now = now ≡ None
 Appended piece (Some held) now = now ≡ Some (held ++ piece)
 
--- what a write does, by its answer
+-- what a write does, by its answer; the count of faults moves only where it failed
 abbrev pub WriteGives : List ℕ → Option (List ℕ) → Option (List ℕ) → ℕ → ℕ → Put → Type 0
-WriteGives piece old new before now (put.Took n) = (0 < n) × (n ≤ length piece) × Appended (take n piece) old new
+WriteGives piece old new before now (put.Took n) = (0 < n) × (n ≤ length piece) × Appended (take n piece) old new × (now ≡ before)
 WriteGives piece old new before now put.Failed = Rose before now × (new ≡ old)
-WriteGives piece old new before now put.NoMemory = new ≡ old
+WriteGives piece old new before now put.NoMemory = (new ≡ old) × (now ≡ before)

@@ -14,8 +14,8 @@ abbrev pub AppendedAll : List ℕ → Option (List ℕ) → Option (List ℕ) �
 AppendedAll text None now = now ≡ None
 AppendedAll text (Some held) now = now ≡ Some (held ++ text)
 
--- all of it; or a front, with a fault only where the count rose
+-- all of it; or a front. The count of faults rose where a write failed, and else stands
 abbrev pub WritesText : List ℕ → Option (List ℕ) → Option (List ℕ) → ℕ → ℕ → Written → Type 0
-WritesText text old new before now written.All = AppendedAll text old new
+WritesText text old new before now written.All = AppendedAll text old new × (now ≡ before)
 WritesText text old new before now written.Fault = AppendedFront text old new × Rose before now
-WritesText text old new before now written.NoMemory = AppendedFront text old new
+WritesText text old new before now written.NoMemory = AppendedFront text old new × (now ≡ before)

@@ -1,7 +1,7 @@
 //! The outside, as traits with a written meaning: where bytes come from and where they go.
 //!
-//! A source tells what is left, a sink what it holds, where they can; each has a count of faults that never falls, and a call
-//! answers `Failed` only where that count rose in it. `specs/Causes.antt` says what a read and a write do, and the contracts
+//! A source tells what is left, a sink what it holds, where they can; each has a count of faults that never falls: it rises in
+//! the calls that answer `Failed`, and in no others. `specs/Causes.antt` says what a read and a write do, and the contracts
 //! of the traits' methods carry it. There are forms in memory, which tell their bytes, and forms over standard input and
 //! output, which tell none.
 #![tactic(auto)]

@@ -1,7 +1,8 @@
 //! A source and a sink in memory, which tell their bytes, and fail at the calls that they are told to.
 
-ghost use Rattle.std.specs.Prelude.{◌≡◌, ◌≢◌, ◌+◌, ◌≤◌, ◌<◌, ◌↔◌, false, [], ◌∷◌, ◌++◌, length, take, drop, Some, IsTrue, OnOk, OnErr, slice_get};
+ghost use Rattle.std.specs.Prelude.{◌≡◌, ◌≢◌, ◌+◌, ◌-◌, ◌^◌, ◌≤◌, ◌<◌, ◌↔◌, false, [], ◌∷◌, ◌++◌, length, take, drop, min, Some, IsTrue, OnOk, OnErr, slice_get};
 ghost use Rattle.vic_ports.specs.Causes.{ReadGives, WriteGives};
+ghost use Rattle.vic_ports.specs.Failing.{is_to_fail};
 
 use crate::ports::{Got, Put, Sink, Source};
 use std::alloc::Global;
@@ -63,7 +64,8 @@ impl Calls {
 
     /// Whether the call with this number is to fail.
     pub fn has(&self, call: u64) -> bool
-        ensures { self.now ≡ [] → result ≡ false }
+        ensures value { result ≡ is_to_fail self.now call }
+        ensures none { self.now ≡ [] → result ≡ false }
     {
         self.items.contains(&call)
     }
@@ -86,6 +88,7 @@ impl MemorySource {
     pub fn new(bytes: Bytes, fails: Calls) -> MemorySource
         ensures left { drop result.taken result.bytes ≡ bytes }
         ensures fails { result.fails ≡ fails }
+        ensures calls { result.calls ≡ 0 }
         ensures faults { result.faults ≡ 0 }
         ensures ended { result.ended ≡ false }
     {
@@ -104,6 +107,7 @@ impl MemorySource {
         ensures given { ReadGives into.new (Some (drop self.old.taken self.old.bytes)) (Some (drop self.new.taken self.new.bytes)) self.old.faults self.new.faults self.old.ended self.new.ended result }
         ensures works { result ≢ Got.Failed }
         ensures fails { self.new.fails ≡ self.old.fails }
+        ensures calls { self.new.calls ≡ self.old.calls }
         ensures faults { self.new.faults ≡ self.old.faults }
     {
         let left = &self.bytes.as_slice()[self.taken..];
@@ -144,6 +148,8 @@ impl Source for MemorySource {
         ensures later { self.old.faults ≤ self.new.faults }
         ensures works { self.old.fails ≡ [] → result ≢ Got.Failed }
         ensures fails { self.new.fails ≡ self.old.fails }
+        ensures calls { self.new.calls ≡ min (self.old.calls + 1) (2 ^ 64 - 1) }
+        ensures planned { (result ≡ Got.Failed) ↔ IsTrue (is_to_fail self.old.fails self.new.calls) }
     {
         self.calls = self.calls.saturating_add(1);
         if self.fails.has(self.calls) {
@@ -168,6 +174,7 @@ impl MemorySink {
     pub fn new(alloc: Global, fails: Calls) -> MemorySink
         ensures held { result.bytes ≡ [] }
         ensures fails { result.fails ≡ fails }
+        ensures calls { result.calls ≡ 0 }
         ensures faults { result.faults ≡ 0 }
     {
         MemorySink {
@@ -197,6 +204,8 @@ impl Sink for MemorySink {
         ensures later { self.old.faults ≤ self.new.faults }
         ensures works { self.old.fails ≡ [] → result ≢ Put.Failed }
         ensures fails { self.new.fails ≡ self.old.fails }
+        ensures calls { self.new.calls ≡ min (self.old.calls + 1) (2 ^ 64 - 1) }
+        ensures planned { (result ≡ Put.Failed) ↔ IsTrue (is_to_fail self.old.fails self.new.calls) }
     {
         self.calls = self.calls.saturating_add(1);
         if self.fails.has(self.calls) {

@@ -30,7 +30,7 @@ pub trait Source {
     /// What is left, where the source tells it.
     ghost left: { Self → Option (List ℕ) };
 
-    /// How many reads have failed; it never falls, and stands still at the greatest u64.
+    /// How many reads have failed; it moves in no other call, never falls, and stands still at the greatest u64.
     ghost faults: { Self → ℕ };
 
     /// Whether a read has answered that nothing is left.
@@ -48,7 +48,7 @@ pub trait Sink {
     /// What was written, where the sink tells it.
     ghost held: { Self → Option (List ℕ) };
 
-    /// How many writes have failed; it never falls, and stands still at the greatest u64.
+    /// How many writes have failed; it moves in no other call, never falls, and stands still at the greatest u64.
     ghost faults: { Self → ℕ };
 
     /// Writes at least one byte of the piece's front.

@@ -1,6 +1,7 @@
 //! The source and the sink over standard input and output. They tell no content; their counts of faults are their own.
 
-ghost use Rattle.std.specs.Prelude.{◌≡◌, None};
+ghost use Rattle.std.specs.Prelude.{◌≡◌, ◌≢◌, ◌≤◌, ◌<◌, length, false, None};
+ghost use Rattle.vic_ports.specs.Causes.{WriteGives};
 
 use crate::ports::{Got, Put, Sink, Source};
 use std::io::{Read, Stdin, Stdout, Write};
@@ -14,7 +15,12 @@ pub struct StdSource {
 }
 
 impl StdSource {
-    pub fn new(input: Stdin) -> StdSource {
+    /// A source that hasn't ended, and at which no read has failed.
+    pub fn new(input: Stdin) -> StdSource
+        ensures input { result.input ≡ input }
+        ensures faults { result.faults ≡ 0 }
+        ensures ended { result.ended ≡ false }
+    {
         StdSource {
             input,
             faults: 0,
@@ -53,7 +59,11 @@ pub struct StdSink {
 }
 
 impl StdSink {
-    pub fn new(output: Stdout) -> StdSink {
+    /// A sink at which no write has failed.
+    pub fn new(output: Stdout) -> StdSink
+        ensures output { result.output ≡ output }
+        ensures faults { result.faults ≡ 0 }
+    {
         StdSink { output, faults: 0 }
     }
 }
@@ -63,7 +73,13 @@ impl Sink for StdSink {
 
     ghost faults = { λ s. s.faults };
 
-    fn write(&mut self, piece: &[u8]) -> Put {
+    // It takes no memory.
+    fn write(&mut self, piece: &[u8]) -> Put
+        requires { 0 < length piece.now }
+        ensures given { WriteGives piece.now None None self.old.faults self.new.faults result }
+        ensures later { self.old.faults ≤ self.new.faults }
+        ensures works { result ≢ Put.NoMemory }
+    {
         match self.output.write(piece) {
             // A write that takes nothing is a fault.
             Ok(0) | Err(_) => {

@@ -1,4 +1,4 @@
-use Rattle.std.proofs.Common.{◌++◌, take, arith}
+use Rattle.std.proofs.Common.{◌++◌, ◌∙◌, take}
 use Rattle.vic_ports.proofs.Fronts.{appended_more, front_joins}
 use Rattle.vic_ports.proofs.writing.write_output.Goals as goal
 
@@ -14,5 +14,5 @@ loop-rest-preserved g c =
           appended_more _ _ _ before.0 (take n c.loop-rest.rest.now) before.1.1 c.in-Took.ensures.given.2,
         ),
       );
-      later = omega arith;
+      quiet = c.in-Took.ensures.given.3 ∙ c.loop-rest.invariant.quiet;
     }
