@@ -1,0 +1,6 @@
+pub mod Fronts
+pub mod Taking
+pub mod Left
+pub mod Growing
+pub mod Spelled
+pub mod Pieces
