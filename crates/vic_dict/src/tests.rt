@@ -77,3 +77,15 @@ fn removals(rt: HostRuntime) -> Result<(), Fail> {
     assert_eq!(rt; dict.len(), 2);
     Ok(())
 }
+
+#[test]
+fn a_put_is_found(rt: HostRuntime) -> Result<(), Fail> {
+    let alloc = rt.alloc();
+    let mut dict = PlainDict::new(alloc);
+    let answer = put(alloc, &mut dict, b"a", b"x").ok().ok_or("memory")?;
+    assert!(rt; matches!(answer, Answer::Stored), "a is stored");
+    let key = Bytes::of(alloc, b"a").ok().ok_or("memory")?;
+    let answer = done(alloc, &mut dict, Op::Get(key)).ok().ok_or("memory")?;
+    assert!(rt; is_found(&answer, b"x"), "a is x");
+    Ok(())
+}

@@ -43,6 +43,32 @@ fn fields_as_written(rt: HostRuntime) -> Result<(), Fail> {
     Ok(())
 }
 
+/// Put `a` = `x`, and the same as call 1 of client 1.
+fn one_put(alloc: Global) -> Result<(Bytes, Bytes), NoMemory> {
+    let op = Op::Put(Bytes::of(alloc, b"a")?, Bytes::of(alloc, b"x")?);
+    let entry = Entry {
+        client: 1,
+        seq: 1,
+        op,
+    };
+    let mut op = Bytes::new(alloc);
+    put_op(&mut op, &entry.op)?;
+    let mut text = Bytes::new(alloc);
+    put_entry(&mut text, &entry)?;
+    Ok((op, text))
+}
+
+#[test]
+fn one_put_as_written(rt: HostRuntime) -> Result<(), Fail> {
+    let (op, entry) = one_put(rt.alloc()).ok().ok_or("memory")?;
+    assert_eq!(rt; op.as_slice(), b"\x01\x01\x61\x01\x78".as_slice());
+    assert_eq!(rt;
+        entry.as_slice(),
+        b"\x01\x00\x00\x00\x01\x01\x01\x61\x01\x78".as_slice()
+    );
+    Ok(())
+}
+
 #[test]
 fn fields_as_read(rt: HostRuntime) -> Result<(), Fail> {
     let text = written(rt.alloc()).ok().ok_or("memory")?;

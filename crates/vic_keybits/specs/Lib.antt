@@ -1,2 +1,3 @@
-pub mod LowBits
 pub mod Apart
+pub mod LowBits
+pub mod Order

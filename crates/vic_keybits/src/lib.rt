@@ -1,7 +1,7 @@
 //! The bits of keys: nine for each byte, a 1 and then the byte's bits, the highest first; one 0 ends the key, and zeros follow.
 //!
 //! They are `key_bits` and `shared` of `specs/Bits.antt` of `vic_wire`, and the contract of each function says so. No call
-//! takes memory.
+//! takes memory. The words of the two laws at the end stand in `specs/Order.antt`.
 #![tactic(auto)]
 
 ghost use Rattle.std.specs.Prelude.{◌≡◌, ℕ, ◌+◌, ◌/◌, ◌^◌, ◌<◌, ◌≤◌, Bool, List, ◌++◌, length, MatchOption, nat_eq};
@@ -9,6 +9,7 @@ ghost use Rattle.std.specs.List.{starts_with};
 ghost use Rattle.vic_wire.specs.Bits.{is_odd, key_bits, key_bit, common, shared};
 ghost use Rattle.vic_keybits.specs.LowBits.{low_bits};
 ghost use Rattle.vic_keybits.specs.Apart.{AreApartAt};
+ghost use Rattle.vic_keybits.specs.Order.{BitOrder, NoneIsPrefix};
 
 /// Bit `i` of the key, counted from 0; past the end it is 0.
 pub fn bit(key: &[u8], i: u32) -> bool
@@ -83,6 +84,16 @@ pub fn has_prefix(key: &[u8], prefix: &[u8]) -> bool
 {
     key.starts_with(prefix)
 }
+
+/// Keys are in order exactly where their bits are.
+pub fn bit_order()
+    ensures { BitOrder }
+{}
+
+/// The bits of a key begin those of no other key.
+pub fn none_is_prefix()
+    ensures { NoneIsPrefix }
+{}
 
 #[cfg(test)]
 mod tests;

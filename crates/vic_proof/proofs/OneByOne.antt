@@ -8,7 +8,12 @@ use Rattle.vic_wire.specs.Parts.{pairs_at}
 use Rattle.vic_fields.specs.declared.cut.CutFault.{CutFault}
 use Rattle.vic_fields.specs.declared.cut.CutFault.TheVariants as cut
 use Rattle.vic_fields.specs.Giving.{Fails}
-use Rattle.vic_proof.specs.Pairs.{pair_at, joined}
+use Rattle.vic_proof.specs.Pairs.{pair_at}
+
+-- pairs that were read before the others
+abbrev pub joined : List Pair → Read (List Pair) → Read (List Pair)
+joined before (Ok x) = Ok (before ++ x.0, x.1)
+joined before (Err e) = Err e
 
 before_others : ℕ → Pair × List ℕ → Read (List Pair)
 before_others n p = pairs_at n p.1 >>= (λ others. Ok (p.0 ∷ others.0, others.1))

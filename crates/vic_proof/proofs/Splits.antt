@@ -12,7 +12,8 @@ use Rattle.vic_wire.specs.Bits.{key_bits, key_bit, common, same_bit, shared}
 use Rattle.vic_wire.specs.Trees.{Pair, common_bits, side, tree_by, root_of}
 use Rattle.vic_keybits.proofs.Bits.{length-key_bits}
 use Rattle.vic_proof.specs.Splits.{zeros, AllSet, TurnsAt, IsSplit}
-use Rattle.vic_proof.proofs.Order.{Parts, IsFront, common_itself, front_left, front_right, front_short, front_between, common_between, left_clear, right_set, stays_set, key_parts}
+use Rattle.vic_keybits.proofs.Order.{Parts, key_parts}
+use Rattle.vic_proof.proofs.Order.{IsFront, common_itself, front_left, front_right, front_short, front_between, common_between, left_clear, right_set, stays_set}
 
 abbrev AllFront : List Bool → List Pair → Type 0
 AllFront cs [] = Unit {0}

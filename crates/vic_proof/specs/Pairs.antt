@@ -1,5 +1,5 @@
 -- Reading pairs of a key and a value one by one.
-use Rattle.std.specs.Prelude.{ℕ, List, ◌++◌, Result, Ok, Err, ◌==◌}
+use Rattle.std.specs.Prelude.{ℕ, List, Result, Ok, ◌==◌}
 use Rattle.std.specs.Int.{w32}
 use Rattle.std.specs.FinMap.{is_sorted}
 use Rattle.std.specs.FinMap as map
@@ -15,11 +15,6 @@ pair_at bytes = do
   k ← short_at 1 255 bytes
   v ← short_at 0 64 k.1
   Ok ((k.0, v.0), v.1)
-
--- pairs that were read before the others
-abbrev pub joined : List Pair → Read (List Pair) → Read (List Pair)
-joined before (Ok x) = Ok (before ++ x.0, x.1)
-joined before (Err e) = Err e
 
 -- a part, or the first fault
 unfoldable pub part_at : List ℕ → Result Part FieldFault

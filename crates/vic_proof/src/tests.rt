@@ -27,6 +27,11 @@ const PAIRS: [u8; 18] = [
     0, 0, 0, 0, 3, 1, 0x61, 1, 0x78, 2, 0x61, 0x62, 1, 0x33, 1, 0x62, 1, 0x32,
 ];
 
+// `a` = `x`, `b` = `y`, and the same with the pairs exchanged
+const TWO: [u8; 13] = [0, 0, 0, 0, 2, 1, 0x61, 1, 0x78, 1, 0x62, 1, 0x79];
+
+const EXCHANGED: [u8; 13] = [0, 0, 0, 0, 2, 1, 0x62, 1, 0x79, 1, 0x61, 1, 0x78];
+
 fn put(alloc: Global, dict: &mut PlainDict, key: &[u8], value: &[u8]) -> Result<(), NoMemory> {
     let op = Op::Put(Bytes::of(alloc, key)?, Bytes::of(alloc, value)?);
     if op.fits() {
@@ -61,6 +66,25 @@ fn pairs_as_written(rt: HostRuntime) -> Result<(), Fail> {
         let text = pairs_bytes(alloc, &dict).ok().ok_or("memory")?;
         assert!(rt; text.as_slice() == PAIRS.as_slice(), "as it was read");
     }
+    Ok(())
+}
+
+#[test]
+fn two_pairs(rt: HostRuntime) -> Result<(), Fail> {
+    let alloc = rt.alloc();
+    let mut dict = PlainDict::new(alloc);
+    put(alloc, &mut dict, b"b", b"y").ok().ok_or("memory")?;
+    put(alloc, &mut dict, b"a", b"x").ok().ok_or("memory")?;
+    if dict.len() < 1000 {
+        let text = pairs_bytes(alloc, &dict).ok().ok_or("memory")?;
+        assert!(rt; text.as_slice() == TWO.as_slice(), "as written");
+    }
+    let read = pairs_of(alloc, &TWO).ok().ok_or("memory")?.ok_or("a part")?;
+    assert_eq!(rt; read.len(), 2);
+    assert!(rt;
+        pairs_of(alloc, &EXCHANGED).ok().ok_or("memory")?.is_none(),
+        "the pairs exchanged"
+    );
     Ok(())
 }
 

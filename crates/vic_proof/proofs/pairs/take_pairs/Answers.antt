@@ -2,8 +2,7 @@ use Rattle.std.proofs.Common.{◌+◌, ◌-◌, sym, ap, subst, ◌∙◌, arith
 use Rattle.std.proofs.lemmas.Result.{err_from_is_err_and}
 use Rattle.vic_dict.specs.Rows.{AreFit}
 use Rattle.vic_wire.specs.Parts.{pairs_at}
-use Rattle.vic_proof.specs.Pairs.{joined}
-use Rattle.vic_proof.proofs.OneByOne.{pairs_step, fails_step, pairs_done, fit_push}
+use Rattle.vic_proof.proofs.OneByOne.{joined, pairs_step, fails_step, pairs_done, fit_push}
 use Rattle.vic_proof.proofs.pairs.take_pairs.Goals as goal
 
 pub returns-in_err-row-clause-gives : goal.returns-in_err-row-clause-gives

@@ -1,7 +1,7 @@
 use Rattle.std.proofs.Common.{◌≡◌, ◌-◌}
 use Rattle.vic_dict.specs.Rows.{AreFit}
 use Rattle.vic_wire.specs.Parts.{pairs_at}
-use Rattle.vic_proof.specs.Pairs.{joined}
+use Rattle.vic_proof.proofs.OneByOne.{joined}
 use Rattle.vic_proof.proofs.pairs.take_pairs.Given as goal
 
 abbrev pub invariant-loop-i : goal.invariant-loop-i
