@@ -1,6 +1,6 @@
 //! The fields that only messages have: seals and lists of tagged entries.
 
-ghost use Rattle.std.specs.Prelude.{◌≡◌, ◌+◌, ◌<◌, ◌≤◌, ◌++◌, length, Result, OnOk, IfOk};
+ghost use Rattle.std.specs.Prelude.{◌≡◌, ◌+◌, ◌<◌, ◌≤◌, [], ◌++◌, length, Result, OnOk, IfOk};
 ghost use Rattle.std.specs.List.{flat_map, AllByRecursion};
 ghost use Rattle.vic_dict.specs.Dictionary.{Fits};
 ghost use Rattle.vic_wire.specs.Messages.{IsTagged, seal_field, tagged_field, entries_field};
@@ -17,7 +17,8 @@ pub(crate) const CONTENT_LIMIT: usize = 8_388_608;
 
 /// The value, where nothing follows it.
 pub(crate) fn whole<T: Drop>(value: T, rest: &[u8]) -> Result<T, CutFault>
-    ensures { Gives (λ v. v) result (ended (value, rest.now)) }
+    ensures gives { Gives (λ v. v) result (ended (value, rest.now)) }
+    ensures ends { rest.now ≡ [] → result ≡ Ok value }
 {
     if rest.is_empty() {
         Ok(value)
@@ -28,7 +29,8 @@ pub(crate) fn whole<T: Drop>(value: T, rest: &[u8]) -> Result<T, CutFault>
 
 /// What was read, or none where the bytes aren't in the grammar.
 pub(crate) fn found_or_none<T: Drop>(read: Result<T, CutFault>) -> Result<Option<T>, NoMemory>
-    ensures { (r : Result T FieldFault) → Gives (λ v. v) read r → IfOk result (λ o. o ≡ some_read r) }
+    ensures exact { (r : Result T FieldFault) → Gives (λ v. v) read r → IfOk result (λ o. o ≡ some_read r) }
+    ensures found { IfOk read (λ v. result ≡ Ok (Some v)) }
 {
     match read {
         Ok(value) => Ok(Some(value)),

@@ -142,7 +142,8 @@ fn fetch_from(fields: &[u8]) -> Result<ToServer, CutFault>
 
 #[tactic(auto, unfolding(vic_wire::specs::Reading::request_of_kind))]
 fn request_from(alloc: Global, kind: u8, fields: &[u8]) -> Result<ToServer, CutFault>
-    ensures { Gives (λ m. m) result (request_of_kind kind fields.now) }
+    ensures gives { Gives (λ m. m) result (request_of_kind kind fields.now) }
+    ensures poll { kind ≡ 0x24 → fields.now ≡ [] → result ≡ Ok ask.Poll }
 {
     match kind {
         0x21 => hello_from(fields),
@@ -159,7 +160,8 @@ fn request_from(alloc: Global, kind: u8, fields: &[u8]) -> Result<ToServer, CutF
 }
 
 fn request_of(alloc: Global, payload: &[u8]) -> Result<ToServer, CutFault>
-    ensures { Gives (λ m. m) result (request_at payload.now) }
+    ensures gives { Gives (λ m. m) result (request_at payload.now) }
+    ensures poll { payload.now ≡ 0x24 ∷ [] → result ≡ Ok ask.Poll }
 {
     let mut cut = Cut::new(payload);
     let kind = cut.take_u8()?;
@@ -174,6 +176,8 @@ pub fn decode_request(alloc: Global, payload: &[u8]) -> Result<Option<ToServer>,
     // What is spelled so is read, unless memory runs out.
     ensures only { (m : ARequest) → HasRequestSpelling m → payload.now ≡ request_text m → IfOk result (λ o. o ≡ Some m) }
     ensures exact { IfOk result (λ o. o ≡ read_request payload.now) }
+    // A Poll takes no memory.
+    ensures poll { payload.now ≡ 0x24 ∷ [] → result ≡ Ok (Some ask.Poll) }
 {
     found_or_none(request_of(alloc, payload))
 }

@@ -159,3 +159,50 @@ fn what_is_meant(rt: HostRuntime) -> Result<(), Fail> {
     );
     Ok(())
 }
+
+/// Blocks of 4,096 bytes, so many.
+fn blocks(alloc: Global, count: usize) -> Result<Bytes, NoMemory> {
+    let mut content = Bytes::new(alloc);
+    for _ in 0..count {
+        content.append(&[7; 4096])?;
+    }
+    Ok(content)
+}
+
+/// What is written where the content is kept; none where it is too long.
+fn kept(alloc: Global, content: Bytes) -> Result<Option<Bytes>, NoMemory> {
+    if content.len() <= 8_388_608 {
+        return Ok(Some(encode_request(alloc, &ToServer::Keep(content))?));
+    }
+    Ok(None)
+}
+
+fn is_keep_of(read: &Option<ToServer>, content: &[u8]) -> bool {
+    match read {
+        Some(ToServer::Keep(kept)) => kept.as_slice() == content,
+        _ => false,
+    }
+}
+
+#[test]
+fn longest_content(rt: HostRuntime) -> Result<(), Fail> {
+    let alloc = rt.alloc();
+    let content = blocks(alloc, 2048).ok().ok_or("memory")?;
+    assert_eq!(rt; content.len(), 8_388_608);
+    let copied = content.copy(alloc).ok().ok_or("memory")?;
+    let mut payload = kept(alloc, copied)
+        .ok()
+        .ok_or("memory")?
+        .ok_or("it is not too long")?;
+    assert_eq!(rt; payload.len(), 8_388_609);
+    let read = decode_request(alloc, payload.as_slice())
+        .ok()
+        .ok_or("memory")?;
+    assert!(rt; is_keep_of(&read, content.as_slice()), "the content");
+    payload.push(7).ok().ok_or("memory")?;
+    let read = decode_request(alloc, payload.as_slice())
+        .ok()
+        .ok_or("memory")?;
+    assert!(rt; read.is_none(), "a byte more");
+    Ok(())
+}

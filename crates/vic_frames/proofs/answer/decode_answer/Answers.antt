@@ -11,10 +11,10 @@ unfolding read_answer
 returns-clause-found c =
     what_is_found (λ m. HasSpelling m × (c.args.payload.now ≡ answer_text m)) c.found_or_none.result (read_answer c.args.payload.now)
     (λ m e. answers_are_spelled.found c.args.payload.now m (λ i. omega (arith, c.type_inv.payload i)) e)
-    (c.found_or_none.ensures (answer_at c.args.payload.now) c.answer_of.ensures)
+    (c.found_or_none.ensures.exact (answer_at c.args.payload.now) c.answer_of.ensures)
 
 pub returns-clause-only : goal.returns-clause-only
 unfolding read_answer
 returns-clause-only c = λ m fits is.
     what_is_read c.found_or_none.result (read_answer c.args.payload.now) m (ap read_answer is ∙ answers_are_spelled.again m fits)
-    (c.found_or_none.ensures (answer_at c.args.payload.now) c.answer_of.ensures)
+    (c.found_or_none.ensures.exact (answer_at c.args.payload.now) c.answer_of.ensures)
