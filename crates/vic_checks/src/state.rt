@@ -101,7 +101,8 @@ impl OwnList {
 }
 
 /// What a client keeps that hasn't halted: who it is, its group, the window of its path, its own calls that aren't sealed, and
-/// what it awaits.
+/// what it awaits. Anybody may put the fields together, so mode, count or key can be another group's than the window's; such a
+/// state stands for no client, and the clause `exact` of `judge` says nothing of it.
 #[derive(Debug, Drop)]
 pub struct State {
     pub id: u8,

@@ -16,7 +16,23 @@ use Rattle.vic_wire.specs.declared.message.ToClient.{ToClient}
 use Rattle.vic_wire.specs.declared.message.ToClient.TheVariants as say
 use Rattle.vic_wire.specs.Hashes.{Group}
 use Rattle.vic_wire.specs.Reading.{read_answer}
+use Rattle.vic_checks.specs.declared.state.State.{State}
+use Rattle.vic_client.specs.Kept.{Kept}
 use Rattle.vic_client.specs.Hearing.{op_in, heard_move}
+
+-- what a client keeps, from its state, how often it called, and where it halted
+abbrev pub kept_of : State → ℕ → Option ℕ → Kept
+kept_of x calls halted = record {
+  id = x.id;
+  count = x.count;
+  mode = x.mode;
+  key = x.key;
+  window = x.window;
+  own = x.own;
+  awaiting = x.awaiting;
+  calls = calls;
+  halted = halted;
+}
 
 -- an answer without a part halts, though none passes the checks
 pub replied_bare : (me : ℕ) (s : Standing) (seal : Seal) (p : List Entry) (a : Awaiting) → replied me s seal p None a ≡ halts s 1

@@ -4,7 +4,6 @@ use Rattle.vic_dict.specs.declared.op.Op.{Op}
 use Rattle.vic_wire.specs.declared.message.Seal.{Seal}
 use Rattle.vic_wire.specs.declared.message.Tagged.{Tagged}
 use Rattle.vic_wire.specs.Parts.{Part}
-use Rattle.vic_chain.specs.Held.{held_length}
 use Rattle.vic_rules.specs.declared.state.Own.{Own}
 use Rattle.vic_rules.specs.Client.{Standing, Move, decision, replied_to, grown, is_done, payload_of}
 use Rattle.vic_checks.specs.declared.state.State.{State}
@@ -23,12 +22,6 @@ pub record OwnJoins (old new : List Own) (position : ℕ) : Type 0 where
   pub op : Op
   pub done : Bool
   pub is : new ≡ old ++ record { position = position; op = op; done = done } ∷ []
-
--- nothing but the window's own memory has changed
-pub record KeepsAll (old new : State) : Type 0 where
-  pub length : held_length new.window ≡ held_length old.window
-  pub own : new.own ≡ old.own
-  pub awaiting : new.awaiting ≡ old.awaiting
 
 -- a step shows a move: what was sent and returned, and the state stands for where the move leads
 pub record ShowsStep (old : State) (r : Step) (new : State) (v : Move) : Type 0 where

@@ -1,6 +1,6 @@
 //! The client.
 
-ghost use Rattle.std.specs.Prelude.{◌≡◌, ◌<◌, ◌≤◌, ◌+◌, ◌^◌, IsTrue, IfOk, OnOk, OnErr, Some, None, length};
+ghost use Rattle.std.specs.Prelude.{◌≡◌, ◌<◌, ◌≤◌, ◌+◌, ◌^◌, ℕ, IsTrue, IfOk, OnOk, OnErr, Ok, Some, None, length};
 ghost use Rattle.vic_dict.specs.Dictionary.{Fits};
 ghost use Rattle.vic_chain.specs.Held.{held_length};
 ghost use Rattle.vic_rules.specs.Client.{Standing, at_start};
@@ -116,11 +116,12 @@ impl Client {
     }
 
     /// Takes a payload that is said to come from the server, whatever it holds. A halted client answers the same number again.
-    /// After want of memory the client stands for the same standings, and the payload may be given again.
+    /// After want of memory the client is as before, and the payload may be given again.
     pub fn take(&mut self, alloc: Global, payload: &[u8]) -> Result<Step, NoMemory>
         ensures same { IsSame self.old self.new }
         ensures taken { (s : Standing) → StandsFor self.old s → IfOk result (λ r. Shows self.old r self.new (move_of self.old s (input.Payload payload.now))) }
-        ensures err { (s : Standing) → StandsFor self.old s → OnErr result (StandsFor self.new s) }
+        ensures halted { (k : ℕ) → self.old.halted ≡ Some k → (result ≡ Ok (record { send = None; returned = Some (Outcome.Halted k) })) × (self.new ≡ self.old) }
+        ensures err { OnErr result (self.new ≡ self.old) }
     {
         match self.halted {
             Some(check) => Ok(halted_step(check)),

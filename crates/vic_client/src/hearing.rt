@@ -62,7 +62,7 @@ fn hear_reply(
     ensures member { IsMemberAs state.old state.new }
     ensures sound { IsSoundState state.new }
     ensures taken { (s : Standing) → StandsForState state.old s → IfOk result (λ h. Hears state.old h state.new s (replied state.old.id s seal.now (grown s entries.now) part s.awaiting)) }
-    ensures err { (s : Standing) → StandsForState state.old s → OnErr result (StandsForState state.new s) }
+    ensures err { OnErr result (state.new ≡ state.old) }
 {
     match (awaited_op(alloc, &state.awaiting)?, part) {
         (Some(op), Some(part)) => Ok(Heard::Goes(take_reply(
@@ -84,7 +84,7 @@ fn hear_update(
     ensures member { IsMemberAs state.old state.new }
     ensures sound { IsSoundState state.new }
     ensures taken { (s : Standing) → StandsForState state.old s → IfOk result (λ h. Hears state.old h state.new s (updated s seal.now part s.own)) }
-    ensures err { (s : Standing) → StandsForState state.old s → OnErr result (StandsForState state.new s) }
+    ensures err { OnErr result (state.new ≡ state.old) }
 {
     match part {
         Some(part) => Ok(Heard::Goes(take_update(alloc, state, seal, part)?)),
@@ -101,7 +101,7 @@ fn hear_entries(state: &mut State, seal: &Seal, entries: &TaggedList) -> Result<
     ensures sound { IsSoundState state.new }
     ensures taken { (s : Standing) → StandsForState state.old s
         → IfOk result (λ h. Hears state.old h state.new s (listed_to s (grown s entries.now) seal.now.position seal.now.root.bytes)) }
-    ensures err { (s : Standing) → StandsForState state.old s → OnErr result (StandsForState state.new s) }
+    ensures err { OnErr result (state.new ≡ state.old) }
 {
     Ok(Heard::Goes(take_entries(state, seal, entries)?))
 }
@@ -137,7 +137,7 @@ fn hear_message(
     ensures member { IsMemberAs state.old state.new }
     ensures sound { IsSoundState state.new }
     ensures taken { (s : Standing) → StandsForState state.old s → IfOk result (λ h. Hears state.old h state.new s (taken state.old.id s message.now)) }
-    ensures err { (s : Standing) → StandsForState state.old s → OnErr result (StandsForState state.new s) }
+    ensures err { OnErr result (state.new ≡ state.old) }
 {
     match message {
         ToClient::Reply { seal, entries, .. } => hear_reply(alloc, state, seal, entries, part),
@@ -166,7 +166,7 @@ fn hear_passed(
     ensures sound { IsSoundState state.new }
     ensures taken { (s : Standing) → StandsForState state.old s
         → IfOk result (λ h. Hears state.old h state.new s (taken_or_halts state.old.id s (option_copied message.entry) None)) }
-    ensures err { (s : Standing) → StandsForState state.old s → OnErr result (StandsForState state.new s) }
+    ensures err { OnErr result (state.new ≡ state.old) }
 {
     match message {
         Some(message) => hear_message(alloc, state, message, part),
@@ -188,7 +188,7 @@ fn hear_read(
     ensures sound { IsSoundState state.new }
     ensures taken { (s : Standing) → StandsForState state.old s
         → IfOk result (λ h. Hears state.old h state.new s (judged_move (group_of state.old) state.old.id s (option_copied message.entry))) }
-    ensures err { (s : Standing) → StandsForState state.old s → OnErr result (StandsForState state.new s) }
+    ensures err { OnErr result (state.new ≡ state.old) }
 {
     match judge(state, message, part.as_ref()) {
         Verdict::Halt(check) => Ok(Heard::Halts(check)),
@@ -196,15 +196,15 @@ fn hear_read(
     }
 }
 
-/// What the client makes of a payload: it reads it, judges it, and takes it. After want of memory the state stands for the
-/// same standings. It costs what the payload, its part, and what stands above the seal cost.
+/// What the client makes of a payload: it reads it, judges it, and takes it. After want of memory the state is as before. It
+/// costs what the payload, its part, and what stands above the seal cost.
 pub(crate) fn hear(alloc: Global, state: &mut State, payload: &[u8]) -> Result<Heard, NoMemory>
     requires { IsSoundState state.old }
     ensures member { IsMemberAs state.old state.new }
     ensures sound { IsSoundState state.new }
     ensures taken { (s : Standing) → StandsForState state.old s
         → IfOk result (λ h. Hears state.old h state.new s (heard_move (group_of state.old) state.old.id s payload.now)) }
-    ensures err { (s : Standing) → StandsForState state.old s → OnErr result (StandsForState state.new s) }
+    ensures err { OnErr result (state.new ≡ state.old) }
 {
     let message = decode_answer(alloc, payload)?;
     let part = part_of(alloc, message.as_ref())?;

@@ -13,3 +13,6 @@ mod taking;
 
 pub use client::Client;
 pub use step::Step;
+
+#[cfg(test)]
+mod tests;

@@ -5,12 +5,12 @@ ghost use Rattle.std.specs.List.{AllByRecursion};
 ghost use Rattle.vic_dict.specs.Dictionary.{Fits};
 ghost use Rattle.vic_wire.specs.Hashes.{Group};
 ghost use Rattle.vic_wire.specs.Messages.{IsTagged};
-ghost use Rattle.vic_chain.specs.Held.{ShowsPath, held_length};
+ghost use Rattle.vic_chain.specs.Held.{ShowsPath, held_length, cut_to};
 ghost use Rattle.vic_wire.specs.Messages.{request_text};
 ghost use Rattle.vic_rules.specs.Client.{Standing, onto, grown, request_of, Commits, sealed_to, listed_to, new_root, is_write as writes, is_done as done_of};
 ghost use Rattle.vic_rules.specs.declared.state.Own.{Own as AnOwn};
 ghost use Rattle.vic_checks.specs.State.{group_of, StandsForState};
-ghost use Rattle.vic_client.specs.Moves.{IsMemberAs, OwnJoins, KeepsAll, ShowsStep, reply_move};
+ghost use Rattle.vic_client.specs.Moves.{IsMemberAs, OwnJoins, ShowsStep, reply_move};
 
 use crate::sending::{commit_payload, seal_payload};
 use crate::step::Step;
@@ -27,11 +27,11 @@ pub(crate) fn extend_all(window: &mut Window, items: &[Tagged]) -> Result<(), No
     requires spelled { AllByRecursion IsTagged items.now }
     requires room { held_length window.old + length items.now ≤ 1048576 }
     ensures length { OnOk result (held_length window.new ≡ held_length window.old + length items.now) }
-    ensures sealed { window.new.sealed ≡ window.old.sealed }
-    ensures root { window.new.root ≡ window.old.root }
-    ensures kept { OnErr result (held_length window.new ≡ held_length window.old) }
     ensures ok { (g : Group) (s : Standing) → ShowsPath g s.path window.old → OnOk result (ShowsPath g (onto items.now s.path) window.new) }
-    ensures err { (g : Group) (s : Standing) → ShowsPath g s.path window.old → OnErr result (ShowsPath g s.path window.new) }
+    // What was put onto it can be taken off again.
+    ensures back { OnOk result (cut_to window.new (held_length window.old) ≡ window.old) }
+    ensures sealed { window.new.sealed ≡ window.old.sealed }
+    ensures err { OnErr result (window.new ≡ window.old) }
 {
     let length = window.length();
     for item in items {
@@ -87,9 +87,8 @@ pub(crate) fn take_reply(
     ensures length { OnOk result (held_length state.new.window ≡ held_length state.old.window + length entries.now) }
     ensures own { OnOk result (OwnJoins state.old.own state.new.own (held_length state.old.window + length entries.now)) }
     ensures awaiting { OnOk result (state.new.awaiting ≡ Awaiting.Turn) }
-    ensures kept { OnErr result (KeepsAll state.old state.new) }
     ensures taken { (s : Standing) → StandsForState state.old s → IfOk result (λ r. ShowsStep state.old r state.new (reply_move state.old.id s seal.now entries.now part op)) }
-    ensures err { (s : Standing) → StandsForState state.old s → OnErr result (StandsForState state.new s) }
+    ensures err { OnErr result (state.new ≡ state.old) }
 {
     let outcome = decide(alloc, state, entries, seal.position, part, &op)?;
     let length = state.window.length();
@@ -184,10 +183,9 @@ pub(crate) fn take_entries(
     ensures length { OnOk result (held_length state.new.window ≡ held_length state.old.window + length entries.now) }
     ensures own { state.new.own ≡ state.old.own }
     ensures awaiting { OnOk result (state.new.awaiting ≡ Awaiting.Nothing) }
-    ensures kept { OnErr result (KeepsAll state.old state.new) }
     ensures taken { (s : Standing) → StandsForState state.old s
         → IfOk result (λ r. ShowsStep state.old r state.new (listed_to s (grown s entries.now) seal.now.position seal.now.root.bytes)) }
-    ensures err { (s : Standing) → StandsForState state.old s → OnErr result (StandsForState state.new s) }
+    ensures err { OnErr result (state.new ≡ state.old) }
 {
     extend_all(&mut state.window, entries.as_slice())?;
     state.window.advance(seal.position, &seal.root);

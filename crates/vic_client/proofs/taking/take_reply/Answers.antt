@@ -1,15 +1,14 @@
 use Rattle.std.proofs.Common.{◌≡◌, ◌≤◌, ℕ, Bool, List, [], ◌∷◌, ◌++◌, Some, length, sym, ap, ◌∙◌, subst, arith, refl}
 use Rattle.vic_dict.specs.declared.op.Entry.{Entry}
-use Rattle.vic_dict.specs.Lists.{front}
 use Rattle.vic_wire.specs.declared.message.Tagged.{Tagged}
 use Rattle.vic_wire.specs.Hashes.{Group}
 use Rattle.vic_wire.specs.Messages.{request_text}
-use Rattle.vic_chain.specs.Held.{Held, ShowsPath, held_length}
+use Rattle.vic_chain.specs.Held.{Held, ShowsPath, held_length, cut_to}
 use Rattle.vic_rules.specs.declared.state.Own.{Own}
 use Rattle.vic_rules.specs.Client.{onto, grown, decision, request_of, Commits, is_done}
 use Rattle.vic_checks.specs.declared.state.State.{State}
 use Rattle.vic_checks.specs.State.{group_of, below_last}
-use Rattle.vic_checks.proofs.Paths.{front_below, front_whole, length-onto}
+use Rattle.vic_checks.proofs.Paths.{length-onto}
 use Rattle.vic_client.specs.Moves.{reply_move}
 use Rattle.vic_client.proofs.taking.take_reply.Goals as goal
 
@@ -51,24 +50,10 @@ returns-in-Ok-clause-taken c = λ s st.
     }
 
 pub returns-in-Err-clause-err : goal.returns-in-Err-clause-err
-returns-in-Err-clause-err c = λ s st.
-    let g : Group = group_of c.args.state.now in
-    let p : List Entry = grown s c.args.entries.now in
-    let n = c.length-length.result in
-    let shown : ShowsPath g p c.extend_all.new.window =
-    subst (λ (ts : List Tagged). ShowsPath g (onto ts s.path) c.extend_all.new.window) c.as_slice.ensures (c.in_ok-extend_all.ensures.ok g s st.path) in
+returns-in-Err-clause-err c =
+    let old : State = c.args.state.now in
     let after = c.in-Err.ensures.err in
-    let old_length : n ≡ length s.path = c.length-length.ensures.shows g s.path st.path in
-    let few : n ≤ length s.path = omega (arith, old_length) in
-    let back : front n p ≡ s.path = front_below c.args.entries.now n s.path few ∙ ap (λ (m : ℕ). front m s.path) old_length ∙ front_whole s.path in
-    let there : ShowsPath g s.path c.cut_back.new.self =
-    subst (λ (q : List Entry). ShowsPath g q c.cut_back.new.self) back
-    (c.cut_back.ensures.shows g p (subst (λ (x : State). ShowsPath g p x.window) (sym after) shown)) in
-    record {
-      path = subst (λ (x : State). ShowsPath (record { mode = x.mode; count = x.count; key = x.key }) s.path c.cut_back.new.self) (sym after) there;
-      sealed = st.sealed ∙ sym (ap (λ (w : Held). w.sealed) c.cut_back.ensures.value ∙ ap (λ (x : State). x.window.sealed) after ∙ c.in_ok-extend_all.ensures.sealed);
-      root = st.root ∙ sym (ap (λ (w : Held). w.root) c.cut_back.ensures.value ∙ ap (λ (x : State). x.window.root) after ∙ c.in_ok-extend_all.ensures.root);
-      own = st.own ∙ sym (ap (λ (x : State). x.own) after);
-      awaiting = st.awaiting ∙ sym (ap (λ (x : State). x.awaiting) after);
-      halted = st.halted;
-    }
+    let window : c.cut_back.new.self ≡ old.window =
+    c.cut_back.ensures.value ∙ ap (λ (x : State). cut_to x.window c.length-length.result) after
+    ∙ ap (λ (n : ℕ). cut_to c.extend_all.new.window n) c.length-length.ensures.value ∙ c.in_ok-extend_all.ensures.back in
+    ap (λ (x : State). record x { window = c.cut_back.new.self }) after ∙ ap (λ (w : Held). record old { window = w }) window

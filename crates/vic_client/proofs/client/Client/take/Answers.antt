@@ -6,9 +6,9 @@ use Rattle.vic_client.specs.declared.step.Step.{Step}
 use Rattle.vic_client.specs.declared.hearing.Heard.{Heard}
 use Rattle.vic_client.specs.Kept.{Kept, StandsFor, group_of, move_of}
 use Rattle.vic_client.specs.Moves.{ShowsStep}
-use Rattle.vic_client.specs.Shows.{Shows, kept_of}
+use Rattle.vic_client.specs.Shows.{Shows}
 use Rattle.vic_client.specs.Hearing.{Hears, heard_move}
-use Rattle.vic_client.proofs.Moved.{payload_halted, payload_heard, heard_calls}
+use Rattle.vic_client.proofs.Moved.{kept_of, payload_halted, payload_heard, heard_calls}
 use Rattle.vic_client.proofs.client.Client.take.Goals as goal
 
 pub returns-in-Some-clause-taken : goal.returns-in-Some-clause-taken
