@@ -2,3 +2,6 @@ pub mod Logs
 pub mod Weights
 pub mod Sound
 pub mod Seen
+pub mod Caused
+pub mod Polls
+pub mod Refusals

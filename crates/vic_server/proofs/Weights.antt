@@ -1,7 +1,7 @@
 -- How the weight of a dictionary changes with an operation.
 use Rattle.std.proofs.Common.{◌≡◌, ℕ, ◌+◌, ◌*◌, ◌<◌, ◌≤◌, Bool, true, false, cond, List, [], ◌∷◌, length, get_or, set, Some, Ok, Err, refl, sym, ap, subst, ◌∙◌, arith}
 use Rattle.std.specs.List.{sum_by, insert, remove}
-use Rattle.std.specs.Prelude.{MatchResult}
+use Rattle.std.specs.Prelude.{MatchResult, if◌then◌else◌}
 use Rattle.std.proofs.lemmas.List.Sums.{sum_by-set, sum_by-insert, sum_by-remove, sum_by-cons}
 use Rattle.std.proofs.lemmas.Cmp.{nat_list_cmp_total}
 use Rattle.std.specs.FinMap as map
@@ -12,7 +12,7 @@ use Rattle.vic_dict.specs.Dictionary.{Dictionary, after}
 use Rattle.vic_dict.specs.Rows.{Row, bytes_cmp, spot, IsTable}
 use Rattle.vic_dict.proofs.Rows.{IsAt, IsGap, spotted, drops, drops_nothing, rows_of}
 use Rattle.vic_order.specs.Order.{op_weight}
-use Rattle.vic_server.specs.Keeping.{pairs_weight, pair_weight, held_weight, freed_by, freed_weight}
+use Rattle.vic_server.specs.Keeping.{pairs_weight, pair_weight, held_weight, freed_by}
 
 same_rows : (d : Dictionary) → IsTable (map.entries d) → map.from_sorted (map.entries d) ≡ d
 same_rows d t = same_entries_map _ _ (rows_of (map.entries d) t)
@@ -70,6 +70,10 @@ freed_weighs d (op.Put k v) t = put_weighs d k v t
 freed_weighs d (op.Get k) t = refl
 freed_weighs d (op.Del k) t = let law = del_weighs d k t in omega (arith, law)
 freed_weighs d (op.List p) t = refl
+
+-- what it loses when an entry is sealed: what a done one takes away, or the put that was aborted
+abbrev pub freed_weight : Dictionary → Op → Bool → ℕ
+freed_weight d o done = if done then freed_by d o else op_weight o
 
 -- the weight after an entry is sealed
 pub sealed_weighs : (d : Dictionary) (o : Op) (done : Bool) → IsTable (map.entries d) → pairs_weight (cond done (after d o) d) + freed_weight d o done ≡ pairs_weight d + op_weight o

@@ -1,5 +1,6 @@
 -- What a request changes, once it was accepted.
 use Rattle.std.specs.Prelude.{◌≡◌, ℕ, ◌+◌, ◌<◌, ◌≤◌, ◌∷◌, length, Some}
+use Rattle.vic_wire.specs.declared.message.ToClient.TheVariants as say
 use Rattle.vic_wire.specs.Messages.{HasSpelling, IsSeal}
 use Rattle.vic_order.specs.declared.Stage.TheVariants as stage
 use Rattle.vic_order.specs.Order.{Server, Answered, set_member, set_stage, size, sealed_count, weight, op_weight, commit_at, with_commit, with_seal}
@@ -31,3 +32,7 @@ IsPossible s (change.Leaves who) = IsSeat s who
 -- a plan is what the rule says: the server that it leaves, and the answer, which has a spelling
 abbrev pub Follows : Answered → Server → Plan → Type 0
 Follows a s p = (leaves s p.change ≡ a.next) × ((p.answer ≡ a.answer) × (HasSpelling p.answer × IsPossible s p.change))
+
+-- nothing changes, and the client is to wait
+abbrev pub to_wait : Plan
+to_wait = record { answer = say.Wait; change = change.Nothing }

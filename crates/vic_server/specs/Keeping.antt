@@ -45,15 +45,12 @@ abbrev pub held_weight : List ℕ → Option (List ℕ) → ℕ
 held_weight k None = 0
 held_weight k (Some v) = pair_weight k v
 
--- what the weight loses when an entry is sealed: the pair that a done put or del takes away, or the put that was aborted
+-- what the weight loses when a done entry is sealed: the pair that a put or del takes away
 abbrev pub freed_by : Dictionary → Op → ℕ
 freed_by d (op.Put k v) = held_weight k (map.get d k)
 freed_by d (op.Get k) = 0
 freed_by d (op.Del k) = held_weight k (map.get d k)
 freed_by d (op.List p) = 0
-
-abbrev pub freed_weight : Dictionary → Op → Bool → ℕ
-freed_weight d o done = if done then freed_by d o else op_weight o
 
 -- what a server in memory keeps true
 pub record IsSound (kind : Mode) (rows : List Ordered) (commits : List Committed) (index : List (Option Bool)) (seals : List Seal) (d : Dictionary) (members : List Member) (counted : ℕ) : Type 0 where

@@ -1,17 +1,19 @@
 //! One function for each kind of request: the tests in the order of the rule, what changes, and the answer.
 
-ghost use Rattle.std.specs.Prelude.{◌≡◌, ℕ, ◌&&◌, ◌||◌, not, nat_lt, nat_le, List, ◌∷◌, ◌<◌, ◌≤◌, ◌+◌, true, false, None, length, IfNone, IfSome, IfOk, OnOk, OnErr, IsTrue};
+ghost use Rattle.std.specs.Prelude.{◌≡◌, ℕ, ◌&&◌, ◌||◌, not, nat_lt, nat_le, List, ◌∷◌, ◌<◌, ◌≤◌, ◌+◌, true, false, None, length, Ok, Some, IfNone, IfSome, IfOk, IsOk, OnOk, OnErr, IsTrue};
 ghost use Rattle.vic_dict.specs.Dictionary.{Fits};
 ghost use Rattle.vic_wire.specs.declared.message.ToServer.TheVariants as ask;
 ghost use Rattle.vic_wire.specs.Messages.{HasRequestSpelling, HasSpelling, IsSeal, IsTagged};
 ghost use Rattle.vic_wire.specs.declared.message.Digest32.{Digest32 as ADigest};
 ghost use Rattle.vic_wire.specs.declared.message.ToClient.TheVariants as say;
 ghost use Rattle.vic_wire.specs.Parts.{part_for};
+ghost use Rattle.vic_wire.specs.Reading.{read_request};
 ghost use Rattle.vic_rules.specs.Client.{first_failing};
 ghost use Rattle.vic_server.specs.declared.change.Change.TheVariants as change;
 ghost use Rattle.vic_order.specs.Order.{is_ready, is_away, is_open_at, is_inside, is_put, same_mode, is_member, owns_committed, ordered_at, commit_at, size, sealed_count, op_weight, weight, turn, turn_on, set_stage, with_seal, on_request, on_hello, serve_read, serve, top_seal, entries_above};
 ghost use Rattle.vic_server.specs.Keeping.{IsWithin, IsAllowed, invoke_tests};
-ghost use Rattle.vic_server.specs.Changes.{Follows, IsSeat, IsPossible, leaves};
+ghost use Rattle.vic_server.specs.Changes.{Follows, IsSeat, IsPossible, leaves, to_wait};
+ghost use Rattle.vic_server.specs.Causes.{Causes};
 
 use crate::change::{Change, Plan};
 use crate::rows::{Row, Seat};
@@ -163,13 +165,15 @@ impl Served {
     fn turn_with(&self, alloc: Global, who: u8, status: Option<bool>) -> Result<ToClient, NoMemory>
         ensures is { IfOk result (λ a. a ≡ turn_on self.now who (ordered_at self.now (sealed_count self.now + 1)) status) }
         ensures spelled { IfOk result (λ a. HasSpelling a) }
+        ensures waits { turn_on self.now who (ordered_at self.now (sealed_count self.now + 1)) status ≡ say.Wait → result ≡ Ok say.Wait }
     {
         let sealed = self.sealed();
         self.tell_turn(alloc, self.seal_at(sealed), who, sealed + 1, status)
     }
 
     fn on_poll(&self, alloc: Global, who: u8) -> Result<Plan, NoMemory>
-        ensures { IfOk result (λ p. Follows (on_request self.now who ask.Poll) self.now p) }
+        ensures follows { IfOk result (λ p. Follows (on_request self.now who ask.Poll) self.now p) }
+        ensures waits { (on_request self.now who ask.Poll).answer ≡ say.Wait → result ≡ Ok to_wait }
     {
         if !is_ready(self.stage_of(who)) {
             return Ok(refused(5));
@@ -326,7 +330,8 @@ impl Served {
     fn on_request(&self, alloc: Global, who: u8, request: ToServer) -> Result<Plan, NoMemory>
         requires seat { IsSeat self.now who × (who ≤ 64) }
         requires spelled { HasRequestSpelling request }
-        ensures { IfOk result (λ p. Follows (on_request self.now who request) self.now p) }
+        ensures follows { IfOk result (λ p. Follows (on_request self.now who request) self.now p) }
+        ensures waits { request ≡ ask.Poll → (on_request self.now who request).answer ≡ say.Wait → result ≡ Ok to_wait }
     {
         match request {
             ToServer::Hello(_, _) => Ok(refused(5)),
@@ -364,7 +369,8 @@ impl Served {
 
     fn on_read(&self, alloc: Global, who: u8, request: Option<ToServer>) -> Result<Plan, NoMemory>
         requires { IfSome request (λ m. HasRequestSpelling m) }
-        ensures { IfOk result (λ p. Follows (serve_read self.now who request) self.now p) }
+        ensures follows { IfOk result (λ p. Follows (serve_read self.now who request) self.now p) }
+        ensures waits { request ≡ Some ask.Poll → (serve_read self.now who request).answer ≡ say.Wait → result ≡ Ok to_wait }
     {
         match request {
             None => Ok(refused(5)),
@@ -381,7 +387,8 @@ impl Served {
     /// What the rule says of a payload.
     #[tactic(auto, unfolding(vic_order::specs::Order::serve))]
     pub(crate) fn plan(&self, alloc: Global, who: u8, payload: &[u8]) -> Result<Plan, NoMemory>
-        ensures { IfOk result (λ p. Follows (serve self.now who payload.now) self.now p) }
+        ensures follows { IfOk result (λ p. Follows (serve self.now who payload.now) self.now p) }
+        ensures waits { read_request payload.now ≡ Some ask.Poll → (serve self.now who payload.now).answer ≡ say.Wait → result ≡ Ok to_wait }
     {
         let request = decode_request(alloc, payload)?;
         self.on_read(alloc, who, request)
@@ -392,6 +399,7 @@ impl Served {
     pub(crate) fn enact(&mut self, alloc: Global, change: Change) -> Result<(), NoMemory>
         requires { IsPossible self.old change }
         ensures ok { OnOk result (self.new ≡ leaves self.old change) }
+        ensures nothing { change ≡ Change.Nothing → IsOk result }
         ensures err { OnErr result (self.new ≡ self.old) }
     {
         match change {
@@ -431,8 +439,15 @@ impl Served {
     ) -> Result<ToClient, NoMemory>
         ensures ok { IfOk result (λ a. (self.new ≡ (serve self.old who payload.now).next) × (a ≡ (serve self.old who payload.now).answer)) }
         ensures spelled { IfOk result (λ a. HasSpelling a) }
+        // Each refusal, and the word to wait, comes exactly where its own cause holds.
+        ensures causes { IfOk result (λ a. Causes self.old who (read_request payload.now) a) }
+        // A refusal changes nothing.
+        ensures refused { (r : ℕ) → result ≡ Ok (say.Refused r) → self.new ≡ self.old }
+        // A Poll that is to wait takes no memory.
+        ensures waits { read_request payload.now ≡ Some ask.Poll → (serve self.old who payload.now).answer ≡ say.Wait → result ≡ Ok say.Wait }
         ensures err { OnErr result (self.new ≡ self.old) }
     {
+        let _plain = self.mode();
         let Plan { answer, change } = self.plan(alloc, who, payload)?;
         self.enact(alloc, change)?;
         Ok(answer)

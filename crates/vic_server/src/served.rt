@@ -1,6 +1,6 @@
 //! What the server keeps, and how it is read and changed.
 
-ghost use Rattle.std.specs.Prelude.{◌≡◌, ℕ, ◌<◌, ◌≤◌, ◌+◌, ◌-◌, ◌^◌, ◌∷◌, length, vec_len, Some, is_some, IfSome, IfOk, OnOk, OnErr, option_copied, replicate, if◌then◌else◌};
+ghost use Rattle.std.specs.Prelude.{◌≡◌, ℕ, ◌<◌, ◌≤◌, ◌+◌, ◌-◌, ◌^◌, ◌∷◌, length, vec_len, Ok, Some, is_some, IfSome, IfOk, OnOk, OnErr, option_copied, replicate, if◌then◌else◌};
 ghost use Rattle.std.specs.Prelude.{map as map_list};
 ghost use Rattle.std.specs.Option.{option_map};
 ghost use Rattle.std.specs.List.{AllByRecursion};
@@ -8,6 +8,7 @@ ghost use Rattle.std.specs.FinMap as map;
 ghost use Rattle.vic_dict.specs.Lists.{front};
 ghost use Rattle.vic_dict.specs.Dictionary.{Fits, after};
 ghost use Rattle.vic_wire.specs.Messages.{IsSeal, IsTagged, HasSpelling};
+ghost use Rattle.vic_wire.specs.declared.message.ToClient.TheVariants as say;
 ghost use Rattle.vic_wire.specs.Parts.{part_for};
 ghost use Rattle.vic_order.specs.Order.{fresh_server, away, ready, member, set_member, size, sealed_count, no_seal, seal_at_position, ordered_at, commit_at, tagged, entries_above, op_weight, weight, update_part, with_commit, with_seal, owns_committed, turn};
 ghost use Rattle.vic_server.specs.Keeping.{IsWithin, status_in, pairs_weight, held_weight, freed_by, turn_from};
@@ -102,6 +103,7 @@ fn turn_of(
     requires seal { IsSeal seal }
     ensures is { IfOk result (λ a. a ≡ turn_from seal dictionary.now who (option_copied row.entry) status) }
     ensures spelled { IfOk result (λ a. HasSpelling a) }
+    ensures waits { turn_from seal dictionary.now who (option_copied row.entry) status ≡ say.Wait → result ≡ Ok say.Wait }
 {
     match (row, status) {
         (Some(row), Some(done)) if row.client() == who => {
@@ -485,6 +487,7 @@ impl Served {
         requires seal { IsSeal seal }
         ensures is { IfOk result (λ a. a ≡ turn_from seal self.now.dictionary who (ordered_at self.now position) status) }
         ensures spelled { IfOk result (λ a. HasSpelling a) }
+        ensures waits { turn_from seal self.now.dictionary who (ordered_at self.now position) status ≡ say.Wait → result ≡ Ok say.Wait }
     {
         turn_of(
             alloc,

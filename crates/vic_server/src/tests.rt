@@ -1,3 +1,5 @@
+ghost use Rattle.std.specs.Prelude.{◌+◌, ◌<◌, ◌^◌};
+
 use super::*;
 use std::alloc::Global;
 use std::test::*;
@@ -84,6 +86,8 @@ fn one_client(rt: HostRuntime) -> Result<(), Fail> {
     assert_eq!(rt; server.pairs(), 1);
     assert_eq!(rt; server.weight(), 18);
     assert_eq!(rt; server.owner_of_next(), None);
+    let copied = Serve::copy(&server, alloc).ok().ok_or("memory")?;
+    assert!(rt; copied.length() == 2 && copied.sealed() == 2 && copied.weight() == 18);
     Ok(())
 }
 
@@ -95,5 +99,115 @@ fn all_in(rt: HostRuntime) -> Result<(), Fail> {
         .ok_or("memory")?;
     let answer = server.step(alloc, 0, 64, b"\x24").ok().ok_or("memory")?;
     assert!(rt; matches!(answer, ToClient::Wait));
+    Ok(())
+}
+
+// What a server takes is built here byte by byte; it tests no tag.
+const TAG: [u8; 32] = [7; 32];
+
+/// Get `a`, from a client whose path has `known` entries.
+fn call_from(
+    alloc: Global,
+    server: &mut Served,
+    who: u8,
+    known: u32,
+    seq: u32,
+) -> Result<ToClient, NoMemory> {
+    let mut payload = Bytes::of(alloc, b"\x22")?;
+    payload.append(known.to_be_bytes().as_slice())?;
+    payload.append(seq.to_be_bytes().as_slice())?;
+    payload.append(b"\x02\x01a")?;
+    payload.append(TAG.as_slice())?;
+    server.step(alloc, 0, who, payload.as_slice())
+}
+
+/// The Commit of a position, as done.
+fn commit(
+    alloc: Global,
+    server: &mut Served,
+    who: u8,
+    position: u32,
+) -> Result<ToClient, NoMemory> {
+    let mut payload = Bytes::of(alloc, b"\x23")?;
+    payload.append(position.to_be_bytes().as_slice())?;
+    payload.push(0)?;
+    payload.append(TAG.as_slice())?;
+    server.step(alloc, 0, who, payload.as_slice())
+}
+
+/// The Seal of a position.
+fn seal(alloc: Global, server: &mut Served, who: u8, position: u32) -> Result<ToClient, NoMemory> {
+    let mut payload = Bytes::of(alloc, b"\x25")?;
+    payload.append(position.to_be_bytes().as_slice())?;
+    payload.append(TAG.as_slice())?;
+    payload.append(TAG.as_slice())?;
+    server.step(alloc, 0, who, payload.as_slice())
+}
+
+/// How many entries a Reply tells, and 0 where the answer is none.
+fn told(answer: &ToClient) -> usize {
+    match answer {
+        ToClient::Reply { entries, .. } => entries.len(),
+        _ => 0,
+    }
+}
+
+/// Calls of client 1 at the positions above `first`, each of them committed, and sealed where `seals` says so. Whether each was
+/// ordered.
+fn call_often(
+    alloc: Global,
+    server: &mut Served,
+    first: u32,
+    count: u32,
+    seals: bool,
+) -> Result<bool, NoMemory>
+    requires { first + count < 2 ^ 32 }
+{
+    let mut ordered = true;
+    for n in 0..count {
+        let answer = call_from(alloc, server, 1, first + n, n + 1)?;
+        ordered &= told(&answer) == 1;
+        commit(alloc, server, 1, first + n + 1)?;
+        if seals {
+            seal(alloc, server, 1, first + n + 1)?;
+        }
+    }
+    Ok(ordered)
+}
+
+/// A client at length 0 is told at most 8,192 entries, its own call among them.
+#[test]
+fn behind(rt: HostRuntime) -> Result<(), Fail> {
+    let alloc = rt.alloc();
+    let mut server = Served::gathered(alloc, Mode::Plain, 3)?;
+    assert!(rt; call_often(alloc, &mut server, 0, 8191, true)?);
+    assert_eq!(rt; server.sealed(), 8191);
+    let near = call_from(alloc, &mut server, 2, 0, 1)?;
+    assert_eq!(rt; told(&near), 8192);
+    let far = call_from(alloc, &mut server, 3, 0, 1)?;
+    assert!(rt; matches!(far, ToClient::Refused(1)));
+    let synced = server.step(alloc, 0, 3, b"\x26\0\0\0\0")?;
+    match &synced {
+        ToClient::Entries { seal, entries } => {
+            assert!(rt; seal.position == 8191 && entries.len() == 8192)
+        }
+        _ => assert!(rt; false),
+    }
+    let again = call_from(alloc, &mut server, 3, 8192, 1)?;
+    assert_eq!(rt; told(&again), 1);
+    Ok(())
+}
+
+/// 1,024 entries wait to be sealed behind a call that isn't committed.
+#[test]
+fn pending(rt: HostRuntime) -> Result<(), Fail> {
+    let alloc = rt.alloc();
+    let mut server = Served::gathered(alloc, Mode::Plain, 2)?;
+    let open = call_from(alloc, &mut server, 2, 0, 1)?;
+    assert_eq!(rt; told(&open), 1);
+    assert!(rt; call_often(alloc, &mut server, 1, 1023, false)?);
+    assert!(rt; server.length() == 1024 && server.sealed() == 0);
+    let last = call_from(alloc, &mut server, 1, 1024, 1024)?;
+    assert!(rt; matches!(last, ToClient::Refused(2)));
     Ok(())
 }
