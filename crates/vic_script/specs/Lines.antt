@@ -4,6 +4,7 @@ use Rattle.std.specs.Str.{bytes_eq}
 use Rattle.vic_dict.specs.declared.op.Op.{Op}
 use Rattle.vic_dict.specs.declared.op.Op.TheVariants as op
 use Rattle.vic_dict.specs.declared.op.Mode.{Mode}
+use Rattle.vic_dict.specs.declared.op.Mode.TheVariants as mode
 use Rattle.vic_script.specs.declared.line.Line.{Line}
 use Rattle.vic_script.specs.declared.line.Line.TheVariants as line
 use Rattle.vic_script.specs.Words.{word_bytes, word_number, word_client}
@@ -76,11 +77,16 @@ abbrev pub header_of : List (List ℕ) → Option Line
 header_of (name ∷ a ∷ []) = if bytes_eq name (codes "clients") then clients_of (word_number a) else None
 header_of words = None
 
--- a line that says what happens
-abbrev pub event_of : List (List ℕ) → Option Line
-event_of (name ∷ a ∷ []) = named name a
-event_of (name ∷ a ∷ others) = if bytes_eq name (codes "call") then call_of (word_client a) (op_of others) else None
-event_of words = None
+-- a call of an operation on the dictionary, which a group of mode plain has
+abbrev pub called : Mode → List ℕ → List ℕ → List (List ℕ) → Option Line
+called mode.Plain name a others = if bytes_eq name (codes "call") then call_of (word_client a) (op_of others) else None
+called mode.Objects name a others = None
+
+-- a line that says what happens in a group of this mode
+abbrev pub event_of : Mode → List (List ℕ) → Option Line
+event_of kind (name ∷ a ∷ []) = named name a
+event_of kind (name ∷ a ∷ others) = called kind name a others
+event_of kind words = None
 
 abbrev pub or_line : Option Line → Option Line → Option Line
 or_line (Some l) other = Some l
@@ -89,7 +95,7 @@ or_line None other = other
 -- the line that a text spells, if it spells one; before the mode is known only the header's first line does
 abbrev pub line_in : Option Mode → List (List ℕ) → Option Line
 line_in None words = header_of words
-line_in (Some kind) words = or_line (header_of words) (event_of words)
+line_in (Some kind) words = or_line (header_of words) (event_of kind words)
 
 unfoldable pub line_of : Option Mode → List ℕ → Option Line
 line_of kind text = line_in kind (words_of text)

@@ -21,7 +21,7 @@ pub enum LineFault {
     NoMemory,
 }
 
-/// The line that a text without its 0a spells. Before the mode is known, only a line of the header does.
+/// The line that a text without its 0a spells, in a group of this mode. Before the mode is known, only a line of the header does.
 pub fn read_line(alloc: Global, text: &[u8], mode: Option<Mode>) -> Result<Line, LineFault>
     ensures ok { IfOk result (λ l. line_by mode text.now ≡ Some l) }
     ensures grammar { result ≡ Err LineFault.Grammar → line_by mode text.now ≡ None }
@@ -112,7 +112,7 @@ fn named_line(name: &[u8], number: &[u8]) -> Option<Line>
 }
 
 /// A line of more than two words, of which the third and later ones are given as one text.
-#[tactic(auto, using(crate::proofs::LongLines::header_more, crate::proofs::LongLines::line_more))]
+#[tactic(auto, using(crate::proofs::LongLines::header_more, crate::proofs::LongLines::call_more, crate::proofs::LongLines::none_more))]
 fn more_words(
     alloc: Global,
     name: &[u8],
@@ -123,8 +123,8 @@ fn more_words(
     ensures { IfOk result (λ o. o ≡ line_in mode (name.now ∷ number.now ∷ words_of words.now)) }
 {
     match mode {
-        None => Ok(None),
-        Some(_) => call_line(alloc, name, number, words),
+        Some(Mode::Plain) => call_line(alloc, name, number, words),
+        _ => Ok(None),
     }
 }
 
