@@ -117,7 +117,7 @@ module _ (g : Group) (w : World) (fit : WorldFits g w) (know : WorldKnows g w) (
   abbrev weak : ClientFits g (texts_made g w.history) me w.server.log (standing g me w.history) (w.up me) (w.down me)
   weak = fit.clients me above upto
 
-  nothing_under_way : IsIdle here → (w.up me ≡ []) × (w.down me ≡ [])
+  pub nothing_under_way : IsIdle here → (w.up me ≡ []) × (w.down me ≡ [])
   nothing_under_way idle = idle_rests g me here (w.up me) (w.down me) weak.doing (and_parts (awaits_nothing here.awaiting) (is_none here.halted) idle).0 weak.busy weak.up_is weak.down_is
 
   calm_now : IsIdle here → Calm me w.server here client.newer
@@ -195,7 +195,7 @@ fresh_member (suc n) (suc i) h = fresh_member n i (omega arith)
 
 module _ (g : Group) (group : IsGroup g) where
   -- what is answered has a spelling
-  answer_spelled : (w : World) → WorldFits g w → (me : ℕ) → 0 < me → me ≤ g.count → (payload : List ℕ) → w.up me ≡ payload ∷ [] → HasSpelling (serve w.server me payload).answer
+  pub answer_spelled : (w : World) → WorldFits g w → (me : ℕ) → 0 < me → me ≤ g.count → (payload : List ℕ) → w.up me ≡ payload ∷ [] → HasSpelling (serve w.server me payload).answer
   answer_spelled w fit me above upto payload up_is =
       let c = fit.clients me above upto in by_doing c.seen c.newer c.is c.path c.fits c.doing c.up_is c.does
     where

@@ -14,6 +14,9 @@ pub mod Requests
 pub mod Learning
 pub mod Known
 pub mod Runs
+pub mod InTheWay
 pub mod OnePath
 pub mod OneHistory
 pub mod Refusals
+pub mod Told
+pub mod Replies

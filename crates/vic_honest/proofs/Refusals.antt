@@ -1,24 +1,29 @@
--- The server refuses only calls that would pass a limit.
-use Rattle.std.proofs.Common.{◌≡◌, ℕ, ◌<◌, ◌≤◌, ◌^◌, Bool, List, [], ◌∷◌, ◌++◌, length, Some, sym, ap, subst, ◌∙◌}
+-- The server refuses exactly the calls that would pass a limit.
+use Rattle.std.proofs.Common.{◌≡◌, ℕ, ◌<◌, ◌≤◌, ◌^◌, Bool, false, List, [], ◌∷◌, ◌++◌, length, Option, Some, None, refl, sym, ap, subst, ◌∙◌}
 use Rattle.vic_dict.specs.declared.op.Op.{Op}
+use Rattle.vic_wire.specs.declared.message.Digest32.{Digest32}
+use Rattle.vic_wire.specs.declared.message.ToServer.{ToServer}
+use Rattle.vic_wire.specs.declared.message.ToServer.TheVariants as ask
 use Rattle.vic_wire.specs.declared.message.ToClient.TheVariants as say
+use Rattle.vic_wire.specs.Texts.{invoke_text}
 use Rattle.vic_wire.specs.Hashes.{Group}
 use Rattle.vic_wire.specs.Messages.{request_text}
 use Rattle.vic_wire.specs.Reading.{read_request}
 use Rattle.vic_rules.specs.declared.state.Awaiting.{Awaiting}
 use Rattle.vic_rules.specs.declared.state.Awaiting.TheVariants as awaits
-use Rattle.vic_rules.specs.Client.{Standing, Sending, Invokes, Commits, Polls, Seals, Syncs, request_of}
+use Rattle.vic_rules.specs.Client.{Standing, Sending, Invokes, Commits, Polls, Seals, Syncs, request_of, tag_for}
 use Rattle.vic_rules.specs.History.{standing}
 use Rattle.vic_rules.specs.Trust.{texts_made}
-use Rattle.vic_order.specs.Order.{Ordered, Server, Answered, serve, serve_read}
+use Rattle.vic_order.specs.Order.{Ordered, Server, Answered, says, unless_refused, sealed_count, serve, serve_read}
 use Rattle.vic_order.specs.Honest.{World, world_after}
 use Rattle.vic_spellings.proofs.SpelledRequests.{request_again}
-use Rattle.vic_honest.specs.Claims.{RefusedAtLimit, RefusalsAreLimits}
+use Rattle.vic_laws.proofs.Words.{some_same}
+use Rattle.vic_honest.specs.Claims.{limit, RefusedAtLimit, RefusalsAreLimits, LimitsAreRefused, IsOrderedBy, CallsAreOrdered}
 use Rattle.vic_honest.proofs.Standing.{WorldFits, ClientFits, Doing, Rests, Sends, Gets, up_by}
 use Rattle.vic_honest.proofs.Worlds.{room_left}
 use Rattle.vic_honest.proofs.Knowing.{Keeps, Does, RefusalComes}
 use Rattle.vic_honest.proofs.Answering.{Answers}
-use Rattle.vic_honest.proofs.Requests.{request_answers, invoke_refused}
+use Rattle.vic_honest.proofs.Requests.{ordered_by, request_answers, invoke_is}
 use Rattle.vic_honest.proofs.Known.{WorldKnows, request_spelled}
 use Rattle.vic_honest.proofs.Runs.{run_fits, run_knows}
 
@@ -35,16 +40,56 @@ not_refused g me s t seen newer a waits r answers refused awaiting apart =
     let c : RefusalComes me a.next t (answers.new ++ newer) r = subst (λ m. Does g me a.next t seen (answers.new ++ newer) (Gets m)) refused answers.does in
     apart c.number c.op c.load (sym awaiting ∙ c.awaiting)
 
+-- a queue's request is one that its client sent, from where it stands
+record IsSent (g : Group) (w : World) (me : ℕ) (payload : List ℕ) : Type 0 where
+  seen : List Ordered
+  newer : List Ordered
+  keeps : Keeps me w.server (standing g me w.history) seen newer
+  sending : Sending
+  does : Does g me w.server (standing g me w.history) seen newer (Sends sending)
+  read : read_request payload ≡ Some (request_of g me (standing g me w.history) sending)
+
+-- what only a guard at a limit can refuse
+refused_at : (s : Server) (o : Option ℕ) (a : Answered) (r : ℕ) → ((k : ℕ) → a.answer ≡ say.Refused k → ⊥) → (unless_refused s o a).answer ≡ say.Refused r → o ≡ Some r
+refused_at s (Some k) a r apart e = cc
+refused_at s None a r apart e = absurd (apart r e)
+
+-- what a request is answered, if it is a call
+abbrev called : Server → ℕ → ToServer → Answered
+called s me (ask.Invoke known seq o tag) = unless_refused s (limit s known o) (ordered_by s me known seq o tag)
+called s me _ = says s say.Wait
+
 module _ (g : Group) (w : World) (fit : WorldFits g w) (know : WorldKnows g w) (me : ℕ) (above : 0 < me) (upto : me ≤ g.count) where
   abbrev t : Standing
   t = standing g me w.history
 
-  read_as : (s : Server) (payload : List ℕ) (sending : Sending) (r : ℕ) → read_request payload ≡ Some (request_of g me t sending) → (serve s me payload).answer ≡ say.Refused r
-      → (serve_read s me (Some (request_of g me t sending))).answer ≡ say.Refused r
-  unfolding serve
-  read_as s payload sending r read refused = ap (λ x. (serve_read s me x).answer) (sym read) ∙ refused
+  sent_by : (payload : List ℕ) (rest : List (List ℕ)) → w.up me ≡ payload ∷ rest → IsSent g w me payload
+  sent_by payload rest up_is =
+      let c = know.clients me above upto in by_doing c.seen c.newer c.keeps c.doing c.up_is c.does
+    where
+      by_doing : (seen newer : List Ordered) → Keeps me w.server t seen newer → (doing : Doing) → w.up me ≡ up_by g me t doing → Does g me w.server t seen newer doing → IsSent g w me payload
+      by_doing seen newer keeps Rests up d = absurd (none_first (w.up me) payload rest up up_is)
+      by_doing seen newer keeps (Sends sending) up d =
+          let b : ClientFits g (texts_made g w.history) me w.server.log t (w.up me) (w.down me) = fit.clients me above upto in
+          let same = first_is (w.up me) (request_text (request_of g me t sending)) payload rest up up_is in
+          let room : length t.path < 2 ^ 32 = room_left g (texts_made g w.history) w.server t b.seen b.newer fit.server b.is b.path in
+          record {
+            seen = seen;
+            newer = newer;
+            keeps = keeps;
+            sending = sending;
+            does = d;
+            read = ap read_request (sym same) ∙ request_again (request_of g me t sending) (request_spelled g me w.server t seen newer b.fits room keeps sending d);
+          }
+      by_doing seen newer keeps (Gets m) up d = absurd (none_first (w.up me) payload rest up up_is)
 
-  -- what is answered to what was sent
+  -- what is served is what was read
+  read_as : (payload : List ℕ) (m : ToServer) → read_request payload ≡ Some m → serve w.server me payload ≡ serve_read w.server me (Some m)
+  unfolding serve
+  read_as payload m read = ap (serve_read w.server me) read
+
+  -- ---- what is refused
+
   refused_by : (seen newer : List Ordered) → Keeps me w.server t seen newer → (sending : Sending) → Does g me w.server t seen newer (Sends sending) → (r : ℕ)
       → (serve_read w.server me (Some (request_of g me t sending))).answer ≡ say.Refused r → (payload : List ℕ) → read_request payload ≡ Some (request_of g me t sending) → RefusedAtLimit w.server payload r
   refused_by seen newer keeps (Invokes n o) d r refused payload read = record {
@@ -53,7 +98,8 @@ module _ (g : Group) (w : World) (fit : WorldFits g w) (know : WorldKnows g w) (
     op = o;
     tag = _;
     is = read;
-    limit_is = invoke_refused g w.server know.server me above upto t seen newer keeps n o d r refused;
+    limit_is = refused_at w.server (limit w.server (length t.path) o) (ordered_by w.server me (length t.path) n o (tag_for g (invoke_text (record { client = me; seq = n; op = o })))) r (λ k e. cc)
+        (ap (λ a. a.answer) (sym (invoke_is g w.server know.server me above upto t seen newer keeps n o d)) ∙ refused);
   }
   refused_by seen newer keeps (Commits done) d r refused payload read =
       absurd (not_refused g me w.server t seen newer (serve_read w.server me (Some (request_of g me t (Commits done)))) awaits.Turn r (request_answers g w.server know.server me above upto t seen newer keeps (Commits done) d) refused d.awaiting (λ n o load e. cc))
@@ -66,19 +112,67 @@ module _ (g : Group) (w : World) (fit : WorldFits g w) (know : WorldKnows g w) (
 
   pub world_refuses : (payload : List ℕ) (rest : List (List ℕ)) → w.up me ≡ payload ∷ rest → (r : ℕ) → (serve w.server me payload).answer ≡ say.Refused r → RefusedAtLimit w.server payload r
   world_refuses payload rest up_is r refused =
-      let c = know.clients me above upto in by_doing c.seen c.newer c.keeps c.doing c.up_is c.does
-    where
-      by_doing : (seen newer : List Ordered) → Keeps me w.server t seen newer → (doing : Doing) → w.up me ≡ up_by g me t doing → Does g me w.server t seen newer doing → RefusedAtLimit w.server payload r
-      by_doing seen newer keeps Rests up d = absurd (none_first (w.up me) payload rest up up_is)
-      by_doing seen newer keeps (Sends sending) up d =
-          let b : ClientFits g (texts_made g w.history) me w.server.log t (w.up me) (w.down me) = fit.clients me above upto in
-          let same = first_is (w.up me) (request_text (request_of g me t sending)) payload rest up up_is in
-          let room : length t.path < 2 ^ 32 = room_left g (texts_made g w.history) w.server t b.seen b.newer fit.server b.is b.path in
-          let read : read_request payload ≡ Some (request_of g me t sending) =
-          ap read_request (sym same) ∙ request_again (request_of g me t sending) (request_spelled g me w.server t seen newer b.fits room keeps sending d) in
-          refused_by seen newer keeps sending d r (read_as w.server payload sending r read refused) payload read
-      by_doing seen newer keeps (Gets m) up d = absurd (none_first (w.up me) payload rest up up_is)
+      let x : IsSent g w me payload = sent_by payload rest up_is in
+      refused_by x.seen x.newer x.keeps x.sending x.does r (ap (λ a. a.answer) (sym (read_as payload (request_of g me t x.sending) x.read)) ∙ refused) payload x.read
+
+  -- ---- what a call is answered
+
+  called_by : (seen newer : List Ordered) → Keeps me w.server t seen newer → (sending : Sending) → Does g me w.server t seen newer (Sends sending)
+      → (known seq : ℕ) (o : Op) (tag : Digest32) → request_of g me t sending ≡ ask.Invoke known seq o tag
+      → serve_read w.server me (Some (request_of g me t sending)) ≡ called w.server me (request_of g me t sending)
+  called_by seen newer keeps (Invokes n p) d known seq o tag e = invoke_is g w.server know.server me above upto t seen newer keeps n p d
+  called_by seen newer keeps (Commits done) d known seq o tag e = absurd cc
+  called_by seen newer keeps Polls d known seq o tag e = absurd cc
+  called_by seen newer keeps Seals d known seq o tag e = absurd cc
+  called_by seen newer keeps Syncs d known seq o tag e = absurd cc
+
+  -- a call that lies in a queue is refused at a limit, and else it is ordered
+  world_calls : (payload : List ℕ) (rest : List (List ℕ)) → w.up me ≡ payload ∷ rest → (known seq : ℕ) (o : Op) (tag : Digest32) → read_request payload ≡ Some (ask.Invoke known seq o tag)
+      → serve w.server me payload ≡ unless_refused w.server (limit w.server known o) (ordered_by w.server me known seq o tag)
+  world_calls payload rest up_is known seq o tag read =
+      let x : IsSent g w me payload = sent_by payload rest up_is in
+      let same : request_of g me t x.sending ≡ ask.Invoke known seq o tag = some_same (sym x.read ∙ read) in
+      read_as payload (request_of g me t x.sending) x.read ∙ called_by x.seen x.newer x.keeps x.sending x.does known seq o tag same ∙ ap (called w.server me) same
+
+  awaited_by : (seen newer : List Ordered) → (sending : Sending) → Does g me w.server t seen newer (Sends sending) → (known seq : ℕ) (o : Op) (tag : Digest32)
+      → request_of g me t sending ≡ ask.Invoke known seq o tag → t.awaiting ≡ awaits.Reply seq o false
+  awaited_by seen newer (Invokes n p) d known seq o tag e =
+      let number : n ≡ seq = cc in let same : p ≡ o = cc in d.awaiting ∙ ap (λ k. awaits.Reply k p false) number ∙ ap (λ q. awaits.Reply seq q false) same
+  awaited_by seen newer (Commits done) d known seq o tag e = absurd cc
+  awaited_by seen newer Polls d known seq o tag e = absurd cc
+  awaited_by seen newer Seals d known seq o tag e = absurd cc
+  awaited_by seen newer Syncs d known seq o tag e = absurd cc
+
+  -- the client of a call that lies in a queue awaits the answer to it
+  pub world_awaits : (payload : List ℕ) (rest : List (List ℕ)) → w.up me ≡ payload ∷ rest → (known seq : ℕ) (o : Op) (tag : Digest32) → read_request payload ≡ Some (ask.Invoke known seq o tag) → t.awaiting ≡ awaits.Reply seq o false
+  world_awaits payload rest up_is known seq o tag read =
+      let x : IsSent g w me payload = sent_by payload rest up_is in awaited_by x.seen x.newer x.sending x.does known seq o tag (some_same (sym x.read ∙ read))
 
 pub refusals_are_limits : RefusalsAreLimits
 refusals_are_limits g events run me above upto payload rest up_is r refused =
     world_refuses g (world_after g events) (run_fits g events run) (run_knows g events run) me above upto payload rest up_is r refused
+
+pub limits_are_refused : LimitsAreRefused
+limits_are_refused g events run me above upto payload rest up_is known seq o tag read r at =
+    let s : Server = (world_after g events).server in
+    let a : Answered = ordered_by s me known seq o tag in
+    ap (λ x. x.answer) (world_calls g (world_after g events) (run_fits g events run) (run_knows g events run) me above upto payload rest up_is known seq o tag read)
+    ∙ ap (λ l. (unless_refused s l a).answer) at
+
+pub calls_are_ordered : CallsAreOrdered
+calls_are_ordered g events run me above upto payload rest up_is known seq o tag read none =
+    let s : Server = (world_after g events).server in
+    let a : Answered = ordered_by s me known seq o tag in
+    let is : serve s me payload ≡ a =
+    world_calls g (world_after g events) (run_fits g events run) (run_knows g events run) me above upto payload rest up_is known seq o tag read ∙ ap (λ l. unless_refused s l a) none in
+    subst (IsOrderedBy s me seq o tag) (sym is) (record {
+      newest = record { entry = record { client = me; seq = seq; op = o }; tag = tag; sealed_then = sealed_count s };
+      log = refl;
+      entry = refl;
+      tagged = refl;
+      sealed_then = refl;
+      seal = _;
+      told = _;
+      part = _;
+      answer = refl;
+    })

@@ -1,5 +1,5 @@
 -- Each request of a client that stands well is served, and its answer is right.
-use Rattle.std.proofs.Common.{◌≡◌, ℕ, suc, ◌+◌, ◌-◌, ◌<◌, ◌≤◌, Bool, true, false, not, ◌&&◌, ◌||◌, List, [], ◌∷◌, ◌++◌, length, take, drop, min, Some, None, inl, inr, refl, sym, ap, subst, ◌∙◌, arith, length-append, length-drop, length-set, append_assoc}
+use Rattle.std.proofs.Common.{◌≡◌, ℕ, suc, ◌+◌, ◌-◌, ◌<◌, ◌≤◌, Bool, true, false, not, ◌&&◌, ◌||◌, List, [], ◌∷◌, ◌++◌, length, take, drop, min, Option, Some, None, inl, inr, refl, sym, ap, subst, ◌∙◌, arith, length-append, length-drop, length-set, append_assoc}
 use Rattle.std.specs.Prelude.{if◌then◌else◌, nat_eq, nat_lt, nat_le}
 use Rattle.std.specs.List.{AllByRecursion}
 use Rattle.std.proofs.lemmas.Bool.{eqb-true, eqb-false, eq-eqb, ne_eqb, lt-ltb, le-leb, and_from, not-true, cases_eq}
@@ -34,6 +34,10 @@ use Rattle.vic_honest.proofs.Answering.{Answers, count_is, top_is, base_is, seal
 -- a test that passes refuses nothing
 pub guard_ok : (s : Server) (n : ℕ) (b : Bool) (a : Answered) → b ≡ true → guarded s ((n, b) ∷ []) a ≡ a
 guard_ok s n b a e = ap (λ c. unless_refused s (if c then None else Some n) a) e
+
+-- what a call that is ordered leaves and is answered
+abbrev pub ordered_by : Server → ℕ → ℕ → ℕ → Op → Digest32 → Answered
+ordered_by s me known n o tag = becomes (ordered_next s me n o tag) (say.Reply (top_seal s) (entries_above known (ordered_next s me n o tag).log) (part_for s.dictionary o))
 
 -- the status that a log gives its newest entry
 abbrev status_of : List Ordered → Bool
@@ -393,21 +397,17 @@ module _ (g : Group) (s : Server) (k : ServerKnows g s) (me : ℕ) (above : 0 < 
           let none = k.unmade (length (o2 ∷ below2)) (omega (arith, ap length is)) in absurd cc
       new_fates x (y ∷ newer2) o2 below2 done is committed = let rest : s.log ≡ newer2 ++ o2 ∷ below2 = cc in k.fates newer2 o2 below2 done rest committed
 
-  -- a call that is refused would pass the limit of that number
-  pub invoke_refused : (n : ℕ) (o : Op) → InvokeGoes me s t newer n o → (r : ℕ) → (serve_read s me (Some (request_of g me t (Invokes n o)))).answer ≡ say.Refused r → limit s (length t.path) o ≡ Some r
-  invoke_refused n o go r refused =
-      let b5 : Bool = is_ready (member s me).stage && (nat_lt (member s me).last n && nat_le (length t.path) (size s)) in
-      let rest : List (ℕ × Bool) =
-      (4, not (nat_eq (size s) 1048576)) ∷ (2, not (nat_eq (size s - sealed_count s) 1024)) ∷ (3, not (is_put o) || nat_le (weight s + op_weight o) 8388608) ∷ (1, nat_le ((size s + 1) - length t.path) 8192) ∷ [] in
-      let next : Server = ordered_next s me n o (tag_for g (invoke_text (record { client = me; seq = n; op = o }))) in
-      let ordered : Answered = becomes next (say.Reply (top_seal s) (entries_above (length t.path) next.log) (part_for s.dictionary o)) in
-      let test : b5 ≡ true =
+  -- a call of a client that stands well is refused at a limit, and else it is ordered
+  pub invoke_is : (n : ℕ) (o : Op) → InvokeGoes me s t newer n o
+      → serve_read s me (Some (request_of g me t (Invokes n o))) ≡ unless_refused s (limit s (length t.path) o) (ordered_by s me (length t.path) n o (tag_for g (invoke_text (record { client = me; seq = n; op = o }))))
+  invoke_is n o go =
+      let tag : Digest32 = tag_for g (invoke_text (record { client = me; seq = n; op = o })) in
+      let rest : Option ℕ = limit s (length t.path) o in
+      let test : (is_ready (member s me).stage && (nat_lt (member s me).last n && nat_le (length t.path) (size s))) ≡ true =
       and_from (is_ready (member s me).stage) (nat_lt (member s me).last n && nat_le (length t.path) (size s)) (ap is_ready go.calm.ready)
       (and_from (nat_lt (member s me).last n) (nat_le (length t.path) (size s)) (lt-ltb (member s me).last n go.new) (le-leb (length t.path) (size s) (omega (arith, length-path, length-log)))) in
-      let at_rest : first_failing ((5, b5) ∷ rest) ≡ first_failing rest = ap (λ b. if b then first_failing rest else Some 5) test in
-      let P : Answered → Type 0 = λ a. a.answer ≡ say.Refused r → limit s (length t.path) o ≡ Some r in
-      subst P (sym (guard_ok s 6 (is_member s me) _ (is_inside-here stage.Ready go.calm.ready refl)))
-      (passed P s (first_failing ((5, b5) ∷ rest)) ordered (λ k e same. let is : k ≡ r = cc in sym at_rest ∙ e ∙ ap Some is) (λ e same. absurd cc)) refused
+      guard_ok s 6 (is_member s me) _ (is_inside-here stage.Ready go.calm.ready refl)
+      ∙ ap (λ b. unless_refused s (if b then rest else Some 5) (ordered_by s me (length t.path) n o tag)) test
 
   pub request_answers : (sending : Sending) → Does g me s t seen newer (Sends sending) → Gives (serve_read s me (Some (request_of g me t sending)))
   request_answers (Invokes n o) d = invoke_answers n o d

@@ -40,7 +40,7 @@ pub all_fronts : PathsAreFronts
 all_fronts g events run me above upto =
     let c = (run_fits g events run).clients me above upto in record { newer = c.newer; seen = c.seen; log = c.is; path = c.path }
 
-never_halted : (x : Option Outcome) (check : ℕ) → IsFine x → x ≡ Some (outcome.Halted check) → ⊥
+pub never_halted : (x : Option Outcome) (check : ℕ) → IsFine x → x ≡ Some (outcome.Halted check) → ⊥
 never_halted x check fine e = subst IsFine e fine
 
 pub all_go_on : NobodyHalts

@@ -2,17 +2,19 @@
 use Rattle.std.specs.Prelude.{◌≡◌, ◌≢◌, ℕ, ◌⊎◌, List, [], ◌∷◌, ◌++◌, Some}
 use Rattle.vic_dict.specs.declared.op.Entry.{Entry}
 use Rattle.vic_dict.specs.Lists.{IsIn, front}
+use Rattle.vic_dict.specs.Dictionary.{IsProper}
 use Rattle.vic_wire.specs.declared.message.Seal.{Seal}
 use Rattle.vic_wire.specs.declared.message.Tagged.{Tagged}
 use Rattle.vic_wire.specs.declared.message.ToClient.{ToClient}
 use Rattle.vic_wire.specs.Texts.{invoke_text}
 use Rattle.vic_wire.specs.Hashes.{Group, chain, tag_of}
 use Rattle.vic_wire.specs.Trees.{dictionary_root}
+use Rattle.vic_wire.specs.Parts.{Part, read_part}
 use Rattle.vic_rules.specs.declared.trace.TraceStep.{TraceStep}
 use Rattle.vic_rules.specs.Client.{Seals, entries_of, seal_of, seal_text_on}
 use Rattle.vic_rules.specs.History.{IsLawful, path, move_of, Completion, completions}
 use Rattle.vic_rules.specs.Views.{confirmed, confirmed_calls, left_by, view_of, IsLegal}
-use Rattle.vic_rules.specs.Trust.{IsForged, Collides, took}
+use Rattle.vic_rules.specs.Trust.{IsForged, Collides, took, parts_taken}
 
 -- ---- tags
 
@@ -62,3 +64,23 @@ SealsHold = (g : Group) (h : List TraceStep) → IsLawful g h → (IsForged g h 
 -- unless a tag was forged or two texts collide, each answer in a view is that of a dictionary after the calls before it
 abbrev pub ViewsAreLegal : Type 0
 ViewsAreLegal = (g : Group) (h : List TraceStep) → IsLawful g h → (IsForged g h → ⊥) → (Collides g h → ⊥) → (me : ℕ) → IsLegal (view_of g me h)
+
+-- ---- dictionaries
+
+-- what the confirmed calls of each front of a client's path leave is proper
+abbrev pub DictionariesAreProper : Type 0
+DictionariesAreProper = (g : Group) (h : List TraceStep) → IsLawful g h → (me n : ℕ) → IsProper (left_by (confirmed_calls (completions g h) (front n (path g me h))))
+
+-- what a view leaves is proper
+abbrev pub ViewsLeaveProper : Type 0
+ViewsLeaveProper = (g : Group) (h : List TraceStep) → IsLawful g h → (me : ℕ) → IsProper (left_by (view_of g me h))
+
+-- the part has a reading, and is proper
+pub record IsProperPart (bytes : List ℕ) : Type 0 where
+  pub part : Part
+  pub is : read_part bytes ≡ Some part
+  pub proper : IsProper part
+
+-- each part that a client took without halting is proper
+abbrev pub PartsAreProper : Type 0
+PartsAreProper = (g : Group) (h : List TraceStep) → IsLawful g h → (bytes : List ℕ) → IsIn (parts_taken g h) bytes → IsProperPart bytes

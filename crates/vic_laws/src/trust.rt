@@ -1,6 +1,6 @@
-//! The laws on tags, hashes and seals, and on what views answer.
+//! The laws on tags, hashes and seals, and on what views answer and leave.
 
-ghost use Rattle.vic_laws.specs.Claims.{HashesTellPaths, SealsHold, TagsHold, ViewsAreLegal};
+ghost use Rattle.vic_laws.specs.Claims.{DictionariesAreProper, HashesTellPaths, PartsAreProper, SealsHold, TagsHold, ViewsAreLegal, ViewsLeaveProper};
 
 /// One hash tells one path.
 pub fn prefixes()
@@ -20,4 +20,11 @@ pub fn seals()
 /// Each answer in a view is that of a dictionary after the calls before it.
 pub fn legal()
     ensures { ViewsAreLegal }
+{}
+
+/// Each dictionary is proper: what a front of a path leaves, what a view leaves, and the part of an answer.
+pub fn dictionaries_are_proper()
+    ensures paths { DictionariesAreProper }
+    ensures views { ViewsLeaveProper }
+    ensures parts { PartsAreProper }
 {}

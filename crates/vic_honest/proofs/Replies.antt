@@ -1,0 +1,140 @@
+-- A Reply that a client takes returns what becomes of its call, and a refusal that it takes returns the refusal.
+use Rattle.std.proofs.Common.{◌≡◌, ℕ, List, [], ◌∷◌, ◌++◌, Option, Some, None, inl, refl, sym, ap, subst, ◌∙◌}
+use Rattle.vic_dict.specs.declared.op.Op.{Op}
+use Rattle.vic_dict.specs.declared.op.Entry.{Entry}
+use Rattle.vic_dict.specs.declared.op.Outcome.{Outcome}
+use Rattle.vic_dict.specs.declared.op.Outcome.TheVariants as outcome
+use Rattle.vic_dict.specs.Dictionary.{Dictionary}
+use Rattle.vic_dict.specs.Lists.{IsIn}
+use Rattle.vic_wire.specs.declared.message.Seal.{Seal}
+use Rattle.vic_wire.specs.declared.message.ToClient.{ToClient}
+use Rattle.vic_wire.specs.declared.message.ToClient.TheVariants as say
+use Rattle.vic_wire.specs.Hashes.{Group}
+use Rattle.vic_wire.specs.Parts.{Part, read_part}
+use Rattle.vic_wire.specs.Reading.{read_answer}
+use Rattle.vic_rules.specs.declared.state.Awaiting.{Awaiting}
+use Rattle.vic_rules.specs.declared.state.Awaiting.TheVariants as awaits
+use Rattle.vic_rules.specs.declared.trace.Input.{Input}
+use Rattle.vic_rules.specs.declared.trace.Input.TheVariants as input
+use Rattle.vic_rules.specs.declared.trace.TraceStep.{TraceStep}
+use Rattle.vic_rules.specs.Client.{Standing, Move, step, grown, decision, decided, replied, taken, taken_or_halts, on_payload, verdict}
+use Rattle.vic_rules.specs.History.{standing, move_of, AreSteps, IsStep, completion, completions}
+use Rattle.vic_laws.proofs.Words.{some_same, in_right, all_at}
+use Rattle.vic_laws.proofs.Steps.{Kind, is_quiet, is_called, is_replied, is_updated, is_listed, Replied, call_of}
+use Rattle.vic_laws.proofs.Standings.{earlier_steps, standing_moved}
+use Rattle.vic_laws.proofs.Calls.{kind_of, RepliedAt, completed_by, completion_joins}
+use Rattle.vic_laws.proofs.Complete.{completions_stay}
+use Rattle.vic_order.specs.Fates.{entries}
+use Rattle.vic_order.specs.Honest.{Event, IsHonestRun, world_after}
+use Rattle.vic_honest.specs.Claims.{StandsAsFated, ReturnsItsFate, RepliesReturn, RefusalsReturn}
+use Rattle.vic_honest.proofs.Learning.{IsFine}
+use Rattle.vic_honest.proofs.Runs.{run_fits, run_knows, never_halted, all_fated}
+
+-- ---- an answer passes where the client doesn't halt
+
+abbrev Halts : Option Outcome → Type 0
+Halts returned = (k : ℕ) × (returned ≡ Some (outcome.Halted k))
+
+answer_passes : (me : ℕ) (t : Standing) (found : Option ToClient) (failed : Option ℕ) (m : ToClient) → found ≡ Some m → (Halts (taken_or_halts me t found failed).returns → ⊥) → taken_or_halts me t found failed ≡ taken me t m
+answer_passes me t found (Some k) m e goes = absurd (goes (k, refl))
+answer_passes me t (Some n) None m e goes = ap (taken me t) (some_same e)
+answer_passes me t None None m e goes = absurd cc
+
+payload_passes : (g : Group) (me : ℕ) (t : Standing) (halted : Option ℕ) (payload : List ℕ) (m : ToClient) → read_answer payload ≡ Some m → (Halts (on_payload g me t halted payload).returns → ⊥)
+    → on_payload g me t halted payload ≡ taken me t m
+payload_passes g me t (Some k) payload m read goes = absurd (goes (k, refl))
+payload_passes g me t None payload m read goes = answer_passes me t (read_answer payload) (verdict g me t payload) m read goes
+
+step_passes : (g : Group) (me : ℕ) (t : Standing) (payload : List ℕ) (m : ToClient) → read_answer payload ≡ Some m → (Halts (step g me t (input.Payload payload)).returns → ⊥)
+    → step g me t (input.Payload payload) ≡ taken me t m
+unfolding step
+step_passes g me t payload m read goes = payload_passes g me t t.halted payload m read goes
+
+-- a step of the history that took this answer
+module _ (g : Group) (events : List Event) (run : IsHonestRun g events) (newer : List TraceStep) (x : TraceStep) (past : List TraceStep) (is : (world_after g events).history ≡ newer ++ x ∷ past)
+    (payload : List ℕ) (input_is : x.input ≡ input.Payload payload) (m : ToClient) (read : read_answer payload ≡ Some m) where
+  step_is : IsStep g past x
+  step_is =
+      let now : AreSteps g (x ∷ past) = earlier_steps g newer (x ∷ past) (subst (AreSteps g) is (run_fits g events run).steps) in now.1
+
+  goes_on : Halts (move_of g past x).returns → ⊥
+  goes_on h =
+      let there : IsIn (world_after g events).history x = subst (λ l. IsIn l x) (sym is) (in_right newer (x ∷ past) x (inl refl)) in
+      never_halted x.returned h.0 (all_at (λ y. IsFine y.returned) (world_after g events).history x (run_knows g events run).fine there) (step_is.returned ∙ h.1)
+
+  taken_here : move_of g past x ≡ taken x.client (standing g x.client past) m
+  taken_here =
+      let as_payload : move_of g past x ≡ step g x.client (standing g x.client past) (input.Payload payload) = ap (step g x.client (standing g x.client past)) input_is in
+      as_payload ∙ step_passes g x.client (standing g x.client past) payload m read (λ h. goes_on (h.0, ap (λ v. v.returns) as_payload ∙ h.1))
+
+pub refusals_return : RefusalsReturn
+refusals_return g events run newer x past is payload input_is r read =
+    (step_is g events run newer x past is payload input_is (say.Refused r) read).returned ∙ ap (λ v. v.returns) (taken_here g events run newer x past is payload input_is (say.Refused r) read)
+
+-- ---- a Reply
+
+-- the client decided its call
+record Decides (returned : Option Outcome) : Type 0 where
+  blocking : Option ℕ
+  dictionary : Dictionary
+  op : Op
+  decided_so : returned ≡ Some (decided blocking dictionary op)
+
+reply_decides : (me : ℕ) (t : Standing) (seal : Seal) (p : List Entry) (part : Option Part) (a : Awaiting) → (Halts (replied me t seal p part a).returns → ⊥) → Decides (replied me t seal p part a).returns
+unfolding decision
+reply_decides me t seal [] part a goes = absurd (goes (1, refl))
+reply_decides me t seal (x ∷ below) None a goes = absurd (goes (1, refl))
+reply_decides me t seal (x ∷ below) (Some part) (awaits.Reply n o load) goes = record { blocking = _; dictionary = _; op = o; decided_so = refl }
+reply_decides me t seal (x ∷ below) (Some part) awaits.Nothing goes = absurd (goes (1, refl))
+reply_decides me t seal (x ∷ below) (Some part) awaits.Turn goes = absurd (goes (1, refl))
+reply_decides me t seal (x ∷ below) (Some part) awaits.Entries goes = absurd (goes (1, refl))
+reply_decides me t seal (x ∷ below) (Some part) awaits.Kept goes = absurd (goes (1, refl))
+reply_decides me t seal (x ∷ below) (Some part) (awaits.Content hash len) goes = absurd (goes (1, refl))
+
+decided_completes : (me : ℕ) (p : List Entry) (blocking : Option ℕ) (d : Dictionary) (o : Op) → completion me p (Some (decided blocking d o)) ≡ [] → ⊥
+decided_completes me p None d o e = absurd cc
+decided_completes me p (Some u) d o e = absurd cc
+
+none_decides : (returned : Option Outcome) → returned ≡ None → Decides returned → ⊥
+none_decides returned e d = let f = d.decided_so in absurd cc
+
+-- a step that decides a call took a Reply to it
+decides_replied : (g : Group) (me : ℕ) (t : Standing) (i : Input) (v : Move) → Kind g me t i v → Decides v.returns → Replied g me t i v
+decides_replied g me t i v (is_quiet q) d =
+    absurd (decided_completes me v.next.path d.blocking d.dictionary d.op (ap (completion me v.next.path) (sym d.decided_so) ∙ q.completes_nothing me v.next.path))
+decides_replied g me t i v (is_called c) d = absurd (none_decides v.returns (ap (λ w. w.returns) c.moved) d)
+decides_replied g me t i v (is_replied r) d = r
+decides_replied g me t i v (is_updated u) d = absurd (none_decides v.returns (ap (λ w. w.returns) u.moved) d)
+decides_replied g me t i v (is_listed l) d = absurd (none_decides v.returns (ap (λ w. w.returns) l.moved) d)
+
+-- the Reply that a step took completes its call, which has its fate
+replied_fated : (g : Group) (events : List Event) → IsHonestRun g events → (newer : List TraceStep) (x : TraceStep) (past : List TraceStep) → (world_after g events).history ≡ newer ++ x ∷ past
+    → IsStep g past x → (r : RepliedAt g past x) → ReturnsItsFate g (world_after g events).server.log past x
+replied_fated g events run newer x past is step_so r =
+    let there : IsIn (completions g (world_after g events).history) (completed_by r) =
+    subst (λ h. IsIn (completions g h) (completed_by r)) (sym is) (completions_stay g newer (x ∷ past) (completed_by r) (completion_joins g past x step_so r)) in
+    let f : StandsAsFated (world_after g events).server.log (completed_by r) = all_fated g events run (completed_by r) there in
+    let grown_path : call_of x.client r.seq r.op ∷ (r.others ++ (standing g x.client past).path) ≡ f.o.entry ∷ entries f.below = f.prefix in
+    let entry : call_of x.client r.seq r.op ≡ f.o.entry = cc in
+    record {
+      newer = f.newer;
+      o = f.o;
+      below = f.below;
+      is = f.is;
+      client = sym f.client;
+      load = r.load;
+      awaited = r.awaited ∙ ap (λ e. awaits.Reply e.seq e.op r.load) entry;
+      path = ap (λ s. s.path) (standing_moved g x.client x past refl) ∙ ap (λ v. v.next.path) r.moved ∙ f.prefix;
+      returned = step_so.returned ∙ ap (λ v. v.returns) r.moved ∙ ap Some f.outcome;
+    }
+
+pub replies_return : RepliesReturn
+replies_return g events run newer x past is payload input_is seal told part read =
+    let t : Standing = standing g x.client past in
+    let m : ToClient = say.Reply seal told part in
+    let step_so : IsStep g past x = step_is g events run newer x past is payload input_is m read in
+    let taken_so : move_of g past x ≡ replied x.client t seal (grown t told) (read_part part) t.awaiting = taken_here g events run newer x past is payload input_is m read in
+    let goes : Halts (replied x.client t seal (grown t told) (read_part part) t.awaiting).returns → ⊥ =
+    λ h. goes_on g events run newer x past is payload input_is m read (h.0, ap (λ v. v.returns) taken_so ∙ h.1) in
+    let ends : Decides (move_of g past x).returns = subst (λ v. Decides v.returns) (sym taken_so) (reply_decides x.client t seal (grown t told) (read_part part) t.awaiting goes) in
+    replied_fated g events run newer x past is step_so (decides_replied g x.client t x.input (move_of g past x) (kind_of g past x step_so) ends)
