@@ -11,7 +11,7 @@ use Rattle.vic_script.specs.Scenes.{Scene, Shown, stands, done_line, is_client, 
 use Rattle.vic_script.specs.Run.{limit, Bad, Played, stops, Tried, Fails, Does, tried_by, try_line, mode_in, follow, place_behind, play, run_of}
 use Rattle.vic_runs.specs.Claims.{NoLineIsHalted}
 use Rattle.vic_runs.proofs.Words.{text_fits, lines-bytes, length-lines_of}
-use Rattle.vic_runs.proofs.Reached.{IsReached}
+use Rattle.vic_runs.specs.Reached.{IsReached}
 use Rattle.vic_runs.proofs.Lines.{client_is}
 use Rattle.vic_runs.proofs.Outcomes.{reached-going}
 use Rattle.vic_runs.proofs.Runs.{ReachedIn, TriedReaches, tried, bytes-take, length-taken}

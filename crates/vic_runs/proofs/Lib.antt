@@ -9,3 +9,4 @@ pub mod Runs
 pub mod Payloads
 pub mod Outcomes
 pub mod Halted
+pub mod Prints

@@ -1,6 +1,6 @@
 -- What the clients of a scene that is reached return.
 use Rattle.std.proofs.Common.{◌≡◌, ℕ, ◌<◌, ◌≤◌, List, [], ◌∷◌, ◌++◌, Option, Some, None, inl, refl, sym, subst, arith}
-use Rattle.vic_dict.specs.Lists.{IsIn}
+use Rattle.vic_dict.specs.Lists.{IsIn, AreBytes}
 use Rattle.vic_dict.specs.declared.op.Outcome.{Outcome}
 use Rattle.vic_dict.specs.declared.op.Outcome.TheVariants as outcome
 use Rattle.vic_wire.specs.Hashes.{Group}
@@ -19,7 +19,8 @@ use Rattle.vic_runs.specs.Claims.{OutcomesAreFates, NobodyHalts}
 use Rattle.vic_runs.proofs.Scenes.{step_by}
 use Rattle.vic_runs.proofs.Runs.{ReachedIn, reached-run}
 use Rattle.vic_rules.specs.History.{standing}
-use Rattle.vic_runs.proofs.Reached.{IsReached, reached-takes}
+use Rattle.vic_runs.specs.Reached.{IsReached, IsHonestScene}
+use Rattle.vic_runs.proofs.Reached.{reached-lawful, reached-honest, reached-takes}
 
 -- no client has halted
 pub reached-going : (s : Scene) (n : ℕ) → IsReached s n → (i : ℕ) → 0 < i → i ≤ s.group.count → (stands s i).halted ≡ None
@@ -43,6 +44,15 @@ reached-fates s n r c there =
 -- the server's dictionary is what the sealed entries leave
 pub reached-sealed : (s : Scene) (n : ℕ) → IsReached s n → SealedSo s.server
 reached-sealed s n r = subst SealedSo r.shows.server (all_sealed s.group r.events r.honest)
+
+-- so it is an honest scene
+pub reached_is_honest : (s : Scene) (n : ℕ) → IsReached s n → IsHonestScene s
+reached_is_honest s n r = record {
+  lawful = reached-lawful s n r;
+  unforged = reached-honest s n r;
+  fated = reached-fates s n r;
+  goes_on = record { stands_so = reached-going s n r; returns_so = reached-never_halts s n r; refuses_so = reached-refusals s n r };
+}
 
 -- ---- what a client returns as it takes an answer
 
@@ -94,11 +104,12 @@ takes_fate s n r i above upto waits ends e h = taken_fate s n r i (queue_of s.do
 reached-in : (scene : Option Scene) (n : ℕ) → ReachedIn scene n → (s : Scene) → scene ≡ Some s → IsReached s n
 reached-in scene n h s e = subst (λ o. ReachedIn o n) e h
 
+-- the run of a script leaves an honest scene
+pub run_is_honest : (script : List ℕ) → AreBytes script → (s : Scene) → (run_of script).scene ≡ Some s → IsHonestScene s
+run_is_honest script bytes s e = let r = reached-run script bytes in reached_is_honest s r.0 (reached-in (run_of script).scene r.0 r.1 s e)
+
 pub all_fates : OutcomesAreFates
-all_fates script bytes s e c there = let r = reached-run script bytes in reached-fates s r.0 (reached-in (run_of script).scene r.0 r.1 s e) c there
+all_fates script bytes s e = (run_is_honest script bytes s e).fated
 
 pub none_halts : NobodyHalts
-none_halts script bytes s e =
-    let r = reached-run script bytes in
-    let reached = reached-in (run_of script).scene r.0 r.1 s e in
-    record { stands_so = reached-going s r.0 reached; returns_so = reached-never_halts s r.0 reached; refuses_so = reached-refusals s r.0 reached }
+none_halts script bytes s e = (run_is_honest script bytes s e).goes_on

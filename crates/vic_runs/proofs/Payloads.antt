@@ -18,7 +18,7 @@ use Rattle.vic_honest.proofs.Standing.{Doing, Rests, Sends, Gets, StandingFits, 
 use Rattle.vic_honest.proofs.Words.{length-entries}
 use Rattle.vic_honest.proofs.Runs.{run_fits, run_knows}
 use Rattle.vic_script.specs.Scenes.{Queue, Scene, queue_of, stands}
-use Rattle.vic_runs.proofs.Reached.{IsReached}
+use Rattle.vic_runs.specs.Reached.{IsReached}
 
 sent-bytes : (g : Group) (me : ℕ) (t : Standing) (sending : Sending) → StandingFits t → RequestHoldsBytes (request_of g me t sending)
 sent-bytes g me t (Invokes n o) fits = tag_bytes g.key _

@@ -7,6 +7,7 @@ use Rattle.std.proofs.lemmas.Option.{unwrap_or-slice_get}
 use Rattle.vic_order.specs.Honest.{changed}
 use Rattle.vic_order.specs.Honest as honest
 use Rattle.vic_script.specs.Scenes.{Queue, queue_of, set_queue, queued}
+use Rattle.vic_runs.specs.Reached.{AreSame}
 
 pub queue-set_same : (queues : List Queue) (i : ℕ) (queue : Queue) → 0 < i → i ≤ length queues → queue_of (set_queue queues i queue) i ≡ queue
 queue-set_same queues i queue above upto =
@@ -34,11 +35,7 @@ pub same-queued : (queue : Queue) (o : Option (List ℕ)) → honest.queued queu
 same-queued queue None = refl
 same-queued queue (Some payload) = refl
 
--- a world's queues are those of a scene, client by client
-abbrev pub AreSame : ℕ → (ℕ → Queue) → List Queue → Type 0
-AreSame n f queues = (i : ℕ) → 0 < i → i ≤ n → f i ≡ queue_of queues i
-
--- and so after one of them was changed
+-- queues that are the same stay so after one of them was changed
 pub same-changed : (n : ℕ) (f : ℕ → Queue) (queues : List Queue) (i : ℕ) (q r : Queue) → length queues ≡ n → AreSame n f queues → 0 < i → i ≤ n → q ≡ r
     → AreSame n (changed f i q) (set_queue queues i r)
 same-changed n f queues i q r count same above upto is j low high =

@@ -1,28 +1,20 @@
--- Scenes that lines of a script reach: each is one of an honest run.
-use Rattle.std.proofs.Common.{◌≡◌, ℕ, ◌+◌, ◌<◌, ◌≤◌, false, List, [], ◌∷◌, length, refl, sym, subst, ◌∙◌, arith}
-use Rattle.vic_dict.specs.declared.op.Mode.TheVariants as mode
+-- Scenes that lines of a script reach: what they have, and how one leads to another.
+use Rattle.std.proofs.Common.{◌≡◌, ℕ, ◌+◌, ◌<◌, ◌≤◌, false, [], ◌∷◌, length, refl, sym, subst, ◌∙◌, arith}
 use Rattle.vic_wire.specs.Hashes.{Group, IsGroup}
 use Rattle.vic_rules.specs.declared.trace.Input.{Input}
 use Rattle.vic_rules.specs.declared.trace.Input.TheVariants as input
 use Rattle.vic_rules.specs.Client.{MayStep}
 use Rattle.vic_rules.specs.History.{standing, AreSteps, IsLawful}
 use Rattle.vic_rules.specs.Trust.{IsForged}
-use Rattle.vic_order.specs.Honest.{Event, Asks, Serves, Takes, World, happens, MayBe, IsHonestRun, world_after}
+use Rattle.vic_order.specs.Honest.{Asks, Serves, Takes, World, happens, MayBe, IsHonestRun, world_after}
 use Rattle.vic_honest.proofs.Runs.{tags_made, all_lawful}
 use Rattle.vic_script.specs.Scenes.{Queue, Scene, opening, queue_of, stands, steps, served, serves, taken, takes}
 use Rattle.vic_script.specs.Run.{plain_group}
 use Rattle.vic_script.specs.Print.{is_forged}
+use Rattle.vic_runs.specs.Reached.{Shows, IsReached}
 use Rattle.vic_runs.proofs.Forged.{is_forged-none}
-use Rattle.vic_runs.proofs.Scenes.{Shows, opening-shows, step_by, steps-shows, serves-shows, takes-shows}
+use Rattle.vic_runs.proofs.Scenes.{opening-shows, step_by, steps-shows, serves-shows, takes-shows}
 use Rattle.vic_runs.proofs.Counting.{calls-step, calls-payload}
-
--- an honest run of a group without a key of its own shows the scene, and no client was called more than n times
-pub record IsReached (s : Scene) (n : ℕ) : Type 0 where
-  pub plain : s.group.mode ≡ mode.Plain
-  pub events : List Event
-  pub honest : IsHonestRun s.group events
-  pub shows : Shows s (world_after s.group events)
-  pub calls : (i : ℕ) → (stands s i).calls ≤ n
 
 -- ---- what such a scene has
 

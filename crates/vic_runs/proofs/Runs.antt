@@ -18,8 +18,9 @@ use Rattle.vic_script.specs.Run.{limit, Played, stops, plain_group, Tried, Fails
 use Rattle.vic_runs.specs.Claims.{RunsAreLawful, NothingIsForged, RunsAreHonest, ClaimsHold}
 use Rattle.vic_runs.proofs.Forged.{is_forged-none}
 use Rattle.vic_runs.proofs.Words.{FitsIn, text_fits, lines-bytes, length-lines_of}
-use Rattle.vic_runs.proofs.Reached.{IsReached, reached-more, reached-opening, reached-lawful, reached-honest}
-use Rattle.vic_runs.proofs.Lines.{reached-line}
+use Rattle.vic_runs.specs.Reached.{IsReached}
+use Rattle.vic_runs.proofs.Reached.{reached-more, reached-opening, reached-lawful, reached-honest}
+use Rattle.vic_runs.proofs.Lines.{few_calls, reached-line}
 
 -- the scene is reached, if there is one
 abbrev pub ReachedIn : Option Scene → ℕ → Type 0
@@ -53,7 +54,7 @@ pub tried : (scene : Option Scene) (l : Option Line) (n : ℕ) → ReachedIn sce
 tried None None n h few fits = tt
 tried None (Some l) n h few fits = tried-first l n fits
 tried (Some s) None n h few fits = tt
-tried (Some s) (Some l) n h few fits = tried-by (bad_kind s l) (done_line s l) (n + 1) (λ good. reached-line s n l h few good fits)
+tried (Some s) (Some l) n h few fits = tried-by (bad_kind s l) (done_line s l) (n + 1) (λ good. reached-line s n l h (few_calls s n h few) good fits)
 
 followed : (number m n k : ℕ) (scene : Option Scene) (t : Tried) (rest : Scene → Played) → n ≤ k → ReachedIn scene n → TriedReaches t m → ((s : Scene) → IsReached s m → ReachedIn (rest s).scene k)
     → ReachedIn (follow number scene t rest).scene k

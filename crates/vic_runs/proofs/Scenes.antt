@@ -12,16 +12,8 @@ use Rattle.vic_order.specs.Order.{serve}
 use Rattle.vic_order.specs.Honest.{World, changed}
 use Rattle.vic_order.specs.Honest as honest
 use Rattle.vic_script.specs.Scenes.{Queue, Scene, opening, queue_of, set_queue, queued, steps, served, serves, taken, takes}
-use Rattle.vic_runs.proofs.Queues.{queue-fresh, queue-set_same, same-queued, AreSame, same-changed, length-set_queue}
-
--- a world has a scene's history, server and queues
-pub record Shows (s : Scene) (w : World) : Type 0 where
-  pub history : w.history ≡ s.history
-  pub server : w.server ≡ s.server
-  pub up_count : length s.up ≡ s.group.count
-  pub down_count : length s.down ≡ s.group.count
-  pub up : AreSame s.group.count w.up s.up
-  pub down : AreSame s.group.count w.down s.down
+use Rattle.vic_runs.specs.Reached.{Shows}
+use Rattle.vic_runs.proofs.Queues.{queue-fresh, queue-set_same, same-queued, same-changed, length-set_queue}
 
 pub opening-shows : (g : Group) → Shows (opening g) (honest.opening g)
 opening-shows g = record {

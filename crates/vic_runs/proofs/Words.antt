@@ -11,6 +11,7 @@ use Rattle.hex.proofs.HexLemmas.{decode_of-ok}
 use Rattle.vic_dict.specs.declared.op.Op.{Op}
 use Rattle.vic_dict.specs.declared.op.Op.TheVariants as op
 use Rattle.vic_dict.specs.declared.op.Mode.{Mode}
+use Rattle.vic_dict.specs.declared.op.Mode.TheVariants as mode
 use Rattle.vic_dict.specs.Lists.{AreBytes}
 use Rattle.vic_dict.specs.Dictionary.{Fits, AreBytesIn}
 use Rattle.vic_spellings.proofs.Steps.{bytes-nil, bytes-rest}
@@ -188,11 +189,12 @@ header-fits (name ∷ []) = tt
 header-fits (name ∷ a ∷ []) = line-either (bytes_eq name (codes "clients")) (clients_of (word_number a)) None (clients-fit (word_number a)) tt
 header-fits (name ∷ a ∷ b ∷ others) = tt
 
-event-fits : (words : List (List ℕ)) → AllByRecursion AreBytes words → FitsIn (event_of words)
-event-fits [] h = tt
-event-fits (name ∷ []) h = tt
-event-fits (name ∷ a ∷ []) h = named-fits name a
-event-fits (name ∷ a ∷ b ∷ others) h = line-either (bytes_eq name (codes "call")) (call_of (word_client a) (op_of (b ∷ others))) None (call-fits (word_client a) (op_of (b ∷ others)) (op-fits (b ∷ others) h.1.1)) tt
+event-fits : (kind : Mode) (words : List (List ℕ)) → AllByRecursion AreBytes words → FitsIn (event_of kind words)
+event-fits kind [] h = tt
+event-fits kind (name ∷ []) h = tt
+event-fits kind (name ∷ a ∷ []) h = named-fits name a
+event-fits mode.Objects (name ∷ a ∷ b ∷ others) h = tt
+event-fits mode.Plain (name ∷ a ∷ b ∷ others) h = line-either (bytes_eq name (codes "call")) (call_of (word_client a) (op_of (b ∷ others))) None (call-fits (word_client a) (op_of (b ∷ others)) (op-fits (b ∷ others) h.1.1)) tt
 
 or-fits : (x y : Option Line) → FitsIn x → FitsIn y → FitsIn (or_line x y)
 or-fits (Some l) y h k = h
@@ -200,7 +202,7 @@ or-fits None y h k = k
 
 words-fit : (kind : Option Mode) (words : List (List ℕ)) → AllByRecursion AreBytes words → FitsIn (line_in kind words)
 words-fit None words h = header-fits words
-words-fit (Some kind) words h = or-fits (header_of words) (event_of words) (header-fits words) (event-fits words h)
+words-fit (Some kind) words h = or-fits (header_of words) (event_of kind words) (header-fits words) (event-fits kind words h)
 
 -- what a text of bytes spells fits
 pub text_fits : (kind : Option Mode) (text : List ℕ) → AreBytes text → FitsIn (line_of kind text)

@@ -1,9 +1,12 @@
 -- The laws of scripts, one by one.
-use Rattle.std.specs.Prelude.{◌≡◌, ℕ, ◌<◌, ◌≤◌, ◌↔◌, true, false, List, Some, None}
+use Rattle.std.specs.Prelude.{◌≡◌, ℕ, ◌<◌, ◌≤◌, ◌↔◌, true, false, List, [], reverse, Some, None}
+use Rattle.std.specs.List.{flat_map}
 use Rattle.vic_dict.specs.declared.op.Outcome.TheVariants as outcome
 use Rattle.vic_dict.specs.Lists.{IsIn, AreBytes}
 use Rattle.vic_dict.specs.Dictionary.{Fits, AreBytesIn}
 use Rattle.vic_wire.specs.Hashes.{Group}
+use Rattle.vic_rules.specs.declared.trace.Input.{Input}
+use Rattle.vic_rules.specs.declared.trace.Input.TheVariants as input
 use Rattle.vic_rules.specs.declared.trace.TraceStep.{TraceStep}
 use Rattle.vic_rules.specs.History.{IsLawful, Completion, completions}
 use Rattle.vic_rules.specs.Trust.{IsForged}
@@ -12,7 +15,7 @@ use Rattle.vic_order.specs.Honest.{Event, IsHonestRun, world_after}
 use Rattle.vic_script.specs.declared.line.Line.{Line}
 use Rattle.vic_script.specs.declared.line.Line.TheVariants as line
 use Rattle.vic_honest.specs.Claims.{StandsAsFated}
-use Rattle.vic_script.specs.Scenes.{Scene, stands}
+use Rattle.vic_script.specs.Scenes.{Scene, stands, said}
 use Rattle.vic_script.specs.Run.{Bad, run_of, group_of, history_of, bad_line_of}
 use Rattle.vic_script.specs.Print.{is_forged}
 
@@ -74,3 +77,18 @@ NobodyHalts = (script : List ℕ) → AreBytes script → (s : Scene) → (run_o
 -- no line is bad for that its client has halted
 abbrev pub NoLineIsHalted : Type 0
 NoLineIsHalted = (script : List ℕ) → AreBytes script → (b : Bad) → bad_line_of script ≡ Some b → b.kind ≡ 3 → ⊥
+
+-- what a step prints, by what its client was given
+abbrev pub line_of_input : Input → TraceStep → List ℕ
+line_of_input (input.Call o) x = []
+line_of_input input.Poll x = []
+line_of_input input.Sync x = []
+line_of_input (input.Payload payload) x = said x.client x.returned
+
+-- the line of a step in which a client took an answer; the other steps print nothing
+abbrev pub line_of_step : TraceStep → List ℕ
+line_of_step x = line_of_input x.input x
+
+-- what the lines of a script print is what its steps tell, the oldest first
+abbrev pub PrintsAreReturns : Type 0
+PrintsAreReturns = (script : List ℕ) → (run_of script).text ≡ flat_map line_of_step (reverse (history_of script))

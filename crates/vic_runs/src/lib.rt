@@ -6,7 +6,7 @@
 //! group's views to every script.
 #![tactic(auto)]
 
-ghost use Rattle.vic_runs.specs.Claims.{RunsAreLawful, NothingIsForged, ForgedIs, RunsAreHonest, ClaimsHold, OutcomesAreFates, NobodyHalts, NoLineIsHalted};
+ghost use Rattle.vic_runs.specs.Claims.{RunsAreLawful, NothingIsForged, ForgedIs, RunsAreHonest, ClaimsHold, OutcomesAreFates, NobodyHalts, NoLineIsHalted, PrintsAreReturns};
 
 /// The history of a script is one of clients that step by the rules.
 pub fn runs_are_lawful()
@@ -46,4 +46,9 @@ pub fn nobody_halts()
 /// No line of a script is bad for that its client has halted.
 pub fn no_line_is_halted()
     ensures { NoLineIsHalted }
+{}
+
+/// What the lines of a script print is what its steps returned, in their order.
+pub fn prints_are_returns()
+    ensures { PrintsAreReturns }
 {}
