@@ -1,11 +1,11 @@
 -- What a member does, from what its client shows.
-use Rattle.std.proofs.Common.{◌≡◌, ℕ, Option, Some, Result, Ok, Err, OnOk, IfOk, refl, sym, ap, subst, ◌∙◌}
+use Rattle.std.proofs.Common.{◌≡◌, ℕ, Option, Result, Ok, Err, OnOk, IfOk, sym, ap, subst, ◌∙◌}
 use Rattle.vic_dict.specs.declared.bytes.NoMemory.{NoMemory}
 use Rattle.vic_dict.specs.declared.op.Outcome.{Outcome}
 use Rattle.vic_wire.specs.Hashes.{Group}
 use Rattle.vic_rules.specs.declared.trace.Input.{Input}
 use Rattle.vic_rules.specs.declared.trace.TraceStep.{TraceStep}
-use Rattle.vic_rules.specs.Client.{Standing, step, payload_of, Move}
+use Rattle.vic_rules.specs.Client.{Standing}
 use Rattle.vic_client.specs.Kept.{Kept, StandsFor, IsSame, group_of, move_of, sent_at}
 use Rattle.vic_script.specs.Scenes.{queued}
 use Rattle.vic_group.specs.declared.member.Member.{Member}

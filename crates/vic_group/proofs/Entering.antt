@@ -1,5 +1,5 @@
 -- Clients that come in one after the other.
-use Rattle.std.proofs.Common.{◌≡◌, ℕ, zero, suc, ◌+◌, List, [], ◌∷◌, ◌++◌, length, map, replicate, Option, Some, None, Result, Ok, Err, codes, refl, sym, ap, subst, ◌∙◌, arith}
+use Rattle.std.proofs.Common.{◌≡◌, ℕ, zero, suc, ◌+◌, List, [], ◌∷◌, ◌++◌, length, map, replicate, Option, None, Result, Ok, Err, codes, refl, sym, ap, subst, ◌∙◌, arith}
 use Rattle.std.proofs.lemmas.List.{replicate_more, length-append}
 use Rattle.std.specs.Prelude.{MatchOption}
 use Rattle.std.specs.Str.{chars}
@@ -12,7 +12,6 @@ use Rattle.vic_wire.specs.Hashes.{Group}
 use Rattle.vic_rules.specs.declared.trace.TraceStep.{TraceStep}
 use Rattle.vic_rules.specs.Client.{Standing, at_start}
 use Rattle.vic_rules.specs.History.{standing}
-use Rattle.vic_script.specs.Run.{plain_group}
 use Rattle.vic_group.specs.declared.member.Member.{Member}
 use Rattle.vic_group.specs.Members.{AllStand}
 use Rattle.vic_group.specs.World.{MemberStands}
@@ -54,27 +53,27 @@ zeros_spell key are =
     let same : ◌≡◌ {A = Result (List ℕ) FromHexError} (Ok key) (Ok (replicate 32 0)) = sym found ∙ zeros_decode in
     cc
 
--- so many clients of a plain group have come in
-abbrev pub HaveEntered : ℕ → ℕ → List Member → Type 0
-HaveEntered count n ms = (length ms ≡ n)
+-- so many clients of a group have come in
+abbrev pub HaveEntered : Group → ℕ → List Member → Type 0
+HaveEntered g n ms = (length ms ≡ n)
     × ((map (λ m. m.up) ms ≡ replicate n [])
     × ((map (λ m. m.down) ms ≡ replicate n [])
-    × AllStand (MemberStands (plain_group count)) (plain_group count) [] 1 ms))
+    × AllStand (MemberStands g) g [] 1 ms))
 
 -- one more comes in
-pub enters : (count n : ℕ) (ms new : List Member) (m : Member) → HaveEntered count n ms → new ≡ ms ++ m ∷ [] → m.up ≡ [] → m.down ≡ [] → MemberStands (plain_group count) m (n + 1) at_start
-    → HaveEntered count (n + 1) new
+pub enters : (g : Group) (n : ℕ) (ms new : List Member) (m : Member) → HaveEntered g n ms → new ≡ ms ++ m ∷ [] → m.up ≡ [] → m.down ≡ [] → MemberStands g m (n + 1) at_start
+    → HaveEntered g (n + 1) new
 unfolding standing
-enters count n ms new m have is up down stands =
+enters g n ms new m have is up down stands =
     let place : n + 1 ≡ 1 + length ms = omega (arith, have.0) in
-    let at : MemberStands (plain_group count) m (1 + length ms) at_start = subst (λ (j : ℕ). MemberStands (plain_group count) m j at_start) place stands in
-    subst (λ (xs : List Member). HaveEntered count (n + 1) xs) (sym is) (
+    let at : MemberStands g m (1 + length ms) at_start = subst (λ (j : ℕ). MemberStands g m j at_start) place stands in
+    subst (λ (xs : List Member). HaveEntered g (n + 1) xs) (sym is) (
       length-append ms (m ∷ []) ∙ ap (λ (k : ℕ). k + 1) have.0,
       (
         replicate_push (λ m. m.up) [] n ms m have.1.0 up,
         (
           replicate_push (λ m. m.down) [] n ms m have.1.1.0 down,
-          stand_push (MemberStands (plain_group count)) (plain_group count) [] 1 ms m have.1.1.1 at,
+          stand_push (MemberStands g) g [] 1 ms m have.1.1.1 at,
         ),
       ),
     )

@@ -1,8 +1,8 @@
 -- Clients in a row, of which one makes a step.
-use Rattle.std.proofs.Common.{◌≡◌, ◌≢◌, ℕ, zero, suc, ◌+◌, ◌<◌, List, [], ◌∷◌, length, Option, Some, None, refl, sym, ap, subst, ◌∙◌, arith, slice_get, slice_set, set}
+use Rattle.std.proofs.Common.{◌≡◌, ℕ, zero, suc, ◌+◌, ◌<◌, List, [], ◌∷◌, length, Some, sym, subst, ◌∙◌, arith, slice_get, slice_set}
 use Rattle.vic_wire.specs.Hashes.{Group}
 use Rattle.vic_rules.specs.declared.trace.TraceStep.{TraceStep}
-use Rattle.vic_rules.specs.Client.{Standing, step}
+use Rattle.vic_rules.specs.Client.{Standing}
 use Rattle.vic_rules.specs.History.{standing, move_of}
 use Rattle.vic_laws.proofs.Standings.{standing_moved, standing_kept}
 use Rattle.vic_group.specs.Members.{AllStand}

@@ -1,8 +1,7 @@
 -- What a world shows after a client's step, and after the server's.
-use Rattle.std.proofs.Common.{◌≡◌, ℕ, zero, suc, ◌+◌, ◌-◌, ◌<◌, ◌≤◌, Bool, true, false, not, ◌&&◌, List, [], ◌∷◌, ◌++◌, length, map, reverse, Option, Some, None, is_none, nat_eq, nat_lt, nat_le, if◌then◌else◌, refl, sym, ap, subst, ◌∙◌, arith, slice_get, slice_set}
+use Rattle.std.proofs.Common.{◌≡◌, ℕ, zero, suc, ◌+◌, ◌-◌, ◌<◌, Bool, List, [], ◌∷◌, ◌++◌, length, map, reverse, Some, refl, sym, ap, subst, ◌∙◌, arith, slice_get, slice_set}
 use Rattle.std.specs.Prelude.{unwrap_or}
 use Rattle.std.proofs.lemmas.List.{map-set, reverse-append}
-use Rattle.vic_wire.specs.Hashes.{Group}
 use Rattle.vic_wire.specs.Messages.{answer_text}
 use Rattle.vic_rules.specs.declared.trace.Input.{Input}
 use Rattle.vic_rules.specs.declared.trace.Input.TheVariants as input
@@ -12,10 +11,9 @@ use Rattle.vic_rules.specs.History.{standing}
 use Rattle.vic_order.specs.Order.{Server, serve}
 use Rattle.vic_client.specs.Kept.{Kept, StandsFor, group_of as kept_group}
 use Rattle.vic_view.specs.declared.transcript.Transcript.{Transcript}
-use Rattle.vic_view.specs.Transcripts.{steps_of, history_of, group_of}
-use Rattle.vic_script.specs.Scenes.{Scene, Queue, Shown, queue_of, set_queue, queued, stands, steps, served, serves, taken, takes, is_client}
+use Rattle.vic_view.specs.Transcripts.{steps_of, group_of}
+use Rattle.vic_script.specs.Scenes.{Scene, Queue, queue_of, set_queue, queued, stands, steps, served, serves, taken, takes}
 use Rattle.vic_group.specs.declared.member.Member.{Member}
-use Rattle.vic_group.specs.Members.{AllStand}
 use Rattle.vic_group.specs.World.{MemberStands, Shows, Acts, Serves, Takes}
 use Rattle.vic_group.proofs.Members.{stand_at, stand_set, stand_swap}
 
@@ -89,6 +87,7 @@ module _ (t : Transcript) (ms : List Member) (server : Server) (s : Scene) (i k 
   unfolding steps
   shows_step after given n x lt acts group trans = record {
     count = length_set ms k n ∙ shows.count;
+    few = shows.few;
     group = group ∙ shows.group;
     history = ap (λ (xs : List TraceStep). reverse xs) trans ∙ reverse-append (steps_of t) (x ∷ []) ∙ ap (λ (h : List TraceStep). x ∷ h) shows.history ∙ ap (λ (y : TraceStep). y ∷ s.history) acts.step_is;
     server = shows.server;
@@ -106,6 +105,7 @@ module _ (t : Transcript) (ms : List Member) (server : Server) (s : Scene) (i k 
   pub shows_rest : (payload : List ℕ) (rest : Queue) → Shows t (slice_set ms k (record m { down = rest })) server (record s { down = set_queue s.down i rest })
   shows_rest payload rest = record {
     count = length_set ms k (record m { down = rest }) ∙ shows.count;
+    few = shows.few;
     group = shows.group;
     history = shows.history;
     server = shows.server;
@@ -121,6 +121,7 @@ module _ (t : Transcript) (ms : List Member) (server : Server) (s : Scene) (i k 
       (subst (λ (ns : List Member). Shows t ns next s) (sym (set_same ms k m at)) (subst (λ (v : Server). Shows t ms v s) (sym does.1.1) shows))
   shows_served n next went (payload ∷ rest) lt is_queue does = record {
     count = length_set ms k n ∙ shows.count;
+    few = shows.few;
     group = shows.group;
     history = shows.history;
     server = does.1.1.1.1 ∙ ap (λ (v : Server). (serve v i payload).next) shows.server;

@@ -1,12 +1,16 @@
 -- How the command on a script ends: what was read, what was written, and why.
-use Rattle.std.specs.Prelude.{◌≡◌, ◌≢◌, ℕ, ◌<◌, ◌⊎◌, Bool, true, false, List, ◌++◌, length, Option, Some, None, IsSome, IfSome}
+use Rattle.std.specs.Prelude.{◌≡◌, ℕ, ◌<◌, ◌⊎◌, Bool, true, false, List, ◌++◌, length, reverse, Option, Some, None, IsSome, IfSome}
+use Rattle.std.specs.List.{flat_map}
 use Rattle.vic_dict.specs.Lists.{AreBytes}
 use Rattle.vic_rules.specs.History.{IsLawful}
 use Rattle.vic_rules.specs.Headline.{Headline}
 use Rattle.vic_ports.specs.Causes.{Rose, IsSpent, LeavesBehind}
 use Rattle.vic_ports.specs.Written.{AppendedAll, AppendedFront}
-use Rattle.vic_script.specs.Run.{limit, group_of, history_of, bad_line_of}
-use Rattle.vic_script.specs.Print.{print_of_script, is_forged}
+use Rattle.vic_script.specs.Scenes.{Scene}
+use Rattle.vic_script.specs.Run.{limit, Bad, run_of, group_of, history_of, bad_line_of}
+use Rattle.vic_script.specs.Print.{print_of_script, is_forged, all_views, all_agreements, tags_line}
+use Rattle.vic_runs.specs.Claims.{IsRunOf, line_of_step}
+use Rattle.vic_runs.specs.Reached.{IsHonestScene}
 use Rattle.vic_group.specs.declared.status.Status.{Status}
 use Rattle.vic_group.specs.declared.status.Status.TheVariants as status
 use Rattle.vic_group.specs.Words.{usage_line, read_fault_line, no_memory_line}
@@ -18,6 +22,9 @@ pub record Taken : Type 0 where
   pub before : ℕ
   pub now : ℕ
   pub ended : Bool
+
+abbrev pub taken_of : Option (List ℕ) → Option (List ℕ) → ℕ → ℕ → Bool → Taken
+taken_of old new before now ended = record { old = old; new = new; before = before; now = now; ended = ended }
 
 -- it was read to its end
 abbrev pub IsReadWhole : Taken → Type 0
@@ -33,6 +40,9 @@ pub record Given : Type 0 where
   pub new : Option (List ℕ)
   pub before : ℕ
   pub now : ℕ
+
+abbrev pub given_of : Option (List ℕ) → Option (List ℕ) → ℕ → ℕ → Given
+given_of old new before now = record { old = old; new = new; before = before; now = now }
 
 -- a text that the command may be about to write: the usage line where the words are wrong; else that a read failed, where one
 -- did, that memory ran out, or the print of the script's run
@@ -56,6 +66,25 @@ IsComplete right t k result =
     right ≡ true → (Rose t.before t.now → ⊥) → (Rose k.before k.now → ⊥) → (script : List ℕ) → t.old ≡ Some script → bad_line_of script ≡ None
     → (result ≡ status.Ok) ⊎ (result ≡ status.NoMemory)
 
--- the history of the script's run is lawful, every tag that was taken was made before, and the claim on views holds of it
+-- what holds of the run of a script
+pub record IsAsClaimed (script : List ℕ) : Type 0 where
+  -- it is a run of clients with one honest server, of which the laws of honest runs hold
+  pub honest : IsRunOf script
+  -- its clients step by the rules
+  pub lawful : IsLawful (group_of script) (history_of script)
+  -- every tag that a client took was made by a client before
+  pub tags_made : is_forged (group_of script) (history_of script) ≡ false
+  -- where no line is bad, the print says so last, behind what the lines printed, the views and how far they agree
+  pub says_so : bad_line_of script ≡ None → print_of_script script ≡ (run_of script).text ++ (all_views (group_of script) (history_of script) ++ all_agreements (group_of script) (history_of script) ++ tags_line false)
+  -- the claim on the views of all clients
+  pub views : Headline (group_of script) (history_of script)
+  -- where it ends, each completed call returned what becomes of it in the server's log, and no step returned that a check failed
+  pub scene : (s : Scene) → (run_of script).scene ≡ Some s → IsHonestScene s
+  -- no line is bad for that its client has halted
+  pub none_halted : (b : Bad) → bad_line_of script ≡ Some b → b.kind ≡ 3 → ⊥
+  -- what the lines printed is what the steps returned in which clients took answers, the oldest first; with `scene` none is printed as halted
+  pub prints : (run_of script).text ≡ flat_map line_of_step (reverse (history_of script))
+
+-- and it holds of every script of bytes
 abbrev pub ClaimHolds : List ℕ → Type 0
-ClaimHolds script = AreBytes script → IsLawful (group_of script) (history_of script) × ((is_forged (group_of script) (history_of script) ≡ false) × Headline (group_of script) (history_of script))
+ClaimHolds script = AreBytes script → IsAsClaimed script

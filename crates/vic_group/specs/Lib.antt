@@ -3,3 +3,4 @@ pub mod Ends
 pub mod Output
 pub mod Members
 pub mod World
+pub mod Playing

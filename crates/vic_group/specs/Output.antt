@@ -1,5 +1,5 @@
 -- What is about to be written, and how a writing ends.
-use Rattle.std.specs.Prelude.{◌≡◌, ℕ, ◌⊎◌, Bool, true, false, List, Option, IsSome, IfSome, None}
+use Rattle.std.specs.Prelude.{◌≡◌, ℕ, ◌⊎◌, Bool, true, false, List, IsSome, IfSome, None}
 use Rattle.vic_ports.specs.Causes.{Rose}
 use Rattle.vic_ports.specs.Written.{AppendedAll, AppendedFront}
 use Rattle.vic_script.specs.Run.{bad_line_of}
@@ -25,6 +25,16 @@ Composes right t status.ReadFault line = (right ≡ true) × (Rose t.before t.no
 Composes right t status.WriteFault line = ⊥
 Composes right t status.BadLine line = (right ≡ true) × ((IsReadWhole t ⊎ IsReadPast t) × IfSome t.old (λ script. IsSome (bad_line_of script) × (line ≡ print_of_script script)))
 Composes right t status.NoMemory line = (right ≡ true) × (line ≡ no_memory_line)
+
+-- a status and its text where memory ran out
+abbrev pub ComposesNone : Status → List ℕ → Type 0
+ComposesNone s line = (s ≡ status.NoMemory) × (line ≡ no_memory_line)
+
+-- a status and its text after the run of a script
+abbrev pub ComposesRun : List ℕ → Status → List ℕ → Type 0
+ComposesRun script s line =
+    ((s ≡ status.Ok) × ((bad_line_of script ≡ None) × (line ≡ print_of_script script)))
+    ⊎ (((s ≡ status.BadLine) × (IsSome (bad_line_of script) × (line ≡ print_of_script script))) ⊎ ComposesNone s line)
 
 -- a text was written whole, or the sink failed or found no memory
 abbrev pub Finishes : Status → List ℕ → Given → Status → Type 0

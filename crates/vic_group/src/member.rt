@@ -1,10 +1,10 @@
 //! A client of a script, with the payloads that wait for the server and for it.
 
-ghost use Rattle.std.specs.Prelude.{◌≡◌, ◌<◌, ◌+◌, ◌^◌, ℕ, IsTrue, IfOk, OnOk, Option, Some, None};
+ghost use Rattle.std.specs.Prelude.{◌≡◌, ◌<◌, ◌+◌, ◌^◌, ◌∷◌, [], ℕ, IsTrue, IfOk, OnOk, MatchOption, Option, Some, None, is_none};
 ghost use Rattle.vic_dict.specs.Dictionary.{Fits};
 ghost use Rattle.vic_wire.specs.Hashes.{Group};
 ghost use Rattle.vic_rules.specs.declared.trace.Input.TheVariants as input;
-ghost use Rattle.vic_rules.specs.Client.{Standing};
+ghost use Rattle.vic_rules.specs.Client.{Standing, awaits_nothing, first_failing};
 ghost use Rattle.vic_client.specs.Kept.{is_idle};
 ghost use Rattle.vic_script.specs.Scenes.{queued};
 
@@ -114,6 +114,19 @@ impl Member {
             Input::Poll => self.poll(alloc),
             Input::Sync => self.sync(alloc),
             Input::Payload(payload) => self.take(alloc, payload),
+        }
+    }
+
+    /// The kind by which it is bad to ask the client for something: it has halted, or it awaits an answer.
+    pub fn refusal(&self) -> Option<u8>
+        ensures { MatchOption result (IsTrue (is_idle self.now.client)) (λ kind. first_failing ((3, is_none self.now.client.halted) ∷ (4, awaits_nothing self.now.client.awaiting) ∷ []) ≡ Some kind) }
+    {
+        if self.client.halted().is_some() {
+            Some(3)
+        } else if self.client.idle() {
+            None
+        } else {
+            Some(4)
         }
     }
 

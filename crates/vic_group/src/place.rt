@@ -12,6 +12,7 @@ pub fn first_line(text: &[u8]) -> (&[u8], &[u8])
     requires { 0 < length text.now }
     ensures lines { lines_of text.now ≡ result.0.now ∷ lines_of result.1.now }
     ensures shorter { length result.0.now + length result.1.now ≤ length text.now }
+    ensures fewer { length result.1.now < length text.now }
 {
     match split_line(text) {
         Some((line, others)) => (line, others),

@@ -20,11 +20,12 @@ pub enum Status {
 }
 
 impl Status {
-    ghost use Rattle.std.specs.Prelude.{◌<◌};
+    ghost use Rattle.std.specs.Prelude.{◌≡◌};
+    ghost use Rattle.vic_group.specs.Words.{status_number};
 
     /// The process's exit status.
     pub fn number(self) -> u8
-        ensures { result < 7 }
+        ensures { result ≡ status_number self }
     {
         self as u8
     }

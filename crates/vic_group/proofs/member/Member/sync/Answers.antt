@@ -1,4 +1,4 @@
-use Rattle.std.proofs.Common.{Some, None, refl, ap}
+use Rattle.std.proofs.Common.{Some, None, refl}
 use Rattle.vic_rules.specs.declared.trace.Input.TheVariants as input
 use Rattle.vic_rules.specs.Client.{step}
 use Rattle.vic_group.proofs.Acting.{acts_if}

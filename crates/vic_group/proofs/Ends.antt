@@ -1,0 +1,152 @@
+-- From what was read and run to how the command ends.
+use Rattle.std.proofs.Common.{◌≡◌, ℕ, ◌<◌, Bool, true, false, List, [], ◌++◌, length, Option, Some, None, is_some, inl, inr, refl, sym, ap, subst, ◌∙◌}
+use Rattle.std.specs.Prelude.{IfSome, IsSome}
+use Rattle.std.proofs.lemmas.List.{append-nil}
+use Rattle.vic_ports.specs.Causes.{LeavesBehind}
+use Rattle.vic_ports.specs.Written.{AppendedAll, AppendedFront}
+use Rattle.vic_dict.specs.Lists.{AreBytes}
+use Rattle.vic_script.specs.Run.{limit, Bad, Played, run_of, bad_line_of, group_in, history_in}
+use Rattle.vic_script.specs.Print.{print_of, print_of_script, is_forged, all_views, all_agreements, tags_line, end_text}
+use Rattle.vic_runs.proofs.Runs.{all_hold, all_honest}
+use Rattle.vic_runs.proofs.Outcomes.{run_is_honest}
+use Rattle.vic_runs.proofs.Halted.{none_for_halting}
+use Rattle.vic_runs.proofs.Prints.{prints_returns}
+use Rattle.vic_group.specs.declared.status.Status.{Status}
+use Rattle.vic_group.specs.declared.status.Status.TheVariants as status
+use Rattle.vic_group.specs.Words.{usage_line, read_fault_line}
+use Rattle.vic_group.specs.Ends.{Taken, Given, taken_of, IsOutput, Ends, IsComplete, IsAsClaimed, ClaimHolds}
+use Rattle.vic_group.specs.Output.{Composes, ComposesRun, Finishes}
+use Rattle.vic_group.proofs.Spans.{run-front, long-bad}
+
+-- ---- what was read, and the script
+
+-- what was read past the limit is a front of the script, and all that matters of it
+pub if_past : (P : Played → Type 0) (bytes : List ℕ) (old new : Option (List ℕ)) → limit < length bytes → LeavesBehind bytes old new → P (run_of bytes) → IfSome old (λ script. P (run_of script))
+if_past P bytes None new more left p = tt
+if_past P bytes (Some script) new more left p = subst P (sym (ap run_of left.2 ∙ run-front bytes left.0 more)) p
+
+-- ---- what was composed
+
+-- a run with a bad line
+abbrev Stopped : List ℕ → Played → Type 0
+Stopped line p = IsSome p.bad × (line ≡ print_of p)
+
+pub composes_past : (bytes line : List ℕ) (s : Status) (old new : Option (List ℕ)) (before now : ℕ) (ended : Bool) → LeavesBehind bytes old new → limit < length bytes → ComposesRun bytes s line
+    → Composes true (taken_of old new before now ended) s line
+composes_past bytes line s old new before now ended left more composed =
+    let t = taken_of old new before now ended in
+    elim composed [
+      | inl c ↦ let bad : false ≡ true = sym (ap is_some c.1.0) ∙ long-bad bytes more in absurd cc
+      | inr others ↦ elim others [
+        | inl c ↦ subst (λ r. Composes true t r line) (sym c.0) (refl, (inr (bytes, (more, left)), if_past (Stopped line) bytes old new more left c.1))
+        | inr c ↦ subst (λ r. Composes true t r line) (sym c.0) (refl, c.1)
+      ]
+    ]
+
+-- ---- what was written
+
+if_some-map : (o : Option (List ℕ)) (P Q : List ℕ → Type 0) → ((script : List ℕ) → P script → Q script) → IfSome o P → IfSome o Q
+if_some-map None P Q f p = tt
+if_some-map (Some script) P Q f p = f script p
+
+all-front : (line : List ℕ) (old new : Option (List ℕ)) → AppendedAll line old new → AppendedFront line old new
+all-front line None new all = all
+all-front line (Some held) new all = (line, [], (sym (append-nil line), all))
+
+output-of : (right : Bool) (t : Taken) (planned : Status) (line : List ℕ) → Composes right t planned line → IsOutput right t line
+output-of false t status.Ok line c = absurd cc
+output-of false t status.TagsNotMade line c = absurd c
+output-of false t status.Usage line c = c.1
+output-of false t status.ReadFault line c = absurd cc
+output-of false t status.WriteFault line c = absurd c
+output-of false t status.BadLine line c = absurd cc
+output-of false t status.NoMemory line c = absurd cc
+output-of true t status.Ok line c = inr (inr (if_some-map t.old (λ script. (bad_line_of script ≡ None) × (line ≡ print_of_script script)) (λ script. line ≡ print_of_script script) (λ script p. p.1) c.1.1))
+output-of true t status.TagsNotMade line c = absurd c
+output-of true t status.Usage line c = absurd cc
+output-of true t status.ReadFault line c = inl (c.1.1, c.1.0)
+output-of true t status.WriteFault line c = absurd c
+output-of true t status.BadLine line c = inr (inr (if_some-map t.old (λ script. IsSome (bad_line_of script) × (line ≡ print_of_script script)) (λ script. line ≡ print_of_script script) (λ script p. p.1) c.1.1))
+output-of true t status.NoMemory line c = inr (inl c.1)
+
+-- a written line is the text that it equals
+written-as : (line text : List ℕ) (k : Given) → AppendedAll line k.old k.new → line ≡ text → AppendedAll text k.old k.new
+written-as line text k all e = subst (λ (l : List ℕ). AppendedAll l k.old k.new) e all
+
+ends-done : (right : Bool) (t : Taken) (k : Given) (planned : Status) (line : List ℕ) → Composes right t planned line → AppendedAll line k.old k.new → Ends right t k planned
+ends-done right t k status.Ok line c all = (
+  c.0,
+  (
+    c.1.0,
+    if_some-map t.old (λ script. (bad_line_of script ≡ None) × (line ≡ print_of_script script)) (λ script. (bad_line_of script ≡ None) × AppendedAll (print_of_script script) k.old k.new)
+        (λ script p. (p.0, written-as line (print_of_script script) k all p.1)) c.1.1,
+  ),
+)
+ends-done right t k status.TagsNotMade line c all = c
+ends-done right t k status.Usage line c all = (c.0, written-as line usage_line k all c.1)
+ends-done right t k status.ReadFault line c all = (c.0, (c.1.0, written-as line read_fault_line k all c.1.1))
+ends-done right t k status.WriteFault line c all = absurd c
+ends-done right t k status.BadLine line c all = (
+  c.0,
+  (
+    c.1.0,
+    if_some-map t.old (λ script. IsSome (bad_line_of script) × (line ≡ print_of_script script)) (λ script. IsSome (bad_line_of script) × AppendedAll (print_of_script script) k.old k.new)
+        (λ script p. (p.0, written-as line (print_of_script script) k all p.1)) c.1.1,
+  ),
+)
+ends-done right t k status.NoMemory line c all = (line, (output-of right t status.NoMemory line c, all-front line k.old k.new all))
+
+pub ends_of : (right : Bool) (t : Taken) (k : Given) (planned : Status) (line : List ℕ) (result : Status) → Composes right t planned line → Finishes planned line k result → Ends right t k result
+ends_of right t k planned line result c finished = elim finished [
+  | inl done ↦ subst (λ r. Ends right t k r) (sym done.0) (ends-done right t k planned line c done.1)
+  | inr others ↦ elim others [
+    | inl failed ↦ subst (λ r. Ends right t k r) (sym failed.0) (failed.1.0, (line, (output-of right t planned line c, failed.1.1)))
+    | inr short ↦ subst (λ r. Ends right t k r) (sym short.0) (line, (output-of right t planned line c, short.1))
+  ]
+]
+
+-- ---- where nothing went wrong
+
+bad-none : (script : List ℕ) (b : Option Bad) → b ≡ None → IsSome b → ⊥
+bad-none script None e some = absurd cc
+bad-none script (Some b) e some = absurd cc
+
+pub complete_of : (right : Bool) (t : Taken) (k : Given) (result : Status) → Ends right t k result → IsComplete right t k result
+complete_of right t k status.Ok ends is read written script told good = inl refl
+complete_of right t k status.TagsNotMade ends is read written script told good = absurd ends
+complete_of right t k status.Usage ends is read written script told good = let e : true ≡ false = sym is ∙ ends.0 in absurd cc
+complete_of right t k status.ReadFault ends is read written script told good = absurd (read ends.1.0)
+complete_of right t k status.WriteFault ends is read written script told good = absurd (written ends.0)
+complete_of right t k status.BadLine ends is read written script told good =
+    let here : IsSome (bad_line_of script) × AppendedAll (print_of_script script) k.old k.new =
+    subst (λ o. IfSome o (λ s. IsSome (bad_line_of s) × AppendedAll (print_of_script s) k.old k.new)) told ends.1.1 in
+    absurd (bad-none script (bad_line_of script) good here.0)
+complete_of right t k status.NoMemory ends is read written script told good = inr refl
+
+-- ---- the claim
+
+said_last : (p : Played) → p.bad ≡ None → is_forged (group_in p.scene) (history_in p.scene) ≡ false
+    → print_of p ≡ p.text ++ (all_views (group_in p.scene) (history_in p.scene) ++ all_agreements (group_in p.scene) (history_in p.scene) ++ tags_line false)
+unfolding print_of
+said_last p good made =
+    let views : List ℕ = all_views (group_in p.scene) (history_in p.scene) in
+    let agree : List ℕ = all_agreements (group_in p.scene) (history_in p.scene) in
+    ap (λ b. p.text ++ end_text (group_in p.scene) (history_in p.scene) b) good ∙ ap (λ b. p.text ++ (views ++ agree ++ tags_line b)) made
+
+claimed : (script : List ℕ) → AreBytes script → IsAsClaimed script
+claimed script bytes =
+    let good = all_hold script bytes in
+    record {
+      honest = all_honest script bytes;
+      lawful = good.lawful;
+      tags_made = good.tags_made;
+      says_so = λ whole. said_last (run_of script) whole good.tags_made;
+      views = good.views;
+      scene = run_is_honest script bytes;
+      none_halted = none_for_halting script bytes;
+      prints = prints_returns script;
+    }
+
+pub claims_in : (old : Option (List ℕ)) → IfSome old ClaimHolds
+claims_in None = tt
+claims_in (Some script) = claimed script

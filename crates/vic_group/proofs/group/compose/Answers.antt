@@ -1,0 +1,12 @@
+use Rattle.std.proofs.Common.{subst}
+use Rattle.vic_group.specs.Output.{ComposesRun, text_bytes}
+use Rattle.vic_group.proofs.Ends.{composes_past}
+use Rattle.vic_group.proofs.group.compose.Goals as goal
+
+pub returns-in-TooLong : goal.returns-in-TooLong
+returns-in-TooLong g c =
+    let status = c.compose_run-in-TooLong.result.status in
+    let line = text_bytes c.compose_run-in-TooLong.result.text in
+    let told = c.in-TooLong.ensures.given in
+    let run : ComposesRun c.in-TooLong.front status line = subst (λ script. ComposesRun script status line) c.as_slice-in-TooLong.ensures c.compose_run-in-TooLong.ensures in
+    rw c.if-not-right.false (composes_past c.in-TooLong.front line status _ _ _ _ _ told.0 told.1 run)

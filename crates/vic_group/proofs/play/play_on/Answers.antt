@@ -1,0 +1,56 @@
+use Rattle.std.proofs.Common.{◌≡◌, ℕ, ◌+◌, List, ◌++◌, length, Some, false, refl, sym, ap, ◌∙◌, arith}
+use Rattle.std.proofs.lemmas.Bool.{eqb-true}
+use Rattle.vic_script.specs.Lines.{lines_of}
+use Rattle.vic_script.specs.Scenes.{Scene}
+use Rattle.vic_script.specs.Run.{Played as Run, printed_before, play}
+use Rattle.vic_runs.proofs.Reached.{reached-lawful}
+use Rattle.vic_group.specs.Playing.{scene_of, tried_at}
+use Rattle.vic_group.proofs.Playing.{run_line, goes_on, prints_stop, prints_end, lines_none, if_ok-map}
+use Rattle.vic_group.proofs.play.play_on.Goals as goal
+
+pub returns-in-Some : goal.returns-in-Some
+returns-in-Some c =
+    let total : ℕ = c.args.total in
+    let n : ℕ = c.loop-rest.number in
+    let s : Scene = scene_of c.loop-rest.world in
+    let behind : ℕ = c.place_behind-behind.result in
+    let text : List ℕ = c.first_line.result.0.now in
+    let others : List ℕ = c.first_line.result.1.now in
+    let run : Run = play total c.args.place 2 (Some (scene_of c.args.opened)) (lines_of c.args.lines.now) in
+    let on = run_line run total c.loop-rest.before n behind s c.loop-rest.out c.loop-rest.rest.now text others c.loop-rest.invariant.run c.first_line.ensures.lines c.place_behind-behind.ensures in
+    if_ok-map c.stopped.result _ _
+    (λ p h. prints_stop n run (Some s) (tried_at behind s text) (λ t. play total behind (n + 1) (Some t) (lines_of others)) c.do_line.new.world c.loop-rest.out c.do_line.new.out c.in-Some.bad
+    on (rw (sym c.in-Some.is) c.in_ok-bad.ensures) p h.0 h.1)
+    c.stopped.ensures
+
+pub loop-rest-preserved : goal.loop-rest-preserved
+loop-rest-preserved c =
+    let total : ℕ = c.args.total in
+    let n : ℕ = c.loop-rest.number in
+    let s : Scene = scene_of c.loop-rest.world in
+    let behind : ℕ = c.place_behind-behind.result in
+    let text : List ℕ = c.first_line.result.0.now in
+    let others : List ℕ = c.first_line.result.1.now in
+    let run : Run = play total c.args.place 2 (Some (scene_of c.args.opened)) (lines_of c.args.lines.now) in
+    let on = run_line run total c.loop-rest.before n behind s c.loop-rest.out c.loop-rest.rest.now text others c.loop-rest.invariant.run c.first_line.ensures.lines c.place_behind-behind.ensures in
+    let next = goes_on n run (Some s) (tried_at behind s text) (λ t. play total behind (n + 1) (Some t) (lines_of others)) c.do_line.new.world c.loop-rest.out c.do_line.new.out on (rw (sym c.in-None.is) c.in_ok-bad.ensures) in
+    record {
+      shows = next.0.0;
+      reached = next.0.1;
+      place = omega (arith, c.place_behind-behind.ensures);
+      few = omega (arith, c.loop-rest.invariant.few, c.first_line.ensures.fewer);
+      run = next.1;
+    }
+
+pub views-requires : goal.views-requires
+views-requires c = reached-lawful (scene_of c.loop-rest.world) c.loop-rest.number c.loop-rest.invariant.reached
+
+pub returns : goal.returns
+returns c =
+    let n : ℕ = c.loop-rest.number in
+    let s : Scene = scene_of c.loop-rest.world in
+    let run : Run = play c.args.total c.args.place 2 (Some (scene_of c.args.opened)) (lines_of c.args.lines.now) in
+    let none : length c.loop-rest.rest.now ≡ 0 = eqb-true _ 0 (sym c.is_empty.ensures ∙ c.loop-rest-test.false) in
+    let end = c.loop-rest.invariant.run ∙ ap (λ (texts : List (List ℕ)). printed_before c.loop-rest.out (play c.args.total c.loop-rest.before n (Some s) texts)) (lines_none c.loop-rest.rest.now none) in
+    prints_end c.args.total c.loop-rest.before n run c.loop-rest.world c.loop-rest.out end (record { text = c.append.new.self; bad = false })
+    (c.in_ok-append.ensures.ok ∙ ap (λ (views : List ℕ). c.loop-rest.out ++ views) (c.as_slice.ensures ∙ c.in_ok-views.ensures)) refl

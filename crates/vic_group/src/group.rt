@@ -1,0 +1,112 @@
+//! The command on a script: it reads the script, runs it and writes what it prints.
+
+ghost use Rattle.std.specs.Prelude.{◌≡◌, ◌≢◌, ◌⊎◌, IfSome, Some, None, true, drop, map, string_bytes};
+ghost use Rattle.vic_script.specs.Run.{bad_line_of};
+ghost use Rattle.vic_group.specs.Words.{is_group};
+ghost use Rattle.vic_group.specs.Ends.{Ends, IsComplete, ClaimHolds, taken_of, given_of};
+ghost use Rattle.vic_group.specs.Output.{Composes, ComposesRun, ComposesNone, text_bytes};
+
+use crate::finish::finish;
+use crate::output::Text;
+use crate::play::play;
+use crate::status::Status;
+use std::alloc::Global;
+use vic_ports::{Input, MemorySink, MemorySource, NeverFails, Sink, Source, read_input};
+use vic_text::word::is_name;
+
+/// A status, and the text to write before the command ends so.
+#[derive(Drop)]
+struct Composed {
+    status: Status,
+    text: Text,
+}
+
+/// Whether the words name the command, and nothing else.
+fn is_right(words: &[String]) -> bool
+    ensures { result ≡ is_group (map string_bytes words.now) }
+{
+    match words {
+        [word] => is_name(word.as_bytes(), b"group"),
+        _ => false,
+    }
+}
+
+/// Runs a script, and answers what it prints.
+fn compose_run(alloc: Global, script: &[u8]) -> Composed
+    ensures { ComposesRun script.now result.status (text_bytes result.text) }
+{
+    match play(alloc, script) {
+        Ok(played) => Composed {
+            status: if played.bad {
+                Status::BadLine
+            } else {
+                Status::Ok
+            },
+            text: Text::Made(played.text),
+        },
+        Err(_) => no_memory(),
+    }
+}
+
+fn no_memory() -> Composed
+    ensures { ComposesNone result.status (text_bytes result.text) }
+{
+    Composed {
+        status: Status::NoMemory,
+        text: Text::Fixed(b"no memory\n"),
+    }
+}
+
+/// Reads a script and runs it, where the words are right.
+fn compose<S: Source>(alloc: Global, right: bool, source: &mut S) -> Composed
+    ensures { Composes right (taken_of (S.left source.old) (S.left source.new) (S.faults source.old) (S.faults source.new) (S.ended source.new)) result.status (text_bytes result.text) }
+{
+    if !right {
+        return Composed {
+            status: Status::Usage,
+            text: Text::Fixed(b"usage: vicos group\n"),
+        };
+    }
+    match read_input(alloc, source) {
+        Input::Whole(script) => compose_run(alloc, script.as_slice()),
+        Input::TooLong(front) => compose_run(alloc, front.as_slice()),
+        Input::Fault => Composed {
+            status: Status::ReadFault,
+            text: Text::Fixed(b"read fault\n"),
+        },
+        Input::NoMemory => no_memory(),
+    }
+}
+
+/// The command on a script: reads it to its end, runs it, and writes what it prints.
+///
+/// It takes memory for the script, for what the script prints, and for the world in which its lines happen.
+pub fn run_group<S: Source, K: Sink>(
+    alloc: Global,
+    words: &[String],
+    source: &mut S,
+    sink: &mut K,
+) -> Status
+    ensures ends { Ends (is_group (map string_bytes words.now)) (taken_of (S.left source.old) (S.left source.new) (S.faults source.old) (S.faults source.new) (S.ended source.new)) (given_of (K.held sink.old) (K.held sink.new) (K.faults sink.old) (K.faults sink.new)) result }
+    ensures claim { IfSome (S.left source.old) ClaimHolds }
+    ensures complete { IsComplete (is_group (map string_bytes words.now)) (taken_of (S.left source.old) (S.left source.new) (S.faults source.old) (S.faults source.new) (S.ended source.new)) (given_of (K.held sink.old) (K.held sink.new) (K.faults sink.old) (K.faults sink.new)) result }
+{
+    let composed = compose(alloc, is_right(words), source);
+    finish(sink, composed.status, composed.text.as_slice())
+}
+
+/// The command on a script in memory: over a source and a sink that never fail, no fault is answered.
+pub fn run_in_memory(
+    alloc: Global,
+    words: &[String],
+    source: &mut NeverFails<MemorySource>,
+    sink: &mut NeverFails<MemorySink>,
+) -> Status
+    ensures ends { Ends (is_group (map string_bytes words.now)) (taken_of (Some (drop source.old.inner.taken source.old.inner.bytes)) (Some (drop source.new.inner.taken source.new.inner.bytes)) 0 0 source.new.inner.ended) (given_of (Some sink.old.inner.bytes) (Some sink.new.inner.bytes) 0 0) result }
+    ensures claim { ClaimHolds (drop source.old.inner.taken source.old.inner.bytes) }
+    ensures complete { is_group (map string_bytes words.now) ≡ true → bad_line_of (drop source.old.inner.taken source.old.inner.bytes) ≡ None → (result ≡ Status.Ok) ⊎ (result ≡ Status.NoMemory) }
+    ensures reads { result ≢ Status.ReadFault }
+    ensures writes { result ≢ Status.WriteFault }
+{
+    run_group(alloc, words, source, sink)
+}

@@ -1,0 +1,209 @@
+//! Running a script.
+
+ghost use Rattle.std.specs.Prelude.{◌≡◌, ◌<◌, ◌≤◌, ◌+◌, ◌++◌, ◌^◌, IfOk, is_some, length, take, true, Some, None};
+ghost use Rattle.vic_dict.specs.declared.op.Mode.TheVariants as mode;
+ghost use Rattle.vic_script.specs.Lines.{line_of, lines_of};
+ghost use Rattle.vic_script.specs.Scenes.{bad_kind, done_line};
+ghost use Rattle.vic_script.specs.Run.{bad_line_of, limit, run_of, try_line, tried_by, play as play_by};
+ghost use Rattle.vic_script.specs.Print.{print_of_script, kind_text as kind_text_by, bad_line};
+ghost use Rattle.vic_runs.specs.Claims.{FitsLine};
+ghost use Rattle.vic_runs.specs.Reached.{IsReached};
+ghost use Rattle.vic_group.specs.World.{AllReady};
+ghost use Rattle.vic_group.specs.Playing.{scene_of, Shows, Opens, Tries, tried_at, Follows, Prints};
+
+use crate::place::{first_line, place_behind};
+use crate::world::{World, WorldFault};
+use std::alloc::Global;
+use vic_dict::{Bytes, Mode, NoMemory};
+use vic_ports::LIMIT;
+use vic_text::{Line, LineFault, put_number, read_line};
+
+/// What a script's run prints, and whether one of its lines is bad.
+#[derive(Debug, Drop)]
+pub struct Played {
+    pub text: Bytes,
+    pub bad: bool,
+}
+
+/// A bad line: its number, from 1 on, and its kind.
+#[derive(Clone, Copy, Debug, PartialEq, Eq)]
+pub struct BadLine {
+    pub number: u32,
+    pub kind: u8,
+}
+
+/// Runs a script. It takes time and memory for its first 16,777,217 bytes at most.
+pub fn play(alloc: Global, script: &[u8]) -> Result<Played, NoMemory>
+    ensures { IfOk result (λ p. (p.text ≡ print_of_script script.now) × (p.bad ≡ is_some (bad_line_of script.now))) }
+{
+    play_known(alloc, known_of(script))
+}
+
+/// As much of a script as matters.
+fn known_of(script: &[u8]) -> &[u8]
+    ensures { result.now ≡ take (limit + 1) script.now }
+{
+    if script.len() <= LIMIT {
+        script
+    } else {
+        &script[..LIMIT + 1]
+    }
+}
+
+fn play_known(alloc: Global, known: &[u8]) -> Result<Played, NoMemory>
+    requires { length known.now ≤ limit + 1 }
+    ensures { IfOk result (λ p. Prints (play_by (length known.now) 0 1 None (lines_of known.now)) p) }
+{
+    if known.is_empty() {
+        return stopped(alloc, Bytes::new(alloc), BadLine { number: 1, kind: 1 });
+    }
+    let (text, rest) = first_line(known);
+    let place = place_behind(known.len(), 0, text);
+    if LIMIT < place {
+        return stopped(alloc, Bytes::new(alloc), BadLine { number: 1, kind: 7 });
+    }
+    match opened_by(alloc, text)? {
+        Some(world) => play_on(alloc, world, known.len(), place, rest),
+        None => stopped(alloc, Bytes::new(alloc), BadLine { number: 1, kind: 1 }),
+    }
+}
+
+/// The world that the first line opens, if it opens one.
+fn opened_by(alloc: Global, text: &[u8]) -> Result<Option<World>, NoMemory>
+    ensures { IfOk result (λ w. Opens (try_line None (line_of None text.now)) w) }
+{
+    match read_line(alloc, text, None) {
+        Ok(Line::Clients(count)) => Ok(Some(World::opened(alloc, count)?)),
+        Ok(_) | Err(LineFault::Grammar) => Ok(None),
+        Err(LineFault::NoMemory) => Err(NoMemory),
+    }
+}
+
+/// Does the lines behind the first one, and answers the print.
+fn play_on(
+    alloc: Global,
+    opened: World,
+    total: usize,
+    place: usize,
+    lines: &[u8],
+) -> Result<Played, NoMemory>
+    requires shows { Shows opened }
+    requires reached { IsReached (scene_of opened) 1 }
+    requires place { place ≤ total }
+    requires total { total ≤ limit + 1 }
+    requires few { length lines.now ≤ limit + 1 }
+    ensures { IfOk result (λ p. Prints (play_by total place 2 (Some (scene_of opened)) (lines_of lines.now)) p) }
+{
+    let mut world = opened;
+    let mut out = Bytes::new(alloc);
+    let mut before = place;
+    let mut number = 2u32;
+    let mut rest = lines;
+    while !rest.is_empty() {
+        let (text, others) = first_line(rest);
+        let behind = place_behind(total, before, text);
+        match do_line(alloc, &mut world, number, behind, text, &mut out)? {
+            Some(bad) => return stopped(alloc, out, bad),
+            None => {
+                before = behind;
+                number += 1;
+                rest = others;
+            }
+        }
+    }
+    let views = world.views(alloc)?;
+    out.append(views.as_slice())?;
+    Ok(Played {
+        text: out,
+        bad: false,
+    })
+}
+
+/// Does the line of a number, which ends so far in the script; where it is bad, it answers how.
+fn do_line(
+    alloc: Global,
+    world: &mut World,
+    number: u32,
+    behind: usize,
+    text: &[u8],
+    out: &mut Bytes,
+) -> Result<Option<BadLine>, NoMemory>
+    requires shows { Shows world.old }
+    requires reached { IsReached (scene_of world.old) number }
+    requires few { number + 1 < 2 ^ 32 }
+    ensures { IfOk result (λ bad. Follows number (tried_at behind (scene_of world.old) text.now) world.new out.old out.new bad) }
+{
+    if LIMIT < behind {
+        return Ok(Some(BadLine { number, kind: 7 }));
+    }
+    match try_text(alloc, world, text, out)? {
+        Some(kind) => Ok(Some(BadLine { number, kind })),
+        None => Ok(None),
+    }
+}
+
+/// Does the line that a text spells, and answers the kind by which it is bad.
+fn try_text(
+    alloc: Global,
+    world: &mut World,
+    text: &[u8],
+    out: &mut Bytes,
+) -> Result<Option<u8>, NoMemory>
+    requires shows { Shows world.old }
+    requires ready { AllReady world.old }
+    ensures { IfOk result (λ bad. Tries (try_line (Some (scene_of world.old)) (line_of (Some mode.Plain) text.now)) world.new out.old out.new bad) }
+{
+    match read_line(alloc, text, Some(Mode::Plain)) {
+        Ok(line) => try_line_on(alloc, world, &line, out),
+        Err(LineFault::Grammar) => Ok(Some(1)),
+        Err(LineFault::NoMemory) => Err(NoMemory),
+    }
+}
+
+fn try_line_on(
+    alloc: Global,
+    world: &mut World,
+    line: &Line,
+    out: &mut Bytes,
+) -> Result<Option<u8>, NoMemory>
+    requires shows { Shows world.old }
+    requires ready { AllReady world.old }
+    requires fits { FitsLine line.now }
+    ensures { IfOk result (λ bad. Tries (tried_by (bad_kind (scene_of world.old) line.now) (done_line (scene_of world.old) line.now)) world.new out.old out.new bad) }
+{
+    match world.apply(alloc, line) {
+        Ok(text) => {
+            out.append(text.as_slice())?;
+            Ok(None)
+        }
+        Err(WorldFault::Bad(kind)) => Ok(Some(kind)),
+        Err(WorldFault::NoMemory) => Err(NoMemory),
+    }
+}
+
+/// What was printed, and then the bad line.
+fn stopped(alloc: Global, out: Bytes, bad: BadLine) -> Result<Played, NoMemory>
+    ensures { IfOk result (λ p. (p.text ≡ out ++ bad_line (record { number = bad.number; kind = bad.kind })) × (p.bad ≡ true)) }
+{
+    let mut text = out;
+    text.append(b"line ")?;
+    put_number(&mut text, alloc, bad.number)?;
+    text.append(b": ")?;
+    text.append(kind_text(bad.kind))?;
+    text.append(b"\n")?;
+    Ok(Played { text, bad: true })
+}
+
+fn kind_text(kind: u8) -> &'static [u8]
+    ensures { result.now ≡ kind_text_by kind }
+{
+    match kind {
+        2 => b"no such client",
+        3 => b"client has halted",
+        4 => b"client is busy",
+        5 => b"nothing waiting",
+        6 => b"no such server",
+        7 => b"script too long",
+        _ => b"not a line of this script",
+    }
+}

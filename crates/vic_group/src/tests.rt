@@ -1,0 +1,290 @@
+//! Rows of the command on a script, over a source and a sink in memory. What each prints was worked out by hand from the rules.
+
+use crate::{run_group, run_in_memory};
+use std::alloc::Global;
+use std::test::Fail;
+use vic_dict::{Bytes, NoMemory};
+use vic_ports::{Calls, MemorySink, MemorySource, NeverFails};
+
+/// A script and what it prints, each with ` / ` between its lines, and the status.
+type Row = (&'static str, &'static str, u8);
+
+const ROWS: [Row; 14] = [
+    // A put and a get by one client, which memory suffices for.
+    (
+        "clients 1 / call 1 put a x / run 1 / call 1 get a / run 1",
+        "1 done stored / 1 took / 1 took / 1 done value x / 1 took / 1 took / view 1 / 1.1 put a x = done stored / 1.2 get a = done value x / tags made",
+        0,
+    ),
+    // A group in which nothing is done.
+    ("clients 2", "view 1 / view 2 / agree 1 2 0 / tags made", 0),
+    // Puts of different keys, both unsealed.
+    (
+        "clients 2 / call 1 put a x / call 2 put b y / serve 1 / serve 2 / take 1 / take 2",
+        "1 done stored / 2 done stored / view 1 / 1.1 put a x = done stored / view 2 / 1.1 put a x = done stored / 2.1 put b y = done stored / agree 1 2 1 / tags made",
+        0,
+    ),
+    // Puts of one key at once, and a get afterwards.
+    (
+        "clients 2 / call 1 put a x / call 2 put a y / serve 1 / serve 2 / take 1 / take 2 / run 1 / run 2 / call 2 get a / run 2",
+        "1 done stored / 2 aborted 1 / 1 took / 1 took / 2 took / 2 took / 2 done value x / 2 took / 2 took / view 1 / 1.1 put a x = done stored / view 2 / 1.1 put a x = done stored / 2.1 put a y = aborted 1 / 2.2 get a = done value x / agree 1 2 1 / tags made",
+        0,
+    ),
+    // Another's call that stays unfinished, and so stands in no view.
+    (
+        "clients 2 / call 2 put b z / serve 2 / call 1 put a x / run 1 / call 1 put a y / run 1 / call 1 get a / run 1",
+        "1 done stored / 1 took / 1 done stored / 1 took / 1 done value y / 1 took / view 1 / 1.1 put a x = done stored / 1.2 put a y = done stored / 1.3 get a = done value y / view 2 / agree 1 2 0 / tags made",
+        0,
+    ),
+    // A list against an unfinished put.
+    (
+        "clients 2 / call 2 put ab z / serve 2 / call 1 list % / run 1 / call 1 list x / run 1",
+        "1 aborted 1 / 1 took / 1 done names / 1 took / view 1 / 1.1 list % = aborted 1 / 1.2 list x = done names / view 2 / agree 1 2 0 / tags made",
+        0,
+    ),
+    // Two gets, taken the other way round.
+    (
+        "clients 2 / call 1 get a / call 2 get a / serve 1 / serve 2 / take 2 / take 1",
+        "2 done none / 1 done none / view 1 / 1.1 get a = done none / view 2 / 1.1 get a = done none / 2.1 get a = done none / agree 1 2 1 / tags made",
+        0,
+    ),
+    // Puts, a list, a del and a del again.
+    (
+        "clients 1 / call 1 put b y / run 1 / call 1 put a x / run 1 / call 1 list % / run 1 / call 1 del a / run 1 / call 1 del a / run 1",
+        "1 done stored / 1 took / 1 took / 1 done stored / 1 took / 1 took / 1 done names a b / 1 took / 1 took / 1 done removed / 1 took / 1 took / 1 done absent / 1 took / 1 took / view 1 / 1.1 put b y = done stored / 1.2 put a x = done stored / 1.3 list % = done names a b / 1.4 del a = done removed / 1.5 del a = done absent / tags made",
+        0,
+    ),
+    // Bad lines, one of them behind a line that prints.
+    ("", "line 1: not a line of this script", 5),
+    ("clients 65", "line 1: not a line of this script", 5),
+    ("clients 1 / take 1", "line 2: nothing waiting", 5),
+    ("clients 1 / call 2 get a", "line 2: no such client", 5),
+    (
+        "clients 1 / call 1 put a x / call 1 get a",
+        "line 3: client is busy",
+        5,
+    ),
+    (
+        "clients 1 / call 1 get a / run 1 / serve 1",
+        "1 done none / 1 took / 1 took / line 4: nothing waiting",
+        5,
+    ),
+];
+
+/// The lines that a text with ` / ` between them stands for; none if it is empty.
+fn lines_of(alloc: Global, text: &str) -> Result<Bytes, NoMemory> {
+    let mut lines = Bytes::new(alloc);
+    if text.is_empty() {
+        return Ok(lines);
+    }
+    for line in text.split(" / ") {
+        lines.append(line.as_bytes())?;
+        lines.push(b'\n')?;
+    }
+    Ok(lines)
+}
+
+/// The words of a command line, as a text with a space between them.
+fn words_of(alloc: Global, text: &str) -> Result<Vec<String>, NoMemory> {
+    let mut words = Vec::new(alloc);
+    for word in text.split(' ') {
+        words.push(String::from_str(alloc, word)?)?;
+    }
+    Ok(words)
+}
+
+/// The reads or writes that are to fail: the one with this number, or none for 0.
+fn failing(alloc: Global, number: u64) -> Result<Calls, NoMemory> {
+    let mut calls = Calls::new(alloc);
+    if number > 0 {
+        calls.push(number)?;
+    }
+    Ok(calls)
+}
+
+/// Whether the command so named writes this of a script, and ends with this status.
+fn prints(
+    alloc: Global,
+    command: &str,
+    script: Bytes,
+    text: &[u8],
+    status: u8,
+) -> Result<bool, NoMemory> {
+    let words = words_of(alloc, command)?;
+    let mut source = MemorySource::new(script, Calls::new(alloc));
+    let mut sink = MemorySink::new(alloc, Calls::new(alloc));
+    let ended = run_group(alloc, words.as_slice(), &mut source, &mut sink);
+    Ok(sink.held().as_slice() == text && ended.number() == status)
+}
+
+fn prints_row(alloc: Global, command: &str, row: &Row) -> Result<bool, NoMemory> {
+    let script = lines_of(alloc, row.0)?;
+    let text = lines_of(alloc, row.1)?;
+    prints(alloc, command, script, text.as_slice(), row.2)
+}
+
+/// Whether the first row's script ends with this text and status where a read or a write fails.
+fn faults(
+    alloc: Global,
+    command: &str,
+    reads: u64,
+    writes: u64,
+    text: &[u8],
+    status: u8,
+) -> Result<bool, NoMemory> {
+    let words = words_of(alloc, command)?;
+    let script = lines_of(alloc, ROWS[0].0)?;
+    let mut source = MemorySource::new(script, failing(alloc, reads)?);
+    let mut sink = MemorySink::new(alloc, failing(alloc, writes)?);
+    let ended = run_group(alloc, words.as_slice(), &mut source, &mut sink);
+    Ok(sink.held().as_slice() == text && ended.number() == status)
+}
+
+fn append_times(out: &mut Bytes, lines: &[u8], times: u32) -> Result<(), NoMemory> {
+    for _ in 0..times {
+        out.append(lines)?;
+    }
+    Ok(())
+}
+
+/// Appends the lines of a view for puts of `a` = `x` by client 1, with the numbers from 1 on.
+fn append_puts(alloc: Global, out: &mut Bytes, count: u32) -> Result<(), NoMemory> {
+    for number in 0..count {
+        let line = format!(in alloc; "1.{} put a x = done stored\n", number + 1)?;
+        out.append(line.as_bytes())?;
+    }
+    Ok(())
+}
+
+/// A script of so many bytes: its header, and one line of letters.
+fn long_script(alloc: Global, size: usize) -> Result<Bytes, NoMemory> {
+    let mut script = Bytes::of(alloc, b"clients 1\n")?;
+    for _ in 10..size {
+        script.push(b'a')?;
+    }
+    Ok(script)
+}
+
+/// Calls up to the bound of unsealed ones, which another's unfinished call holds back, then past it, and then again.
+fn unsealed_script(alloc: Global) -> Result<Bytes, NoMemory> {
+    let mut script = Bytes::of(alloc, b"clients 2\ncall 2 put b z\nserve 2\n")?;
+    append_times(&mut script, b"call 1 put a x\nrun 1\n", 1024)?;
+    script.append(b"take 2\nrun 2\ncall 1 put a x\nrun 1\n")?;
+    Ok(script)
+}
+
+fn unsealed_print(alloc: Global) -> Result<Bytes, NoMemory> {
+    let mut text = Bytes::new(alloc);
+    append_times(&mut text, b"1 done stored\n1 took\n", 1023)?;
+    text.append(b"1 refused 2\n2 done stored\n2 took\n2 took\n1 done stored\n")?;
+    append_times(&mut text, b"1 took\n", 1025)?;
+    text.append(b"view 1\n2.1 put b z = done stored\n")?;
+    append_puts(alloc, &mut text, 1023)?;
+    text.append(
+        b"1.1025 put a x = done stored\nview 2\n2.1 put b z = done stored\nagree 1 2 1\ntags made\n",
+    )?;
+    Ok(text)
+}
+
+/// 8,191 entries, then a client that has none of them, then one that has none of 8,192.
+fn behind_script(alloc: Global) -> Result<Bytes, NoMemory> {
+    let mut script = Bytes::of(alloc, b"clients 3\n")?;
+    append_times(&mut script, b"call 1 put a x\nrun 1\n", 8191)?;
+    script.append(
+        b"call 2 get a\nrun 2\ncall 3 get a\nrun 3\nsync 3\nrun 3\ncall 3 get a\nrun 3\n",
+    )?;
+    Ok(script)
+}
+
+fn behind_print(alloc: Global) -> Result<Bytes, NoMemory> {
+    let mut text = Bytes::new(alloc);
+    append_times(&mut text, b"1 done stored\n1 took\n1 took\n", 8191)?;
+    text.append(
+        b"2 done value x\n2 took\n2 took\n3 refused 1\n3 took\n3 done value x\n3 took\n3 took\nview 1\n",
+    )?;
+    append_puts(alloc, &mut text, 8191)?;
+    text.append(b"view 2\n")?;
+    append_puts(alloc, &mut text, 8191)?;
+    text.append(b"2.1 get a = done value x\nview 3\n")?;
+    append_puts(alloc, &mut text, 8191)?;
+    text.append(
+        b"2.1 get a = done value x\n3.2 get a = done value x\nagree 1 2 8191\nagree 1 3 8191\nagree 2 3 8192\ntags made\n",
+    )?;
+    Ok(text)
+}
+
+#[test]
+fn rows(rt: HostRuntime) -> Result<(), Fail> {
+    for row in ROWS.iter() {
+        assert!(rt; prints_row(rt.alloc(), "group", row)?);
+    }
+    Ok(())
+}
+
+#[test]
+fn in_memory(rt: HostRuntime) -> Result<(), Fail> {
+    let alloc = rt.alloc();
+    let words = words_of(alloc, "group")?;
+    let script = lines_of(alloc, ROWS[0].0)?;
+    let text = lines_of(alloc, ROWS[0].1)?;
+    let mut source = NeverFails::new(MemorySource::new(script, Calls::new(alloc)));
+    let mut sink = NeverFails::new(MemorySink::new(alloc, Calls::new(alloc)));
+    let ended = run_in_memory(alloc, words.as_slice(), &mut source, &mut sink);
+    assert!(rt; ended.number() == 0);
+    assert!(rt; sink.inner().held().as_slice() == text.as_slice());
+    Ok(())
+}
+
+#[test]
+fn wrong_words(rt: HostRuntime) -> Result<(), Fail> {
+    let row: Row = ("clients 1", "usage: vicos group", 2);
+    for command in ["group x", "groups", ""] {
+        assert!(rt; prints_row(rt.alloc(), command, &row)?);
+    }
+    Ok(())
+}
+
+#[test]
+fn one_fault(rt: HostRuntime) -> Result<(), Fail> {
+    // The second read is the one that would find the end.
+    assert!(rt; faults(rt.alloc(), "group", 1, 0, b"read fault\n", 3)?);
+    assert!(rt; faults(rt.alloc(), "group", 2, 0, b"read fault\n", 3)?);
+    assert!(rt; faults(rt.alloc(), "group", 0, 1, b"", 4)?);
+    assert!(rt; faults(rt.alloc(), "group", 1, 1, b"", 4)?);
+    // Wrong words are found before anything is read.
+    assert!(rt; faults(rt.alloc(), "group x", 1, 0, b"usage: vicos group\n", 2)?);
+    Ok(())
+}
+
+#[test]
+fn longest_script(rt: HostRuntime) -> Result<(), Fail> {
+    let script = long_script(rt.alloc(), 16_777_216)?;
+    assert!(rt;
+        prints(
+            rt.alloc(),
+            "group",
+            script,
+            b"line 2: not a line of this script\n",
+            5
+        )?
+    );
+    let script = long_script(rt.alloc(), 16_777_217)?;
+    assert!(rt; prints(rt.alloc(), "group", script, b"line 2: script too long\n", 5)?);
+    Ok(())
+}
+
+#[test]
+fn most_unsealed(rt: HostRuntime) -> Result<(), Fail> {
+    let script = unsealed_script(rt.alloc())?;
+    let text = unsealed_print(rt.alloc())?;
+    assert!(rt; prints(rt.alloc(), "group", script, text.as_slice(), 0)?);
+    Ok(())
+}
+
+#[test]
+fn far_behind(rt: HostRuntime) -> Result<(), Fail> {
+    let script = behind_script(rt.alloc())?;
+    let text = behind_print(rt.alloc())?;
+    assert!(rt; prints(rt.alloc(), "group", script, text.as_slice(), 0)?);
+    Ok(())
+}
