@@ -57,6 +57,7 @@ impl World {
     ) -> Result<World, NoMemory>
         requires some { 0 < count }
         requires few { count ≤ 64 }
+        ensures group { IfOk result (λ w. group_of w.transcript ≡ record { mode = mode; count = count; key = key }) }
         ensures whole { IfOk result (λ w. w.is_broken ≡ false) }
         ensures shows { server ≡ fresh_server mode count ready → IfOk result (λ w. ShowsScene w (opening (record { mode = mode; count = count; key = key }))) }
     {
