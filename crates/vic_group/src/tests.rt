@@ -9,7 +9,7 @@ use vic_ports::{Calls, MemorySink, MemorySource, NeverFails};
 /// A script and what it prints, each with ` / ` between its lines, and the status.
 type Row = (&'static str, &'static str, u8);
 
-const ROWS: [Row; 14] = [
+const ROWS: [Row; 16] = [
     // A put and a get by one client, which memory suffices for.
     (
         "clients 1 / call 1 put a x / run 1 / call 1 get a / run 1",
@@ -52,6 +52,18 @@ const ROWS: [Row; 14] = [
     (
         "clients 1 / call 1 put b y / run 1 / call 1 put a x / run 1 / call 1 list % / run 1 / call 1 del a / run 1 / call 1 del a / run 1",
         "1 done stored / 1 took / 1 took / 1 done stored / 1 took / 1 took / 1 done names a b / 1 took / 1 took / 1 done removed / 1 took / 1 took / 1 done absent / 1 took / 1 took / view 1 / 1.1 put b y = done stored / 1.2 put a x = done stored / 1.3 list % = done names a b / 1.4 del a = done removed / 1.5 del a = done absent / tags made",
+        0,
+    ),
+    // Puts of different keys, each sealed by its client; then a list, of which the other client learns by a sync.
+    (
+        "clients 2 / call 1 put a x / call 2 put b y / serve 1 / serve 2 / take 1 / take 2 / run 1 / run 2 / run 1 / call 1 list % / run 1 / sync 2 / run 2",
+        "1 done stored / 2 done stored / 1 took / 1 took / 2 took / 2 took / 1 done names a b / 1 took / 1 took / 2 took / view 1 / 1.1 put a x = done stored / 2.1 put b y = done stored / 1.2 list % = done names a b / view 2 / 1.1 put a x = done stored / 2.1 put b y = done stored / agree 1 2 2 / tags made",
+        0,
+    ),
+    // A call that can be sealed once another's before it is, by a poll.
+    (
+        "clients 2 / call 2 put b z / serve 2 / call 1 put a x / run 1 / take 2 / run 2 / poll 1 / run 1",
+        "1 done stored / 1 took / 2 done stored / 2 took / 2 took / 1 took / 1 took / view 1 / 2.1 put b z = done stored / 1.1 put a x = done stored / view 2 / 2.1 put b z = done stored / agree 1 2 1 / tags made",
         0,
     ),
     // Bad lines, one of them behind a line that prints.
