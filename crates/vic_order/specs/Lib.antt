@@ -1,3 +1,4 @@
 pub mod Order
 pub mod Fates
 pub mod Honest
+pub mod Serving

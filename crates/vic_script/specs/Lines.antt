@@ -1,5 +1,5 @@
 -- The lines of a script, from bytes to words and from words to lines.
-use Rattle.std.specs.Prelude.{ℕ, ◌&&◌, List, [], ◌∷◌, length, Option, Some, None, option_map, nat_eq, nat_lt, nat_le, if◌then◌else◌, codes}
+use Rattle.std.specs.Prelude.{ℕ, Bool, ◌&&◌, List, [], ◌∷◌, length, Option, Some, None, option_map, nat_eq, nat_lt, nat_le, if◌then◌else◌, codes}
 use Rattle.std.specs.Str.{bytes_eq}
 use Rattle.vic_dict.specs.declared.op.Op.{Op}
 use Rattle.vic_dict.specs.declared.op.Op.TheVariants as op
@@ -7,7 +7,7 @@ use Rattle.vic_dict.specs.declared.op.Mode.{Mode}
 use Rattle.vic_dict.specs.declared.op.Mode.TheVariants as mode
 use Rattle.vic_script.specs.declared.line.Line.{Line}
 use Rattle.vic_script.specs.declared.line.Line.TheVariants as line
-use Rattle.vic_script.specs.Words.{word_bytes, word_number, word_client}
+use Rattle.vic_script.specs.Words.{word_bytes, word_number, word_capped}
 
 -- a byte before the first of the pieces
 abbrev pub put_first : ℕ → List (List ℕ) → List (List ℕ)
@@ -65,11 +65,41 @@ clients_of (Some n) = if nat_lt 0 n && nat_le n 64 then Some (line.Clients n) el
 -- a line of one name and one number
 abbrev pub named : List ℕ → List ℕ → Option Line
 named name a =
-    if bytes_eq name (codes "poll") then option_map line.Poll (word_client a)
-    else if bytes_eq name (codes "sync") then option_map line.Sync (word_client a)
-    else if bytes_eq name (codes "serve") then option_map line.Serve (word_client a)
-    else if bytes_eq name (codes "take") then option_map line.Take (word_client a)
-    else if bytes_eq name (codes "run") then option_map line.Run (word_client a)
+    if bytes_eq name (codes "poll") then option_map line.Poll (word_capped a)
+    else if bytes_eq name (codes "sync") then option_map line.Sync (word_capped a)
+    else if bytes_eq name (codes "serve") then option_map line.Serve (word_capped a)
+    else if bytes_eq name (codes "take") then option_map line.Take (word_capped a)
+    else if bytes_eq name (codes "run") then option_map line.Run (word_capped a)
+    else if bytes_eq name (codes "again") then option_map line.Again (word_capped a)
+    else if bytes_eq name (codes "resend") then option_map line.Resend (word_capped a)
+    else None
+
+abbrev pub give_of : Option ℕ → Option (List ℕ) → Option Line
+give_of (Some i) (Some payload) = Some (line.Give i payload)
+give_of (Some i) None = None
+give_of None payload = None
+
+abbrev pub pair_of : (ℕ → ℕ → Line) → Option ℕ → Option ℕ → Option Line
+pair_of make (Some i) (Some n) = Some (make i n)
+pair_of make (Some i) None = None
+pair_of make None n = None
+
+-- a server from 1 to 4
+abbrev pub is_place : ℕ → Bool
+is_place n = nat_lt 0 n && nat_le n 4
+
+abbrev pub copy_of : Option ℕ → Option ℕ → Option Line
+copy_of (Some n) (Some t) = if is_place t then Some (line.Copy n t) else None
+copy_of (Some n) None = None
+copy_of None t = None
+
+-- a line of one name and two words
+abbrev pub paired : List ℕ → List ℕ → List ℕ → Option Line
+paired name a b =
+    if bytes_eq name (codes "give") then give_of (word_capped a) (word_bytes b)
+    else if bytes_eq name (codes "flip") then pair_of line.Flip (word_capped a) (word_capped b)
+    else if bytes_eq name (codes "copy") then copy_of (word_capped a) (word_number b)
+    else if bytes_eq name (codes "move") then pair_of line.Move (word_capped a) (word_capped b)
     else None
 
 -- a line of the header
@@ -79,13 +109,14 @@ header_of words = None
 
 -- a call of an operation on the dictionary, which a group of mode plain has
 abbrev pub called : Mode → List ℕ → List ℕ → List (List ℕ) → Option Line
-called mode.Plain name a others = if bytes_eq name (codes "call") then call_of (word_client a) (op_of others) else None
+called mode.Plain name a others = if bytes_eq name (codes "call") then call_of (word_capped a) (op_of others) else None
 called mode.Objects name a others = None
 
 -- a line that says what happens in a group of this mode
 abbrev pub event_of : Mode → List (List ℕ) → Option Line
 event_of kind (name ∷ a ∷ []) = named name a
-event_of kind (name ∷ a ∷ others) = called kind name a others
+event_of kind (name ∷ a ∷ b ∷ []) = paired name a b
+event_of kind (name ∷ a ∷ b ∷ c ∷ others) = called kind name a (b ∷ c ∷ others)
 event_of kind words = None
 
 abbrev pub or_line : Option Line → Option Line → Option Line

@@ -1,5 +1,6 @@
 -- The run of a script: its lines done one after the other, up to the first bad one.
-use Rattle.std.specs.Prelude.{ℕ, ◌+◌, List, [], ◌∷◌, ◌++◌, length, take, replicate, Option, Some, None, nat_lt, if◌then◌else◌, min}
+use Rattle.std.specs.Prelude.{ℕ, ◌+◌, Bool, true, List, [], ◌∷◌, ◌++◌, length, take, replicate, Option, Some, None, nat_lt, if◌then◌else◌, min}
+use Rattle.std.specs.List.{list_all}
 use Rattle.vic_dict.specs.declared.op.Mode.{Mode}
 use Rattle.vic_dict.specs.declared.op.Mode.TheVariants as mode
 use Rattle.vic_wire.specs.Hashes.{Group}
@@ -7,7 +8,8 @@ use Rattle.vic_rules.specs.declared.trace.TraceStep.{TraceStep}
 use Rattle.vic_script.specs.declared.line.Line.{Line}
 use Rattle.vic_script.specs.declared.line.Line.TheVariants as line
 use Rattle.vic_script.specs.Lines.{lines_of, line_of}
-use Rattle.vic_script.specs.Scenes.{Scene, Shown, opening, done_line, bad_kind}
+use Rattle.vic_order.specs.Serving.{by_rule}
+use Rattle.vic_script.specs.Scenes.{Scene, Shown, opening, done_line, bad_kind, is_honest_line}
 
 -- the most bytes that a script may have
 abbrev pub limit : ℕ
@@ -49,7 +51,7 @@ try_line None None = Fails 1
 try_line None (Some (line.Clients n)) = Does (opening (plain_group n)) []
 try_line None (Some l) = Fails 1
 try_line (Some s) None = Fails 1
-try_line (Some s) (Some l) = tried_by (bad_kind s l) (done_line s l)
+try_line (Some s) (Some l) = tried_by (bad_kind s l) (done_line by_rule s l)
 
 -- the mode, once it is known
 abbrev pub mode_in : Option Scene → Option Mode
@@ -76,6 +78,16 @@ play total before n scene (text ∷ texts) =
 -- the run of a script; what stands behind the byte past the limit doesn't matter
 unfoldable pub run_of : List ℕ → Played
 run_of script = let known = take (limit + 1) script in play (length known) 0 1 None (lines_of known)
+
+-- ---- honest scripts
+
+abbrev pub is_honest : Option Line → Bool
+is_honest None = true
+is_honest (Some l) = is_honest_line l
+
+-- no line of a script tampers with what the one server answers
+abbrev pub is_honest_script : List ℕ → Bool
+is_honest_script script = list_all (λ text. is_honest (line_of (Some mode.Plain) text)) (lines_of (take (limit + 1) script))
 
 -- ---- what a run tells
 

@@ -58,9 +58,9 @@ is_number (c ∷ cs) = list_all is_digit (c ∷ cs) && (not (nat_eq c 48) || nat
 abbrev pub word_number : List ℕ → Option ℕ
 word_number word = if is_number word then Some (number_of word) else None
 
--- a client's number, of which those past the type's end stand as its last
-abbrev pub word_client : List ℕ → Option ℕ
-word_client word = if is_number word then Some (min (number_of word) 4294967295) else None
+-- a number of four bytes, of which those past the end stand as the last
+abbrev pub word_capped : List ℕ → Option ℕ
+word_capped word = if is_number word then Some (min (number_of word) 4294967295) else None
 
 -- ---- what is printed
 

@@ -1,8 +1,9 @@
 //! The lines of a script.
 
-use vic_dict::Op;
+use vic_dict::{Bytes, Op};
 
-/// One line of a script. A client number over 4,294,967,295 stands as that number.
+/// One line of a script. A number of a client, of a server that is copied or moved to, or of a byte that is over 4,294,967,295
+/// stands as that number.
 #[derive(Debug, Drop)]
 pub enum Line {
     /// The header of a group of so many clients.
@@ -13,10 +14,22 @@ pub enum Line {
     Poll(u32),
     /// A client asks for the entries that it doesn't know.
     Sync(u32),
-    /// The server serves the oldest request of a client.
+    /// The server of a client serves its oldest request.
     Serve(u32),
     /// A client takes its oldest answer.
     Take(u32),
     /// Serve and take in turn, while requests wait.
     Run(u32),
+    /// A client takes a payload that the script gives.
+    Give(u32, Bytes),
+    /// A client takes once more the payload that it took last.
+    Again(u32),
+    /// A client takes its oldest answer with the lowest bit of one byte changed; bytes are counted from 0.
+    Flip(u32, u32),
+    /// The payload that a client sent last joins its requests again.
+    Resend(u32),
+    /// A server is copied; the copy is the server of the second number, from 1 to 4, from now on.
+    Copy(u32, u8),
+    /// A client is served by a server from now on.
+    Move(u32, u32),
 }

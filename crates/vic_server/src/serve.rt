@@ -1,8 +1,7 @@
 //! Servers of any kind: what they are is a state, and one function of it gives the answers.
 
-ghost use Rattle.std.specs.Prelude.{◌≡◌, ℕ, List, IfOk, OnErr};
-ghost use Rattle.vic_wire.specs.Messages.{answer_text};
-ghost use Rattle.vic_order.specs.Order.{serve};
+ghost use Rattle.std.specs.Prelude.{◌≡◌, IfOk, OnErr};
+ghost use Rattle.vic_order.specs.Serving.{Serving, by_rule};
 
 use crate::change::Plan;
 use crate::rows::{Commit, Row, SealRow, Seat};
@@ -19,10 +18,9 @@ pub trait Serve {
     ghost state: { Self → Self.State };
 
     // The answer to a payload of a client at a seat, and the state after it.
-    ghost answers: { Self.State → ℕ → ℕ → List ℕ → List ℕ };
+    ghost rule: { Serving Self.State };
 
-    ghost becomes: { Self.State → ℕ → ℕ → List ℕ → Self.State };
-
+    /// Serves one payload. Where memory runs out, nothing has changed.
     fn serve(
         &mut self,
         alloc: Global,
@@ -30,9 +28,10 @@ pub trait Serve {
         who: u8,
         payload: &[u8],
     ) -> Result<Bytes, NoMemory>
-        ensures ok { IfOk result (λ b. (b ≡ answers (state self.old) seat who payload.now) × (state self.new ≡ becomes (state self.old) seat who payload.now)) }
+        ensures ok { IfOk result (λ b. (b ≡ (rule (state self.old) seat who payload.now).0) × (state self.new ≡ (rule (state self.old) seat who payload.now).1)) }
         ensures err { OnErr result (state self.new ≡ state self.old) };
 
+    /// A server in the same state, which from then on goes its own way.
     fn copy(&self, alloc: Global) -> Result<Self, NoMemory>
         ensures { IfOk result (λ made. state made ≡ state self.now) };
 }
@@ -42,9 +41,7 @@ impl Serve for Served {
 
     ghost state = { λ s. s };
 
-    ghost answers = { λ s seat who payload. answer_text (serve s who payload).answer };
-
-    ghost becomes = { λ s seat who payload. (serve s who payload).next };
+    ghost rule = { by_rule };
 
     /// One request, as `step` serves it; the answer is encoded before anything changes.
     fn serve(

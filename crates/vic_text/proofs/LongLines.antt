@@ -1,9 +1,7 @@
 -- Lines of more words than two, and operations of more words than three.
-use Rattle.std.proofs.Common.{◌≡◌, ℕ, List, [], ◌∷◌, Some, None, refl, codes, if◌then◌else◌, nat_eq, true, false}
-use Rattle.std.specs.Str.{bytes_eq}
-use Rattle.vic_dict.specs.declared.op.Mode.TheVariants as mode
-use Rattle.vic_script.specs.Words.{word_client}
-use Rattle.vic_script.specs.Lines.{words_of, put_first, header_of, op_of, call_of, line_in}
+use Rattle.std.proofs.Common.{◌≡◌, ℕ, List, [], ◌∷◌, None, refl, if◌then◌else◌, nat_eq, true, false}
+use Rattle.vic_dict.specs.declared.op.Mode.{Mode}
+use Rattle.vic_script.specs.Lines.{words_of, put_first, header_of, op_of, called, event_of}
 
 -- every text has a word, though it may be empty
 pub put_first_some : (b : ℕ) (pieces : List (List ℕ)) → (w : List ℕ) × (ws : List (List ℕ)) × (put_first b pieces ≡ w ∷ ws)
@@ -18,15 +16,13 @@ words_some (b ∷ bs) = elim (nat_eq b 32) as (λ t. (w : List ℕ) × (ws : Lis
   | false ↦ put_first_some b (words_of bs)
 ]
 
+-- a line of more words than two is no header
 pub header_more : (name number text : List ℕ) → header_of (name ∷ number ∷ words_of text) ≡ None
 header_more name number text = let some = words_some text in rw some.2 refl
 
-pub call_more : (name number text : List ℕ)
-    → line_in (Some mode.Plain) (name ∷ number ∷ words_of text) ≡ (if bytes_eq name (codes "call") then call_of (word_client number) (op_of (words_of text)) else None)
-call_more name number text = let some = words_some text in rw some.2 refl
-
-pub none_more : (name number text : List ℕ) → line_in (Some mode.Objects) (name ∷ number ∷ words_of text) ≡ None
-none_more name number text = let some = words_some text in rw some.2 refl
+-- and one of four words or more can only be a call
+pub event_long : (kind : Mode) (name number third text : List ℕ) → event_of kind (name ∷ number ∷ third ∷ words_of text) ≡ called kind name number (third ∷ words_of text)
+event_long kind name number third text = let some = words_some text in rw some.2 refl
 
 pub op_of_four : (name a b text : List ℕ) → op_of (name ∷ a ∷ b ∷ words_of text) ≡ None
 op_of_four name a b text = let some = words_some text in rw some.2 refl

@@ -12,3 +12,6 @@ pub use print::{op_text, outcome_text, put_number, put_op, put_outcome};
 pub use read::{LineFault, read_line};
 pub use vic_script::Line;
 pub use word::split_line;
+
+#[cfg(test)]
+mod tests;

@@ -1,9 +1,8 @@
 //! Reading a line of a script.
 
-ghost use Rattle.std.specs.Prelude.{◌≡◌, [], ◌∷◌, IfOk, Some, None, codes, if◌then◌else◌};
-ghost use Rattle.std.specs.Str.{bytes_eq};
-ghost use Rattle.vic_script.specs.Words.{word_number, word_client};
-ghost use Rattle.vic_script.specs.Lines.{words_of, within as within_of, key_of, value_of, prefix_of, op_of, call_of, named, clients_of, header_of, line_in, line_of as line_by};
+ghost use Rattle.std.specs.Prelude.{◌≡◌, [], ◌∷◌, IfOk, Some, None};
+ghost use Rattle.vic_script.specs.Words.{word_bytes, word_number, word_capped};
+ghost use Rattle.vic_script.specs.Lines.{words_of, within as within_of, key_of, value_of, prefix_of, op_of, named, give_of, pair_of, copy_of, paired, called, clients_of, header_of, line_in, line_of as line_by};
 
 use crate::word::{bytes_of, is_name, number_of, split_word};
 use std::alloc::Global;
@@ -106,13 +105,17 @@ fn named_line(name: &[u8], number: &[u8]) -> Option<Line>
         number_of(number).map(Line::Take)
     } else if is_name(name, b"run") {
         number_of(number).map(Line::Run)
+    } else if is_name(name, b"again") {
+        number_of(number).map(Line::Again)
+    } else if is_name(name, b"resend") {
+        number_of(number).map(Line::Resend)
     } else {
         None
     }
 }
 
 /// A line of more than two words, of which the third and later ones are given as one text.
-#[tactic(auto, using(crate::proofs::LongLines::header_more, crate::proofs::LongLines::call_more, crate::proofs::LongLines::none_more))]
+#[tactic(auto, using(crate::proofs::LongLines::header_more, crate::proofs::LongLines::event_long))]
 fn more_words(
     alloc: Global,
     name: &[u8],
@@ -122,39 +125,101 @@ fn more_words(
 ) -> Result<Option<Line>, NoMemory>
     ensures { IfOk result (λ o. o ≡ line_in mode (name.now ∷ number.now ∷ words_of words.now)) }
 {
-    match mode {
-        Some(Mode::Plain) => call_line(alloc, name, number, words),
+    let Some(kind) = mode else {
+        return Ok(None);
+    };
+    match split_word(words) {
+        None => paired_line(alloc, name, number, words),
+        Some((third, others)) => called_line(alloc, kind, name, number, third, others),
+    }
+}
+
+/// A line of one name and two words.
+fn paired_line(
+    alloc: Global,
+    name: &[u8],
+    first: &[u8],
+    second: &[u8],
+) -> Result<Option<Line>, NoMemory>
+    ensures { IfOk result (λ o. o ≡ paired name.now first.now second.now) }
+{
+    if is_name(name, b"give") {
+        give_line(alloc, first, second)
+    } else if is_name(name, b"flip") {
+        Ok(flip_line(first, second))
+    } else if is_name(name, b"copy") {
+        Ok(copy_line(first, second))
+    } else if is_name(name, b"move") {
+        Ok(move_line(first, second))
+    } else {
+        Ok(None)
+    }
+}
+
+/// A payload may have any length; the cost is the length of its word.
+fn give_line(alloc: Global, client: &[u8], payload: &[u8]) -> Result<Option<Line>, NoMemory>
+    ensures { IfOk result (λ o. o ≡ give_of (word_capped client.now) (word_bytes payload.now)) }
+{
+    match (number_of(client), bytes_of(alloc, payload)?) {
+        (Some(client), Some(payload)) => Ok(Some(Line::Give(client, payload))),
         _ => Ok(None),
     }
 }
 
-fn call_line(
-    alloc: Global,
-    name: &[u8],
-    number: &[u8],
-    words: &[u8],
-) -> Result<Option<Line>, NoMemory>
-    ensures { IfOk result (λ o. o ≡ (if bytes_eq name.now (codes "call") then call_of (word_client number.now) (op_of (words_of words.now)) else None)) }
+fn flip_line(client: &[u8], byte: &[u8]) -> Option<Line>
+    ensures { result ≡ pair_of Line.Flip (word_capped client.now) (word_capped byte.now) }
 {
-    if !is_name(name, b"call") {
+    match (number_of(client), number_of(byte)) {
+        (Some(client), Some(byte)) => Some(Line::Flip(client, byte)),
+        _ => None,
+    }
+}
+
+fn move_line(client: &[u8], server: &[u8]) -> Option<Line>
+    ensures { result ≡ pair_of Line.Move (word_capped client.now) (word_capped server.now) }
+{
+    match (number_of(client), number_of(server)) {
+        (Some(client), Some(server)) => Some(Line::Move(client, server)),
+        _ => None,
+    }
+}
+
+fn copy_line(server: &[u8], copy: &[u8]) -> Option<Line>
+    ensures { result ≡ copy_of (word_capped server.now) (word_number copy.now) }
+{
+    match (number_of(server), number_of(copy)) {
+        (Some(server), Some(copy)) => {
+            if 0 < copy && copy <= 4 {
+                Some(Line::Copy(server, copy as u8))
+            } else {
+                None
+            }
+        }
+        _ => None,
+    }
+}
+
+/// A line that calls an operation, whose name is the third word; the words behind it are given as one text.
+fn called_line(
+    alloc: Global,
+    kind: Mode,
+    name: &[u8],
+    client: &[u8],
+    op_name: &[u8],
+    others: &[u8],
+) -> Result<Option<Line>, NoMemory>
+    ensures { IfOk result (λ o. o ≡ called kind name.now client.now (op_name.now ∷ words_of others.now)) }
+{
+    if kind != Mode::Plain || !is_name(name, b"call") {
         return Ok(None);
     }
-    match (number_of(number), read_op(alloc, words)?) {
+    match (number_of(client), op_of_words(alloc, op_name, others)?) {
         (Some(client), Some(op)) => Ok(Some(Line::Call(client, op))),
         _ => Ok(None),
     }
 }
 
-/// The operation that words name.
-fn read_op(alloc: Global, words: &[u8]) -> Result<Option<Op>, NoMemory>
-    ensures { IfOk result (λ o. o ≡ op_of (words_of words.now)) }
-{
-    match split_word(words) {
-        None => Ok(None),
-        Some((name, others)) => op_of_words(alloc, name, others),
-    }
-}
-
+/// The operation of this name on the words of a text.
 fn op_of_words(alloc: Global, name: &[u8], others: &[u8]) -> Result<Option<Op>, NoMemory>
     ensures { IfOk result (λ o. o ≡ op_of (name.now ∷ words_of others.now)) }
 {

@@ -3,7 +3,7 @@
 ghost use Rattle.std.specs.Prelude.{◌≡◌, ◌<◌, ◌+◌, [], ◌∷◌, length, MatchOption, IfSome, IfOk, IsTrue, min, not, nat_eq, ◌||◌, None, Some, if◌then◌else◌};
 ghost use Rattle.std.specs.List.{list_all};
 ghost use Rattle.std.specs.Str.{bytes_eq};
-ghost use Rattle.vic_script.specs.Words.{is_plain as plain_test, is_lower_hex as hex_test, is_digit as digit_test, is_number as number_test, number_of as number_by, word_bytes, hex_word, word_client};
+ghost use Rattle.vic_script.specs.Words.{is_plain as plain_test, is_lower_hex as hex_test, is_digit as digit_test, is_number as number_test, number_of as number_by, word_bytes, hex_word, word_capped};
 ghost use Rattle.vic_text.specs.Splits.{IsFirstPlace};
 ghost use Rattle.vic_script.specs.Lines.{lines_of, words_of};
 
@@ -133,7 +133,7 @@ fn may_begin(first: u8, others: &[u8]) -> bool
 
 /// The number that a word spells, in decimal without leading zeros; one past the type's end stands as the last.
 pub fn number_of(word: &[u8]) -> Option<u32>
-    ensures { result ≡ word_client word.now }
+    ensures { result ≡ word_capped word.now }
 {
     if is_number(word) {
         Some(saturated(word))

@@ -1,0 +1,28 @@
+-- Servers of any kind: what one answers to a request, and what it is then.
+use Rattle.std.specs.Prelude.{◌≡◌, ℕ, List, [], ◌∷◌}
+use Rattle.vic_wire.specs.Messages.{answer_text}
+use Rattle.vic_order.specs.Order.{Server, serve}
+
+-- how a kind of server serves: from what one is, the seat of a connection, who asks and a payload, the bytes of the answer and
+-- what the server is then
+abbrev pub Serving : Type 0 → Type 0
+Serving V = V → ℕ → ℕ → List ℕ → List ℕ × V
+
+-- the kind that follows the rule; the rule doesn't ask for the seat
+abbrev pub by_rule : Serving Server
+by_rule s seat who payload = (answer_text (serve s who payload).answer, (serve s who payload).next)
+
+-- a request as it reaches a server
+pub record Request : Type 0 where
+  pub seat : ℕ
+  pub who : ℕ
+  pub payload : List ℕ
+
+-- what a server answers to requests, one after the other
+abbrev pub answers_to : {V : Type 0} → Serving V → V → List Request → List (List ℕ)
+answers_to rule v [] = []
+answers_to rule v (r ∷ later) = (rule v r.seat r.who r.payload).0 ∷ answers_to rule (rule v r.seat r.who r.payload).1 later
+
+-- whatever the requests, it answers as a server does that follows the rule
+abbrev pub AnswersAs : {V : Type 0} → Serving V → V → Server → Type 0
+AnswersAs rule v s = (requests : List Request) → answers_to rule v requests ≡ answers_to by_rule s requests
