@@ -1,6 +1,6 @@
 //! What a client keeps between two answers.
 
-ghost use Rattle.std.specs.Prelude.{◌≡◌, ◌<◌, ◌↔◌, IsTrue, [], ◌∷◌, ◌++◌, length, drop, OnOk, OnErr, slice_get, nat_lt, option_copied};
+ghost use Rattle.std.specs.Prelude.{◌≡◌, ◌<◌, ◌-◌, ◌↔◌, IsTrue, [], ◌∷◌, ◌++◌, length, take, drop, OnOk, OnErr, slice_get, nat_lt, option_copied};
 ghost use Rattle.std.specs.List.{list_all};
 ghost use Rattle.vic_checks.specs.Owns.{IsOwn};
 
@@ -85,6 +85,13 @@ impl OwnList {
         ensures { self.new ≡ drop 1 self.old }
     {
         let _ = self.items.pop_front();
+    }
+
+    /// Drops the newest call; the cost doesn't grow with the list.
+    pub fn drop_last(&mut self)
+        ensures { self.new ≡ take (length self.old - 1) self.old }
+    {
+        let _ = self.items.pop_back();
     }
 
     /// Whether all calls stand above a position.

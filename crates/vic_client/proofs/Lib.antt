@@ -1,3 +1,4 @@
 pub mod Requests
 pub mod Moved
 pub mod Windows
+pub mod Pendings

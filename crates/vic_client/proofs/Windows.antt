@@ -1,5 +1,5 @@
 -- A window that is cut back.
-use Rattle.std.proofs.Common.{◌≡◌, ℕ, suc, ◌+◌, ◌-◌, ◌≤◌, drop, ap, ◌∙◌, arith}
+use Rattle.std.proofs.Common.{◌≡◌, ℕ, suc, ◌-◌, ◌≤◌, drop, ap, arith}
 use Rattle.vic_dict.specs.declared.op.Entry.{Entry}
 use Rattle.vic_chain.specs.Held.{Held, held_length, extended, cut_to}
 

@@ -1,21 +1,40 @@
 -- What a client makes of a payload.
-use Rattle.std.specs.Prelude.{◌≡◌, ℕ, List, Option, Some, None}
+use Rattle.std.specs.Prelude.{◌≡◌, ℕ, List, [], ◌∷◌, ◌++◌, length, Option, Some, None}
 use Rattle.vic_dict.specs.declared.op.Op.{Op}
 use Rattle.vic_rules.specs.declared.state.Awaiting.{Awaiting}
 use Rattle.vic_rules.specs.declared.state.Awaiting.TheVariants as awaits
-use Rattle.vic_rules.specs.Client.{Standing, Move, halts, verdict, verdict_on, taken_or_halts}
+use Rattle.vic_rules.specs.Client.{Standing, Move, decision, replied_to, grown, is_done, verdict, verdict_on, taken_or_halts}
+use Rattle.vic_wire.specs.declared.message.Seal.{Seal}
+use Rattle.vic_wire.specs.declared.message.Tagged.{Tagged}
 use Rattle.vic_wire.specs.declared.message.ToClient.{ToClient}
+use Rattle.vic_wire.specs.Parts.{Part}
 use Rattle.vic_wire.specs.Hashes.{Group}
 use Rattle.vic_wire.specs.Reading.{read_answer}
 use Rattle.vic_checks.specs.declared.state.State.{State}
-use Rattle.vic_checks.specs.State.{StandsForState}
-use Rattle.vic_client.specs.declared.hearing.Heard.{Heard}
-use Rattle.vic_client.specs.declared.hearing.Heard.TheVariants as heard
+use Rattle.vic_checks.specs.State.{below_last}
+use Rattle.vic_client.specs.declared.pending.Effect.{Effect}
+use Rattle.vic_client.specs.declared.pending.Pending.{Pending}
+use Rattle.vic_client.specs.Kept.{Kept}
+use Rattle.vic_client.specs.Shows.{Shows}
 use Rattle.vic_client.specs.Sound.{IsSound}
-use Rattle.vic_client.specs.Moves.{ShowsStep}
+use Rattle.vic_client.specs.Pending.{CanKeep, kept, forgotten}
 
 abbrev pub IsSoundState : State → Type 0
 IsSoundState x = IsSound x.id x.count x.window x.own x.awaiting
+
+-- what a client keeps that hasn't halted, from its state and how often it called
+abbrev pub going : State → ℕ → Kept
+going x calls = record {
+  id = x.id;
+  count = x.count;
+  mode = x.mode;
+  key = x.key;
+  window = x.window;
+  own = x.own;
+  awaiting = x.awaiting;
+  calls = calls;
+  halted = None;
+}
 
 -- the operation of the call that a Reply is awaited to
 abbrev pub op_in : Awaiting → Option Op
@@ -26,10 +45,20 @@ op_in awaits.Entries = None
 op_in awaits.Kept = None
 op_in (awaits.Content h n) = None
 
--- the move is a halt, and the state is as it was; or the step shows the move
-abbrev pub Hears : State → Heard → State → Standing → Move → Type 0
-Hears old (heard.Halts k) new s v = (v ≡ halts s k) × StandsForState new s
-Hears old (heard.Goes r) new s v = ShowsStep old r new v
+-- a step with this effect is pending in the state: it can be kept, and to forget it gives the old state back
+pub record IsPendingIn (old : State) (e : Effect) (new : State) : Type 0 where
+  pub can : (calls : ℕ) → CanKeep e (going new calls)
+  pub back : (calls : ℕ) → forgotten e (going new calls) ≡ going old calls
+
+-- the pending step shows the move, once it is kept
+abbrev pub Hears : State → Pending → State → Standing → Move → Type 0
+Hears old p new s v = Shows (going old s.calls) p.step (kept p.effect (going new s.calls)) v
+
+-- the move after a Reply to the call of this operation
+abbrev pub reply_move : ℕ → Standing → Seal → List Tagged → Part → Op → Move
+reply_move me s seal entries part o =
+    let ends = decision me s (below_last s entries) seal.position part o in
+    replied_to s (grown s entries) seal.position seal.root.bytes (s.own ++ record { position = length (grown s entries); op = o; done = is_done ends } ∷ []) ends
 
 -- the move at what a payload spells, by the verdict on it
 abbrev pub judged_move : Group → ℕ → Standing → Option ToClient → Move

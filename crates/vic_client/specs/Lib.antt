@@ -1,5 +1,5 @@
 pub mod Kept
 pub mod Shows
 pub mod Sound
-pub mod Moves
+pub mod Pending
 pub mod Hearing

@@ -1,15 +1,17 @@
 //! The client.
 
-ghost use Rattle.std.specs.Prelude.{◌≡◌, ◌<◌, ◌≤◌, ◌+◌, ◌^◌, ℕ, IsTrue, IfOk, OnOk, OnErr, Ok, Some, None, length};
+ghost use Rattle.std.specs.Prelude.{◌≡◌, ◌<◌, ◌≤◌, ◌+◌, ◌^◌, ℕ, IsTrue, IsSome, IfOk, OnOk, OnErr, Ok, Some, None, length};
 ghost use Rattle.vic_dict.specs.Dictionary.{Fits};
-ghost use Rattle.vic_chain.specs.Held.{held_length};
+ghost use Rattle.vic_chain.specs.Held.{held_length, advanced};
 ghost use Rattle.vic_rules.specs.Client.{Standing, at_start};
 ghost use Rattle.vic_rules.specs.declared.trace.Input.TheVariants as input;
 ghost use Rattle.vic_client.specs.Kept.{StandsFor, IsSame, is_idle, group_of, move_of, sent_at};
 ghost use Rattle.vic_client.specs.Shows.{Shows};
+ghost use Rattle.vic_client.specs.Pending.{CanKeep, CanSeal, IsPendingOf, kept, forgotten};
 
-use crate::hearing::{Heard, hear};
-use crate::sending::invoke_payload;
+use crate::hearing::hear;
+use crate::pending::{Effect, Pending};
+use crate::sending::{invoke_payload, sync_payload};
 use crate::step::Step;
 use std::alloc::Global;
 use std::marker::Model;
@@ -19,7 +21,7 @@ use vic_dict::{Bytes, Mode, NoMemory, Op, Outcome};
 use vic_frames::encode_request;
 use vic_rules::Awaiting;
 use vic_tag::GroupKey;
-use vic_wire::ToServer;
+use vic_wire::{Digest32, ToServer};
 
 /// A client of a group. Contracts see what it keeps: who it is, its group, the window of its path, its own calls that aren't
 /// sealed, what it awaits, how often it called, and the check at which it halted.
@@ -66,8 +68,124 @@ impl Client {
         }
     }
 
-    /// Calls an operation: the payload to send. After want of memory the client is as before.
+    /// Plans to call an operation. The client doesn't change.
     #[tactic(auto, unfolding(vic_rules::specs::Client::step))]
+    pub fn plan_call(&self, alloc: Global, op: &Op) -> Result<Pending, NoMemory>
+        requires idle { IsTrue (is_idle self.now) }
+        requires plain { self.now.mode ≡ Mode.Plain }
+        requires fits { Fits op.now }
+        requires few { self.now.calls + 1 < 2 ^ 32 }
+        ensures planned { IfOk result (λ p. IsPendingOf self.now p self.now (input.Call op.now)) }
+        ensures sends { IfOk result (λ p. IsSome p.step.send) }
+    {
+        let seq = self.calls + 1;
+        let sent = invoke_payload(alloc, &self.state, seq, op)?;
+        let op = op.copy(alloc)?;
+        Ok(Pending::asks(sent, Awaiting::Reply(seq, op, false), seq))
+    }
+
+    /// Plans to ask whether it is the client's turn to seal. The client doesn't change.
+    #[tactic(auto, unfolding(vic_rules::specs::Client::step))]
+    pub fn plan_poll(&self, alloc: Global) -> Result<Pending, NoMemory>
+        requires { IsTrue (is_idle self.now) }
+        ensures planned { IfOk result (λ p. IsPendingOf self.now p self.now input.Poll) }
+        ensures sends { IfOk result (λ p. IsSome p.step.send) }
+    {
+        let sent = encode_request(alloc, &ToServer::Poll)?;
+        Ok(Pending::asks(sent, Awaiting::Turn, self.calls))
+    }
+
+    /// Plans to ask for the entries that the client doesn't know. The client doesn't change.
+    #[tactic(auto, unfolding(vic_rules::specs::Client::step))]
+    pub fn plan_sync(&self, alloc: Global) -> Result<Pending, NoMemory>
+        requires { IsTrue (is_idle self.now) }
+        ensures planned { IfOk result (λ p. IsPendingOf self.now p self.now input.Sync) }
+        ensures sends { IfOk result (λ p. IsSome p.step.send) }
+    {
+        let sent = sync_payload(alloc, &self.state)?;
+        Ok(Pending::asks(sent, Awaiting::Entries, self.calls))
+    }
+
+    /// Hears a payload that is said to come from the server, whatever it holds: the step is pending until it is kept or
+    /// forgotten. A halted client answers the same number again. After want of memory the client is as before, and the payload
+    /// may be given again.
+    pub fn hear(&mut self, alloc: Global, payload: &[u8]) -> Result<Pending, NoMemory>
+        ensures heard { IfOk result (λ p. IsPendingOf self.old p self.new (input.Payload payload.now)) }
+        ensures halted { (k : ℕ) → self.old.halted ≡ Some k
+            → (result ≡ Ok (record { step = record { send = None; returned = Some (Outcome.Halted k) }; effect = Effect.Stays })) × (self.new ≡ self.old) }
+        ensures err { OnErr result (self.new ≡ self.old) }
+    {
+        match self.halted {
+            Some(check) => Ok(Pending::stays(check)),
+            None => hear(alloc, &mut self.state, payload),
+        }
+    }
+
+    /// Keeps the step that is pending: it is made. It takes no memory; it costs what the entries cost that it seals.
+    pub fn keep(&mut self, pending: Pending) -> Step
+        requires { CanKeep pending.effect self.old }
+        ensures client { self.new ≡ kept pending.effect self.old }
+        ensures step { result ≡ pending.step }
+    {
+        let Pending { step, effect } = pending;
+        self.become_kept(effect);
+        step
+    }
+
+    // What keeping a step makes of the client.
+    fn become_kept(&mut self, effect: Effect)
+        requires { CanKeep effect self.old }
+        ensures { self.new ≡ kept effect self.old }
+    {
+        match effect {
+            Effect::Stays => (),
+            Effect::Halts(check) => self.halted = Some(check),
+            Effect::Asks { awaiting, calls } => {
+                self.state.awaiting = awaiting;
+                self.calls = calls;
+            }
+            Effect::Rests => self.state.awaiting = Awaiting::Nothing,
+            Effect::Replies { position, root, .. } => {
+                seal_to(&mut self.state, position, &root, Awaiting::Turn);
+            }
+            Effect::Seals { position, root } => {
+                seal_to(&mut self.state, position, &root, Awaiting::Turn);
+                self.state.own.drop_first();
+            }
+            Effect::Lists { position, root, .. } => {
+                seal_to(&mut self.state, position, &root, Awaiting::Nothing);
+            }
+        }
+    }
+
+    // Keeps a pending step that sends a payload: the payload.
+    fn keep_sent(&mut self, pending: Pending) -> Bytes
+        requires can { CanKeep pending.effect self.old }
+        requires sends { IsSome pending.step.send }
+        ensures client { self.new ≡ kept pending.effect self.old }
+        ensures sent { Some result ≡ pending.step.send }
+    {
+        self.keep(pending).send.unwrap()
+    }
+
+    /// Forgets the step that is pending: the client is as before it was planned or heard. It takes no memory; it costs what the
+    /// entries cost that came onto the path.
+    pub fn forget(&mut self, pending: Pending)
+        requires { CanKeep pending.effect self.old }
+        ensures { self.new ≡ forgotten pending.effect self.old }
+    {
+        match pending.effect {
+            Effect::Replies { length, .. } => {
+                self.state.window.cut_back(length);
+                self.state.own.drop_last();
+            }
+            Effect::Lists { length, .. } => self.state.window.cut_back(length),
+            _ => (),
+        }
+    }
+
+    /// Calls an operation: the payload to send. After want of memory the client is as before.
+    #[tactic(auto, using(crate::proofs::Pendings::stands_kept))]
     pub fn invoke(&mut self, alloc: Global, op: &Op) -> Result<Bytes, NoMemory>
         requires idle { IsTrue (is_idle self.old) }
         requires plain { self.old.mode ≡ Mode.Plain }
@@ -78,16 +196,12 @@ impl Client {
         ensures sent { (s : Standing) → StandsFor self.old s → IfOk result (λ b. Some b ≡ sent_at self.old (move_of self.old s (input.Call op.now))) }
         ensures stands { (s : Standing) → StandsFor self.old s → OnOk result (StandsFor self.new (move_of self.old s (input.Call op.now)).next) }
     {
-        let seq = self.calls + 1;
-        let sent = invoke_payload(alloc, &self.state, seq, op)?;
-        let op = op.copy(alloc)?;
-        self.calls = seq;
-        self.state.awaiting = Awaiting::Reply(seq, op, false);
-        Ok(sent)
+        let pending = self.plan_call(alloc, op)?;
+        Ok(self.keep_sent(pending))
     }
 
     /// Asks whether it is the client's turn to seal: the payload to send. After want of memory the client is as before.
-    #[tactic(auto, unfolding(vic_rules::specs::Client::step))]
+    #[tactic(auto, using(crate::proofs::Pendings::stands_kept))]
     pub fn poll(&mut self, alloc: Global) -> Result<Bytes, NoMemory>
         requires { IsTrue (is_idle self.old) }
         ensures same { IsSame self.old self.new }
@@ -95,13 +209,12 @@ impl Client {
         ensures sent { (s : Standing) → StandsFor self.old s → IfOk result (λ b. Some b ≡ sent_at self.old (move_of self.old s input.Poll)) }
         ensures stands { (s : Standing) → StandsFor self.old s → OnOk result (StandsFor self.new (move_of self.old s input.Poll).next) }
     {
-        let sent = encode_request(alloc, &ToServer::Poll)?;
-        self.state.awaiting = Awaiting::Turn;
-        Ok(sent)
+        let pending = self.plan_poll(alloc)?;
+        Ok(self.keep_sent(pending))
     }
 
     /// Asks for the entries that the client doesn't know: the payload to send. After want of memory the client is as before.
-    #[tactic(auto, unfolding(vic_rules::specs::Client::step))]
+    #[tactic(auto, using(crate::proofs::Pendings::stands_kept))]
     pub fn sync(&mut self, alloc: Global) -> Result<Bytes, NoMemory>
         requires { IsTrue (is_idle self.old) }
         ensures same { IsSame self.old self.new }
@@ -109,10 +222,8 @@ impl Client {
         ensures sent { (s : Standing) → StandsFor self.old s → IfOk result (λ b. Some b ≡ sent_at self.old (move_of self.old s input.Sync)) }
         ensures stands { (s : Standing) → StandsFor self.old s → OnOk result (StandsFor self.new (move_of self.old s input.Sync).next) }
     {
-        let known = self.state.window.length();
-        let sent = encode_request(alloc, &ToServer::Sync(known))?;
-        self.state.awaiting = Awaiting::Entries;
-        Ok(sent)
+        let pending = self.plan_sync(alloc)?;
+        Ok(self.keep_sent(pending))
     }
 
     /// Takes a payload that is said to come from the server, whatever it holds. A halted client answers the same number again.
@@ -123,16 +234,8 @@ impl Client {
         ensures halted { (k : ℕ) → self.old.halted ≡ Some k → (result ≡ Ok (record { send = None; returned = Some (Outcome.Halted k) })) × (self.new ≡ self.old) }
         ensures err { OnErr result (self.new ≡ self.old) }
     {
-        match self.halted {
-            Some(check) => Ok(halted_step(check)),
-            None => match hear(alloc, &mut self.state, payload)? {
-                Heard::Goes(step) => Ok(step),
-                Heard::Halts(check) => {
-                    self.halted = Some(check);
-                    Ok(halted_step(check))
-                }
-            },
-        }
+        let pending = self.hear(alloc, payload)?;
+        Ok(self.keep(pending))
     }
 
     /// Its number in the group.
@@ -203,12 +306,11 @@ impl Client {
     }
 }
 
-// The step of a client that halts, or had halted.
-fn halted_step(check: u8) -> Step
-    ensures { result ≡ record { send = None; returned = Some (Outcome.Halted check) } }
+// Moves the seal of the window; what is awaited then.
+fn seal_to(state: &mut State, position: u32, root: &Digest32, awaiting: Awaiting)
+    requires { CanSeal state.old.window position }
+    ensures { state.new ≡ record state.old { window = advanced state.old.window position root.now.bytes; awaiting = awaiting } }
 {
-    Step {
-        send: None,
-        returned: Some(Outcome::Halted(check)),
-    }
+    state.window.advance(position, root);
+    state.awaiting = awaiting;
 }

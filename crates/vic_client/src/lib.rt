@@ -3,15 +3,20 @@
 //! Its rule is `step` of `vic_rules` (`specs/Client.antt`). A client keeps only what lies above its highest seal, so its
 //! contracts speak of each standing that it stands for (`StandsFor` of `specs/Kept.antt`): from whatever standing, the call
 //! shows the move that the rule makes there, and stands for where it leads.
+//!
+//! Each call can be made in two phases: the step is planned or heard, which may take memory, and is then kept or forgotten, which
+//! takes none and can't fail (`IsPendingOf` of `specs/Pending.antt`).
 #![tactic(auto)]
 
 pub mod client;
 mod hearing;
+pub mod pending;
 mod sending;
 pub mod step;
 mod taking;
 
 pub use client::Client;
+pub use pending::Pending;
 pub use step::Step;
 
 #[cfg(test)]

@@ -6,7 +6,7 @@ ghost use Rattle.vic_wire.specs.Texts.{invoke_text, commit_text, seal_text};
 ghost use Rattle.vic_wire.specs.Hashes.{tag_of};
 ghost use Rattle.vic_wire.specs.Messages.{request_text};
 ghost use Rattle.vic_chain.specs.Held.{ShowsPath, held_length};
-ghost use Rattle.vic_rules.specs.Client.{Standing, request_of, Invokes, Commits, Seals};
+ghost use Rattle.vic_rules.specs.Client.{Standing, request_of, Invokes, Commits, Seals, Syncs};
 ghost use Rattle.vic_checks.specs.State.{group_of};
 
 use sha2::Digest;
@@ -142,4 +142,13 @@ pub(crate) fn seal_payload(
             tag,
         },
     )
+}
+
+/// The Sync from the length of the path on.
+pub(crate) fn sync_payload(alloc: Global, state: &State) -> Result<Bytes, NoMemory>
+    ensures { (s : Standing) → ShowsPath (group_of state.now) s.path state.now.window
+        → IfOk result (λ b. b ≡ request_text (request_of (group_of state.now) state.now.id s Syncs)) }
+{
+    let known = state.window.length();
+    encode_request(alloc, &ToServer::Sync(known))
 }

@@ -1,6 +1,6 @@
 //! What a client makes of an answer that passed the checks.
 
-ghost use Rattle.std.specs.Prelude.{◌≡◌, ◌+◌, ◌≤◌, ◌<◌, ◌∷◌, [], ◌++◌, List, length, drop, IfOk, OnOk, OnErr};
+ghost use Rattle.std.specs.Prelude.{◌≡◌, ◌+◌, ◌≤◌, ◌<◌, ◌∷◌, [], ◌++◌, List, length, IfOk, OnOk, OnErr};
 ghost use Rattle.std.specs.List.{AllByRecursion};
 ghost use Rattle.vic_dict.specs.Dictionary.{Fits};
 ghost use Rattle.vic_wire.specs.Hashes.{Group};
@@ -10,8 +10,9 @@ ghost use Rattle.vic_wire.specs.Messages.{request_text};
 ghost use Rattle.vic_rules.specs.Client.{Standing, onto, grown, request_of, Commits, sealed_to, listed_to, new_root, is_write as writes, is_done as done_of};
 ghost use Rattle.vic_rules.specs.declared.state.Own.{Own as AnOwn};
 ghost use Rattle.vic_checks.specs.State.{group_of, StandsForState};
-ghost use Rattle.vic_client.specs.Moves.{IsMemberAs, OwnJoins, ShowsStep, reply_move};
+ghost use Rattle.vic_client.specs.Hearing.{IsSoundState, IsPendingIn, Hears, reply_move};
 
+use crate::pending::{Effect, Pending};
 use crate::sending::{commit_payload, seal_payload};
 use crate::step::Step;
 use std::alloc::Global;
@@ -19,7 +20,7 @@ use vic_chain::Window;
 use vic_checks::{State, decide};
 use vic_dict::{Bytes, NoMemory, Op, Outcome, PlainDict};
 use vic_proof::plain_root;
-use vic_rules::{Awaiting, Own};
+use vic_rules::Own;
 use vic_wire::{Digest32, Seal, Tagged, TaggedList};
 
 /// Puts the entries of an answer onto the path; where memory runs out, takes off again what it put there.
@@ -68,8 +69,9 @@ fn is_done(outcome: &Outcome) -> bool
     matches!(outcome, Outcome::Done(_))
 }
 
-/// After a Reply that passed the checks: the call is decided, its entries stand on the path, the seal is the window's, and the
-/// Commit is sent. The part is taken, since the client's own calls are done on it.
+/// After a Reply that passed the checks: the call is decided, and the Commit is to be sent. The entries and the call stand on
+/// the path already; the seal is still to be moved, and the turn to be awaited. The part is taken, since the client's own calls
+/// are done on it.
 pub(crate) fn take_reply(
     alloc: Global,
     state: &mut State,
@@ -77,31 +79,34 @@ pub(crate) fn take_reply(
     entries: &TaggedList,
     part: PlainDict,
     op: Op,
-) -> Result<Step, NoMemory>
+) -> Result<Pending, NoMemory>
+    requires sound { IsSoundState state.old }
     requires fits { Fits op }
     requires spelled { AllByRecursion IsTagged entries.now }
+    requires some { 0 < length entries.now }
     requires above { state.old.window.sealed ≤ seal.now.position }
     requires below { seal.now.position < held_length state.old.window + length entries.now }
     requires room { held_length state.old.window + length entries.now ≤ 1048576 }
-    ensures member { IsMemberAs state.old state.new }
-    ensures length { OnOk result (held_length state.new.window ≡ held_length state.old.window + length entries.now) }
-    ensures own { OnOk result (OwnJoins state.old.own state.new.own (held_length state.old.window + length entries.now)) }
-    ensures awaiting { OnOk result (state.new.awaiting ≡ Awaiting.Turn) }
-    ensures taken { (s : Standing) → StandsForState state.old s → IfOk result (λ r. ShowsStep state.old r state.new (reply_move state.old.id s seal.now entries.now part op)) }
+    ensures sound { IsSoundState state.new }
+    ensures pending { IfOk result (λ p. IsPendingIn state.old p.effect state.new) }
+    ensures taken { (s : Standing) → StandsForState state.old s → IfOk result (λ p. Hears state.old p state.new s (reply_move state.old.id s seal.now entries.now part op)) }
     ensures err { OnErr result (state.new ≡ state.old) }
 {
     let outcome = decide(alloc, state, entries, seal.position, part, &op)?;
     let length = state.window.length();
     extend_all(&mut state.window, entries.as_slice())?;
     match own_call(alloc, state, op, is_done(&outcome)) {
-        Ok(sent) => {
-            state.window.advance(seal.position, &seal.root);
-            state.awaiting = Awaiting::Turn;
-            Ok(Step {
+        Ok(sent) => Ok(Pending {
+            step: Step {
                 send: Some(sent),
                 returned: Some(outcome),
-            })
-        }
+            },
+            effect: Effect::Replies {
+                length,
+                position: seal.position,
+                root: seal.root,
+            },
+        }),
         Err(NoMemory) => {
             state.window.cut_back(length);
             Err(NoMemory)
@@ -134,24 +139,21 @@ fn root_after(
     Ok(root)
 }
 
-/// After an Update that passed the checks: the first own call is sealed at the position above the seal, and the Seal is sent.
-/// The part is taken, since the call is done on it.
+/// After an Update that passed the checks: the first own call is to be sealed at the position above the seal, and the Seal to be
+/// sent. The part is taken, since the call is done on it.
 pub(crate) fn take_update(
     alloc: Global,
-    state: &mut State,
+    state: &State,
     seal: &Seal,
     part: PlainDict,
-) -> Result<Step, NoMemory>
-    requires some { 0 < length state.old.own }
-    requires above { state.old.window.sealed ≤ seal.now.position }
-    requires within { seal.now.position + 1 ≤ held_length state.old.window }
-    ensures member { IsMemberAs state.old state.new }
-    ensures length { held_length state.new.window ≡ held_length state.old.window }
-    ensures own { OnOk result (state.new.own ≡ drop 1 state.old.own) }
-    ensures awaiting { OnOk result (state.new.awaiting ≡ Awaiting.Turn) }
-    ensures err { OnErr result (state.new ≡ state.old) }
-    ensures taken { (s : Standing) (o : AnOwn) (others : List AnOwn) → StandsForState state.old s → s.own ≡ o ∷ others
-        → IfOk result (λ r. ShowsStep state.old r state.new (sealed_to s (seal.now.position + 1) (new_root o part seal.now.root.bytes) others)) }
+) -> Result<Pending, NoMemory>
+    requires sound { IsSoundState state.now }
+    requires some { 0 < length state.now.own }
+    requires above { state.now.window.sealed ≤ seal.now.position }
+    requires within { seal.now.position + 1 ≤ held_length state.now.window }
+    ensures pending { IfOk result (λ p. IsPendingIn state.now p.effect state.now) }
+    ensures taken { (s : Standing) (o : AnOwn) (others : List AnOwn) → StandsForState state.now s → s.own ≡ o ∷ others
+        → IfOk result (λ p. Hears state.now p state.now s (sealed_to s (seal.now.position + 1) (new_root o part seal.now.root.bytes) others)) }
 {
     let length = state.window.length();
     let within = seal.position < length;
@@ -160,38 +162,43 @@ pub(crate) fn take_update(
     let root = root_after(alloc, call, part, seal.root)?;
     let position = seal.position + 1;
     let sent = seal_payload(alloc, state, position, root)?;
-    state.window.advance(position, &root);
-    state.own.drop_first();
-    state.awaiting = Awaiting::Turn;
-    Ok(Step {
-        send: Some(sent),
-        returned: None,
+    Ok(Pending {
+        step: Step {
+            send: Some(sent),
+            returned: None,
+        },
+        effect: Effect::Seals { position, root },
     })
 }
 
-/// After Entries that passed the checks: they stand on the path, and their seal is the window's.
+/// After Entries that passed the checks: they stand on the path, and the window's seal is to move to theirs.
 pub(crate) fn take_entries(
     state: &mut State,
     seal: &Seal,
     entries: &TaggedList,
-) -> Result<Step, NoMemory>
+) -> Result<Pending, NoMemory>
+    requires sound { IsSoundState state.old }
     requires spelled { AllByRecursion IsTagged entries.now }
     requires above { state.old.window.sealed ≤ seal.now.position }
     requires within { seal.now.position ≤ held_length state.old.window + length entries.now }
     requires room { held_length state.old.window + length entries.now ≤ 1048576 }
-    ensures member { IsMemberAs state.old state.new }
-    ensures length { OnOk result (held_length state.new.window ≡ held_length state.old.window + length entries.now) }
-    ensures own { state.new.own ≡ state.old.own }
-    ensures awaiting { OnOk result (state.new.awaiting ≡ Awaiting.Nothing) }
+    ensures sound { IsSoundState state.new }
+    ensures pending { IfOk result (λ p. IsPendingIn state.old p.effect state.new) }
     ensures taken { (s : Standing) → StandsForState state.old s
-        → IfOk result (λ r. ShowsStep state.old r state.new (listed_to s (grown s entries.now) seal.now.position seal.now.root.bytes)) }
+        → IfOk result (λ p. Hears state.old p state.new s (listed_to s (grown s entries.now) seal.now.position seal.now.root.bytes)) }
     ensures err { OnErr result (state.new ≡ state.old) }
 {
+    let length = state.window.length();
     extend_all(&mut state.window, entries.as_slice())?;
-    state.window.advance(seal.position, &seal.root);
-    state.awaiting = Awaiting::Nothing;
-    Ok(Step {
-        send: None,
-        returned: None,
+    Ok(Pending {
+        step: Step {
+            send: None,
+            returned: None,
+        },
+        effect: Effect::Lists {
+            length,
+            position: seal.position,
+            root: seal.root,
+        },
     })
 }

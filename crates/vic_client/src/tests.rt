@@ -271,3 +271,57 @@ fn requests(rt: HostRuntime) -> Result<(), Fail> {
     assert!(rt; called.as_slice() == payload_of(alloc, digests.as_slice(), text)?.as_slice());
     Ok(())
 }
+
+// Client 1, which has made its first call.
+fn caller(alloc: Global) -> Result<Client, Fail> {
+    let mut client = Client::new(alloc, 1, 2, Mode::Plain, group_key(alloc)?);
+    call(alloc, &mut client)?;
+    Ok(client)
+}
+
+// The client hears a payload and forgets it, and then hears it and keeps its step.
+fn hear_twice(alloc: Global, client: &mut Client, payload: &[u8]) -> Result<Step, Fail> {
+    let forgotten = client.hear(alloc, payload)?;
+    client.forget(forgotten);
+    let kept = client.hear(alloc, payload)?;
+    Ok(client.keep(kept))
+}
+
+// Whether what can be asked of two clients is the same.
+fn are_alike(a: &Client, b: &Client) -> bool {
+    let paths = a.length() == b.length() && a.sealed() == b.sealed();
+    let calls = a.calls() == b.calls() && a.unsettled() == b.unsettled();
+    paths && calls && a.idle() == b.idle()
+}
+
+// Whether one client takes a payload as the other hears it, forgets it, hears it again and keeps it, and as the row says.
+fn hears_as_taken(
+    alloc: Global,
+    digests: &[Digest32],
+    taker: &mut Client,
+    hearer: &mut Client,
+    taken: &Taken,
+) -> Result<bool, Fail> {
+    let (payload, sent, ends) = taken;
+    let payload = payload_of(alloc, digests, payload)?;
+    let sent = payload_of(alloc, digests, sent)?;
+    let took = taker.take(alloc, payload.as_slice())?;
+    let heard = hear_twice(alloc, hearer, payload.as_slice())?;
+    let steps = shows(&took, sent.as_slice(), *ends) && shows(&heard, sent.as_slice(), *ends);
+    Ok(steps && are_alike(taker, hearer))
+}
+
+// A Reply and an Update that are heard and forgotten, and then heard and kept, are as if they had been taken.
+#[test]
+fn forgets_and_keeps(rt: HostRuntime) -> Result<(), Fail> {
+    let alloc = rt.alloc();
+    let digests = digests(alloc)?;
+    let mut taker = caller(alloc)?;
+    let mut hearer = caller(alloc)?;
+    let digests = digests.as_slice();
+    let replied = hears_as_taken(alloc, digests, &mut taker, &mut hearer, &STORED)?;
+    assert!(rt; replied && hearer.unsettled() == 1);
+    let updated = hears_as_taken(alloc, digests, &mut taker, &mut hearer, &SEALED)?;
+    assert!(rt; updated && hearer.unsettled() == 0);
+    Ok(())
+}

@@ -14,5 +14,5 @@ returns-clause-taken c = λ s st.
     let m = c.in_ok-message.message in
     let is = heard_is g old.id s c.args.payload.now m (verdict_on g old.id s m) (sym c.in_ok-message.ensures.exact) refl in
     let lent = c.as_ref-2.ensures.value in
-    let there = subst (λ (x : Option ToClient). IfOk c.hear_read.result (λ h. Hears old h c.hear_read.new.state s (judged_move g old.id s x))) lent (c.hear_read.ensures.taken s st) in
-    subst (λ (v : Move). IfOk c.hear_read.result (λ h. Hears old h c.hear_read.new.state s v)) (sym is) there
+    let there = subst (λ (x : Option ToClient). IfOk c.hear_read.result (λ p. Hears old p c.hear_read.new.state s (judged_move g old.id s x))) lent (c.hear_read.ensures.taken s st) in
+    subst (λ (v : Move). IfOk c.hear_read.result (λ p. Hears old p c.hear_read.new.state s v)) (sym is) there

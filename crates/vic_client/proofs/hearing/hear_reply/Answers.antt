@@ -1,23 +1,36 @@
-use Rattle.std.proofs.Common.{◌≡◌, ◌+◌, ◌∷◌, ◌++◌, [], List, length, ap, sym, subst, arith, length-append}
-use Rattle.vic_chain.specs.Held.{held_length}
-use Rattle.vic_rules.specs.declared.state.Own.{Own}
+use Rattle.std.proofs.Common.{◌≡◌, ◌<◌, Option, Some, length, IfOk, sym, ap, ◌∙◌, subst, arith}
+use Rattle.vic_wire.specs.Parts.{Part}
 use Rattle.vic_rules.specs.declared.state.Awaiting.{Awaiting}
-use Rattle.vic_client.specs.Sound.{AwaitsFit, OwnWithin}
-use Rattle.vic_client.proofs.Moved.{own_grows, own_joins}
+use Rattle.vic_rules.specs.Client.{Move, halts, grown, replied}
+use Rattle.vic_checks.proofs.Paths.{length-onto}
+use Rattle.vic_client.specs.Hearing.{Hears, op_in}
+use Rattle.vic_client.proofs.Moved.{replied_is, replied_bare, replied_unasked}
+use Rattle.vic_client.proofs.Pendings.{hears_halts}
+use Rattle.vic_client.proofs.hearing.hear_reply.Goals.{in_default-via-in-Some+in_default, in_default-via-in_default}
 use Rattle.vic_client.proofs.hearing.hear_reply.Goals as goal
 
-pub returns-in_ok-take_reply-in-Some-Some-clause-sound : goal.returns-in_ok-take_reply-in-Some-Some-clause-sound
-returns-in_ok-take_reply-in-Some-Some-clause-sound c =
+pub returns-in-Some-Some-clause-taken : goal.returns-in-Some-Some-clause-taken
+returns-in-Some-Some-clause-taken c = λ s st.
     let old = c.args.state.now in
-    let new = c.take_reply.new.state in
-    let made = c.in_ok-take_reply-in-Some-Some.ensures in
-    let position = held_length old.window + length c.args.entries.now in
-    let joined : Own = record { position = position; op = made.own.op; done = made.own.done } in
-    let size : length new.own ≡ length (old.own ++ joined ∷ []) = ap (λ (l : List Own). length l) made.own.is in
-    record {
-      member = (rw made.member.id c.requires.sound.member.0, (rw (made.member.id, made.member.count) c.requires.sound.member.1.0, rw made.member.count c.requires.sound.member.1.1));
-      awaited = subst (λ (a : Awaiting). AwaitsFit a) (sym made.awaiting) tt;
-      within = subst (λ (l : List Own). OwnWithin (held_length new.window) l) (sym made.own.is)
-          (own_joins (held_length new.window) old.own joined (own_grows (held_length old.window) (held_length new.window) old.own (omega (arith, made.length)) c.requires.sound.within) (omega (arith, made.length)));
-      few = omega (arith, size, length-append old.own (joined ∷ []), c.requires.sound.few, made.length, c.requires.spelled.1.0);
-    }
+    let seal = c.args.seal.now in
+    let entries = c.args.entries.now in
+    let op = c.in-Some-Some.op in
+    let asked : op_in s.awaiting ≡ Some op = ap (λ (a : Awaiting). op_in a) st.awaiting ∙ sym c.in_ok-op.ensures ∙ c.in-Some-Some.is-0 in
+    let some : 0 < length (grown s entries) = omega (arith, length-onto entries s.path, c.requires.spelled.1.0) in
+    let is = replied_is old.id s seal entries c.in-Some-Some.part s.awaiting op some asked in
+    subst (λ (part : Option Part). IfOk c.take_reply.result (λ p. Hears old p c.take_reply.new.state s (replied old.id s seal (grown s entries) part s.awaiting))) (sym c.in-Some-Some.is-1)
+    (subst (λ (v : Move). IfOk c.take_reply.result (λ p. Hears old p c.take_reply.new.state s v)) (sym is) (c.take_reply.ensures.taken s st))
+
+pub returns-in_default-clause-taken : goal.returns-in_default-clause-taken
+returns-in_default-clause-taken c = λ s st.
+    let me = c.args.state.now.id in
+    let seal = c.args.seal.now in
+    let path = grown s c.args.entries.now in
+    let v = replied me s seal path c.args.part s.awaiting in
+    let asked : op_in s.awaiting ≡ c.in_ok-op.field-0 = ap (λ (a : Awaiting). op_in a) st.awaiting ∙ sym c.in_ok-op.ensures in
+    let halting : v ≡ halts s 1 = elim c.in_default.branch [
+      | in_default-via-in-Some+in_default w ↦
+          ap (λ (part : Option Part). replied me s seal path part s.awaiting) w.in_default.is-1 ∙ replied_bare me s seal path s.awaiting
+      | in_default-via-in_default w ↦ replied_unasked me s seal path c.args.part s.awaiting (asked ∙ w.in_default.is-0)
+    ] in
+    hears_halts c.args.state.now c.halts.result s v 1 c.halts.ensures st halting

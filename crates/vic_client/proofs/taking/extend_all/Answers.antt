@@ -1,9 +1,9 @@
-use Rattle.std.proofs.Common.{◌≡◌, ℕ, List, sym, ap, ◌∙◌, subst, arith}
+use Rattle.std.proofs.Common.{ℕ, List, sym, ap, ◌∙◌, subst, arith}
 use Rattle.vic_dict.specs.declared.op.Entry.{Entry}
 use Rattle.vic_chain.specs.Held.{Held, ShowsPath, held_length, cut_to}
 use Rattle.vic_checks.proofs.Walks.{found_at}
 use Rattle.vic_checks.proofs.Paths.{onto_more}
-use Rattle.vic_client.proofs.Windows.{cut_whole, cut_extended}
+use Rattle.vic_client.proofs.Windows.{cut_extended}
 use Rattle.vic_client.proofs.taking.extend_all.Goals as goal
 
 pub loop-item-preserved : goal.loop-item-preserved
