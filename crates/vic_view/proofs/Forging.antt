@@ -100,7 +100,7 @@ within_hashes g h all every same r hashes slice same_slice are client le =
 
 -- ---- the loop
 
-any_same : (f k : List ℕ → Bool) → ((t : List ℕ) → f t ≡ k t) → (ts : List (List ℕ)) → list_any f ts ≡ list_any k ts
+pub any_same : (f k : List ℕ → Bool) → ((t : List ℕ) → f t ≡ k t) → (ts : List (List ℕ)) → list_any f ts ≡ list_any k ts
 any_same f k same [] = refl
 any_same f k same (t ∷ ts) = ap (λ (b : Bool). b || list_any f ts) (same t) ∙ ap (λ (b : Bool). k t || b) (any_same f k same ts)
 

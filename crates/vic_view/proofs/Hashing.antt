@@ -65,7 +65,7 @@ hash_first g ps hs ks d none e is =
 pub spelled_next : (ps : List Place) (i : ℕ) (p : Place) → i < length ps → p ≡ get_or ps i p → AllByRecursion IsPlaceEntry (drop i ps) → AllByRecursion IsPlaceEntry (drop (i + 1) ps)
 spelled_next ps i p lt is a = (subst (AllByRecursion IsPlaceEntry) (rest_from ps i p lt is) a).1
 
-newest_entry : (ps : List Place) (i : ℕ) (p : Place) → i < length ps → p ≡ get_or ps i p → reverse (entries (take (i + 1) ps)) ≡ p.entry ∷ reverse (entries (take i ps))
+pub newest_entry : (ps : List Place) (i : ℕ) (p : Place) → i < length ps → p ≡ get_or ps i p → reverse (entries (take (i + 1) ps)) ≡ p.entry ∷ reverse (entries (take i ps))
 newest_entry ps i p lt is =
     ap (λ (qs : List Place). reverse (entries qs)) (take_more ps i p lt ∙ ap (λ (q : Place). take i ps ++ q ∷ []) (sym is))
     ∙ ap reverse (map-append (λ (q : Place). q.entry) (take i ps) (p ∷ []))

@@ -9,3 +9,5 @@ pub mod Making
 pub mod Texts
 pub mod Forging
 pub mod Prints
+pub mod Plainly
+pub mod PlainForging

@@ -56,7 +56,7 @@ marks_with cs me o (t ∷ []) below h = (h, tt)
 marks_with cs me o (t ∷ u ∷ ts) below h = (tt, marks_with cs me o (u ∷ ts) (t.entry ∷ below) h)
 
 -- what a step completes
-abbrev one_completion : ℕ → List Entry → Option Outcome → List Completion
+abbrev pub one_completion : ℕ → List Entry → Option Outcome → List Completion
 one_completion me p None = []
 one_completion me p (Some o) = completed_as me p o ∷ []
 

@@ -279,7 +279,7 @@ pub shown_start : (paths : ℕ → List Place) (mine : List Place) (v : List Sho
 unfolding shown_below
 shown_start paths mine v e = ap reverse e
 
-reverse_shown : (v : List Shown) (e : Entry) (o : Option Outcome) → reverse (v ++ shown_by e o) ≡ shown_by e o ++ reverse v
+pub reverse_shown : (v : List Shown) (e : Entry) (o : Option Outcome) → reverse (v ++ shown_by e o) ≡ shown_by e o ++ reverse v
 reverse_shown v e None = ap reverse (append-nil v)
 reverse_shown v e (Some o) = reverse-append v (record { entry = e; outcome = o } ∷ [])
 

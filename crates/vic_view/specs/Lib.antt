@@ -3,3 +3,4 @@ pub mod Replay
 pub mod Claims
 pub mod Printed
 pub mod Making
+pub mod Plain

@@ -49,7 +49,7 @@ impl Hashes {
         }
     }
 
-    fn as_slice(&self) -> &[Digest32]
+    pub(crate) fn as_slice(&self) -> &[Digest32]
         ensures { result.now ≡ self.now }
     {
         self.items.as_slice()
@@ -118,7 +118,7 @@ impl Model for Texts {
 }
 
 impl Texts {
-    fn new(alloc: Global) -> Texts
+    pub(crate) fn new(alloc: Global) -> Texts
         ensures { result ≡ [] }
     {
         Texts {
@@ -141,7 +141,11 @@ impl Texts {
     }
 }
 
-fn hashes_along(alloc: Global, t: &Transcript, places: &[Place]) -> Result<Hashes, NoMemory>
+pub(crate) fn hashes_along(
+    alloc: Global,
+    t: &Transcript,
+    places: &[Place],
+) -> Result<Hashes, NoMemory>
     requires { AllByRecursion IsPlaceEntry places.now }
     ensures { IfOk result (λ hashes. hashes ≡ hashes_of (group_of t.now) places.now) }
 {
@@ -167,7 +171,7 @@ fn all_hashes(alloc: Global, t: &Transcript, paths: &[ClientPath]) -> Result<All
 }
 
 /// The hash with this number.
-fn hash_with(hashes: &[Digest32], number: u32) -> Digest32
+pub(crate) fn hash_with(hashes: &[Digest32], number: u32) -> Digest32
     ensures { result.bytes ≡ hash_at hashes.now number }
 {
     if (number as usize) < hashes.len() {
@@ -179,7 +183,7 @@ fn hash_with(hashes: &[Digest32], number: u32) -> Digest32
 
 // ---- texts
 
-fn call_text(alloc: Global, client: u8, seq: u32, op: &Op) -> Result<Bytes, NoMemory>
+pub(crate) fn call_text(alloc: Global, client: u8, seq: u32, op: &Op) -> Result<Bytes, NoMemory>
     requires { Fits op.now }
     ensures { IfOk result (λ text. text ≡ invoke_text (record { client = client; seq = seq; op = op.now })) }
 {
@@ -202,7 +206,7 @@ fn commit_of(alloc: Global, position: u32, hash: &Digest32, done: bool) -> Resul
     Ok(text)
 }
 
-fn seal_of(
+pub(crate) fn seal_of(
     alloc: Global,
     position: u32,
     hash: &Digest32,
@@ -248,7 +252,7 @@ fn text_of(
 }
 
 /// The text that a client made at a step.
-fn text_made(
+pub(crate) fn text_made(
     alloc: Global,
     step: &TraceStep,
     hashes: &[Digest32],
@@ -265,7 +269,7 @@ fn text_made(
 }
 
 /// Puts the text that a client made at a step to those that were made.
-fn note_made(
+pub(crate) fn note_made(
     alloc: Global,
     step: &TraceStep,
     hashes: &[Digest32],
@@ -334,7 +338,7 @@ fn are_unmade(
 }
 
 /// Whether some text that a client took at a step wasn't made.
-fn takes_unmade(
+pub(crate) fn takes_unmade(
     alloc: Global,
     step: &TraceStep,
     hashes: &[Digest32],

@@ -180,8 +180,9 @@ fn put_tags(out: &mut Bytes, forged: bool) -> Result<(), NoMemory>
     }
 }
 
-/// The lines of all views, how far each two agree, and whether each tag that was taken was made, which the caller knows.
-fn print_with(alloc: Global, t: &Transcript, forged: bool) -> Result<Bytes, NoMemory>
+/// The lines of all views, how far each two agree, and whether each tag that was taken was made, which the caller says: for a
+/// caller that has run `forged` already.
+pub fn print_with(alloc: Global, t: &Transcript, forged: bool) -> Result<Bytes, NoMemory>
     requires { IsLawful (group_of t.now) (history_of t.now) }
     ensures { IfOk result (λ b. b ≡ every_view (group_of t.now) (history_of t.now) ++ every_agreement (group_of t.now) (history_of t.now) ++ tags_line forged) }
 {

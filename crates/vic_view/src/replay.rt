@@ -101,7 +101,7 @@ fn has_completed(returned: &Option<Outcome>) -> bool
 }
 
 /// The outcome of a call that was completed, where it is asked for.
-fn completed(
+pub(crate) fn completed(
     alloc: Global,
     returned: &Option<Outcome>,
     asked: bool,
@@ -192,18 +192,29 @@ impl ClientPath {
     }
 }
 
-/// The path of a client, read from its steps.
-pub(crate) fn path_of(alloc: Global, t: &Transcript, client: u8) -> Result<ClientPath, NoMemory>
-    ensures { IfOk result (λ p. p ≡ replayed client (history_of t.now)) }
+/// The path of a client, read from these steps.
+pub(crate) fn path_in(
+    alloc: Global,
+    steps: &[TraceStep],
+    client: u8,
+) -> Result<ClientPath, NoMemory>
+    ensures { IfOk result (λ p. p ≡ replayed client (reverse steps.now)) }
 {
     let mut path = ClientPath {
         places: Places::new(alloc),
         done: 0,
     };
-    for step in t.as_slice() {
+    for step in steps {
         if step.client == client {
             path.take(alloc, step)?;
         }
     }
     Ok(path)
+}
+
+/// The path of a client, read from its steps.
+pub(crate) fn path_of(alloc: Global, t: &Transcript, client: u8) -> Result<ClientPath, NoMemory>
+    ensures { IfOk result (λ p. p ≡ replayed client (history_of t.now)) }
+{
+    path_in(alloc, t.as_slice(), client)
 }

@@ -1,8 +1,16 @@
-use crate::{Shown, Transcript, View, agree, forged, print_views, view_of};
+use crate::forgery::{Texts, note_made, takes_unmade};
+use crate::plain::{all_completed, confirmed_on, is_some_unmade, last_path, put_made, texts_taken};
+use crate::replay::path_of;
+use crate::views::{all_paths, view_among};
+use crate::{
+    Input, Shown, TraceStep, Transcript, View, agree, forged, forged_plainly, print_views,
+    print_with, view_of, view_plainly,
+};
 use std::alloc::Global;
 use std::test::Fail;
-use vic_dict::{Answer, Bytes, Entry, Mode, NoMemory, Op, Outcome};
+use vic_dict::{Answer, Bytes, Entry, Mode, Names, NoMemory, Op, Outcome};
 use vic_tag::GroupKey;
+use vic_wire::Digest32;
 
 fn stored(alloc: Global, client: u8, seq: u32, key: &[u8]) -> Result<Shown, NoMemory> {
     Ok(Shown {
@@ -53,9 +61,251 @@ fn nothing_done(rt: HostRuntime) -> Result<(), Fail> {
     let t = Transcript::new(rt.alloc(), Mode::Plain, 3, key);
     assert_eq!(rt; t.len(), 0);
     assert_eq!(rt; view_of(rt.alloc(), &t, 2)?.len(), 0);
-    assert!(rt; !forged(rt.alloc(), &t)?);
+    assert_eq!(rt; view_plainly(rt.alloc(), &t, 2)?.len(), 0);
+    assert!(rt; !forged(rt.alloc(), &t)? && !forged_plainly(rt.alloc(), &t)?);
     let text = print_views(rt.alloc(), &t)?;
     let right = b"view 1\nview 2\nview 3\nagree 1 2 0\nagree 1 3 0\nagree 2 3 0\ntags made\n";
     assert_eq!(rt; text.as_slice(), right.as_slice());
+    assert_eq!(rt;
+        print_with(rt.alloc(), &t, false)?.as_slice(),
+        right.as_slice()
+    );
+    Ok(())
+}
+
+/// A step: the client, the payload that it takes (none: it calls), what it sends, and whether it then returns Stored. In both
+/// texts the byte 240 stands for a digest of zeros: no tag is looked at here, and the dictionary is that without a key.
+type Row = (u8, &'static [u8], &'static [u8], bool);
+
+const CALL_1: Row = (1, b"", b"\x22\0\0\0\0\0\0\0\x01\x01\x01a\x01x\xf0", false);
+
+const CALL_1_AGAIN: Row = (1, b"", b"\x22\0\0\0\x01\0\0\0\x02\x01\x01c\x01z\xf0", false);
+
+const CALL_2: Row = (2, b"", b"\x22\0\0\0\0\0\0\0\x01\x01\x01b\x01y\xf0", false);
+
+const CALL_2_AGAIN: Row = (2, b"", b"\x22\0\0\0\x01\0\0\0\x02\x01\x01b\x01z\xf0", false);
+
+/// A Reply with the entry of client 1 alone; the client sends its Commit.
+const REPLY_1: Row = (
+    1,
+    b"\x42\0\0\0\0\0\x01\x01\0\0\0\x01\x01\x01a\x01x\xf0\0\0\0\0\0",
+    b"\x23\0\0\0\x01\0\xf0",
+    true,
+);
+
+/// A Reply with the entry of client 1 and then that of client 2.
+const REPLY_2_SECOND: Row = (
+    2,
+    b"\x42\0\0\0\0\0\x02\x01\0\0\0\x01\x01\x01a\x01x\xf0\x02\0\0\0\x01\x01\x01b\x01y\xf0\0\0\0\0\0",
+    b"\x23\0\0\0\x02\0\xf0",
+    true,
+);
+
+/// A Reply with the second entry of client 1 and then that of client 2.
+const REPLY_2_SKIPS: Row = (
+    2,
+    b"\x42\0\0\0\0\0\x02\x01\0\0\0\x02\x01\x01c\x01z\xf0\x02\0\0\0\x01\x01\x01b\x01y\xf0\0\0\0\0\0",
+    b"\x23\0\0\0\x02\0\xf0",
+    true,
+);
+
+/// A Reply with the entry of client 2 alone.
+const REPLY_2_FIRST: Row = (
+    2,
+    b"\x42\0\0\0\0\0\x01\x02\0\0\0\x01\x01\x01b\x01y\xf0\0\0\0\0\0",
+    b"\x23\0\0\0\x01\0\xf0",
+    true,
+);
+
+/// A Reply with the entry of client 1 and then the second one of client 2.
+const REPLY_2_AGAIN: Row = (
+    2,
+    b"\x42\0\0\0\0\0\x02\x01\0\0\0\x01\x01\x01a\x01x\xf0\x02\0\0\0\x02\x01\x01b\x01z\xf0\0\0\0\0\0",
+    b"\x23\0\0\0\x03\0\xf0",
+    true,
+);
+
+/// A Reply with an entry of client 2, and then that of client 1.
+const REPLY_1_SECOND: Row = (
+    1,
+    b"\x42\0\0\0\0\0\x02\x02\0\0\0\x01\x01\x01b\x01y\xf0\x01\0\0\0\x01\x01\x01a\x01x\xf0\0\0\0\0\0",
+    b"\x23\0\0\0\x02\0\xf0",
+    true,
+);
+
+/// An Update; client 1 seals position 1.
+const SEALED: Row = (
+    1,
+    b"\x44\0\0\0\0\0\0\0\0\0",
+    b"\x25\0\0\0\x01\xf0\xf0",
+    false,
+);
+
+/// Client 2 takes that seal.
+const SEAL_TAKEN: Row = (2, b"\x45\0\0\0\x01\xf0\xf0\0\0", b"", false);
+
+/// The calls that a view shows, each by its client and number.
+type Calls = &'static [(u8, u32)];
+
+/// Steps, the views of the clients, and whether some text was taken that no client had made.
+type Story = (&'static [Row], [Calls; 2], bool);
+
+const STORIES: [Story; 6] = [
+    // Client 2 comes second, and takes the seal of client 1.
+    (
+        &[CALL_1, REPLY_1, CALL_2, REPLY_2_SECOND, SEALED, SEAL_TAKEN],
+        [&[(1, 1)], &[(1, 1), (2, 1)]],
+        false,
+    ),
+    // The first entries differ: what client 1 completed as its first is the second of client 2, and isn't shown there.
+    (
+        &[
+            CALL_1,
+            CALL_2,
+            REPLY_1,
+            REPLY_2_FIRST,
+            CALL_2_AGAIN,
+            REPLY_2_AGAIN,
+        ],
+        [&[(1, 1)], &[(2, 1), (2, 2)]],
+        false,
+    ),
+    // The first entries differ, and both are of client 1, which completed another call as its first.
+    (
+        &[CALL_1, REPLY_1, CALL_1_AGAIN, CALL_2, REPLY_2_SKIPS],
+        [&[(1, 1)], &[(2, 1)]],
+        false,
+    ),
+    // Client 1 takes an entry that client 2 never sent.
+    (&[CALL_1, REPLY_1_SECOND], [&[(1, 1)], &[]], true),
+    // It is sent later.
+    (
+        &[CALL_1, REPLY_1_SECOND, CALL_2, REPLY_2_FIRST],
+        [&[(2, 1), (1, 1)], &[(2, 1)]],
+        true,
+    ),
+    // The first entries differ, and client 2 takes a seal that client 1 made on its own path.
+    (
+        &[CALL_1, CALL_2, REPLY_1, REPLY_2_FIRST, SEALED, SEAL_TAKEN],
+        [&[(1, 1)], &[(2, 1)]],
+        true,
+    ),
+];
+
+fn payload_of(alloc: Global, text: &[u8]) -> Result<Bytes, NoMemory> {
+    let mut payload = Bytes::new(alloc);
+    for byte in text {
+        if *byte == 240 {
+            payload.append([0; 32].as_slice())?;
+        } else {
+            payload.push(*byte)?;
+        }
+    }
+    Ok(payload)
+}
+
+fn step_of(alloc: Global, row: &Row) -> Result<TraceStep, NoMemory> {
+    let (client, taken, sent, stored) = *row;
+    let input = if taken.is_empty() {
+        Input::Call(Op::Get(Bytes::of(alloc, b"a")?))
+    } else {
+        Input::Payload(payload_of(alloc, taken)?)
+    };
+    let sent = match sent.is_empty() {
+        true => None,
+        false => Some(payload_of(alloc, sent)?),
+    };
+    let returned = stored.then_some(Outcome::Done(Answer::Stored));
+    Ok(TraceStep {
+        client,
+        input,
+        sent,
+        returned,
+    })
+}
+
+fn transcript_of(alloc: Global, rows: &[Row]) -> Result<Transcript, Fail> {
+    let key = GroupKey::from_hex(alloc, "00")?;
+    let mut t = Transcript::new(alloc, Mode::Plain, 2, key);
+    for row in rows {
+        t.push(step_of(alloc, row)?)?;
+    }
+    Ok(t)
+}
+
+// A client's view, as `view_of` takes it from the paths.
+fn view_from_paths(alloc: Global, t: &Transcript, client: u8) -> Result<View, NoMemory> {
+    let mine = path_of(alloc, t, client)?;
+    let all = all_paths(alloc, t)?;
+    if mine.done > mine.places.as_slice().len() {
+        return Ok(View::new(alloc));
+    }
+    view_among(alloc, &mine, all.as_slice())
+}
+
+// A client's view, as `view_plainly` takes it from the calls that were completed.
+fn view_from_calls(alloc: Global, t: &Transcript, client: u8) -> Result<View, NoMemory> {
+    let all = all_completed(alloc, t.as_slice())?;
+    confirmed_on(alloc, all.as_slice(), last_path(all.as_slice(), client))
+}
+
+fn are_calls(view: &View, calls: &[(u8, u32)]) -> bool {
+    let shown = view.as_slice().iter();
+    view.len() == calls.len()
+        && shown.zip(calls).all(|(shown, call)| (shown.entry.client, shown.entry.seq) == *call)
+}
+
+// Both ways to a view give the same, and what is right.
+#[test]
+fn views_plainly(rt: HostRuntime) -> Result<(), Fail> {
+    for (n, (rows, views, _)) in STORIES.iter().enumerate() {
+        let t = transcript_of(rt.alloc(), rows)?;
+        for (client, calls) in [(1, views[0]), (2, views[1])] {
+            let fast = view_from_paths(rt.alloc(), &t, client)?;
+            let plain = view_from_calls(rt.alloc(), &t, client)?;
+            assert!(rt;
+                are_calls(&fast, calls) && are_calls(&plain, calls),
+                "story {n}"
+            );
+            assert!(rt;
+                fast.len() < 9 && agree(&fast, &plain) as usize == fast.len(),
+                "story {n}"
+            );
+        }
+    }
+    Ok(())
+}
+
+// Digests that stand for the hashes along a client's path, which are those of the other one where the first entries are the same.
+fn hashes_of(rows: &[Row], client: u8) -> [Digest32; 3] {
+    let is_shared = rows.len() > 3 && rows[3].1 == REPLY_2_SECOND.1;
+    let first = if is_shared || client == 1 { 1 } else { 2 };
+    [
+        Digest32 { bytes: [0; 32] },
+        Digest32 { bytes: [first; 32] },
+        Digest32 { bytes: [3; 32] },
+    ]
+}
+
+// Both ways to look for texts that no client had made find the same, and what is right.
+#[test]
+fn forged_texts(rt: HostRuntime) -> Result<(), Fail> {
+    let alloc = rt.alloc();
+    for (n, (rows, _, unmade)) in STORIES.iter().enumerate() {
+        let t = transcript_of(alloc, rows)?;
+        let (mut set, mut list) = (Texts::new(alloc), Names::new(alloc));
+        let mut found = false;
+        for step in t.as_slice() {
+            let hashes = hashes_of(rows, step.client);
+            let taken = texts_taken(alloc, step, hashes.as_slice())?;
+            let is_found = is_some_unmade(list.as_slice(), taken.as_slice());
+            let is_found_fast = takes_unmade(alloc, step, hashes.as_slice(), &set)?;
+            assert!(rt; is_found == is_found_fast, "story {n}");
+            found = found || is_found;
+            put_made(alloc, step, hashes.as_slice(), &mut list)?;
+            note_made(alloc, step, hashes.as_slice(), &mut set)?;
+        }
+        assert!(rt; found == *unmade, "story {n}");
+    }
     Ok(())
 }

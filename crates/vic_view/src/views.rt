@@ -125,7 +125,7 @@ fn owner_outcome(
 }
 
 /// Shows a place's call, if its owner completed it.
-fn show(
+pub(crate) fn show(
     alloc: Global,
     view: &mut View,
     place: &Place,
