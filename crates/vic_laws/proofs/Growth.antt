@@ -79,10 +79,11 @@ confirmed_calls_stay ds cs (e ∷ p) a =
     ∙ ap (λ v. shown_as e (confirmed cs (e ∷ p)) ++ v) (confirmed_calls_stay ds cs p a.1)
 
 -- a seal that holds of a path holds of the grown path after more completions
-pub seal_stays : (ds cs : List Completion) (news p : List Entry) (n : ℕ) (root : List ℕ) → n ≤ length p → SealHolds cs p n root → SealHolds (ds ++ cs) (news ++ p) n root
-seal_stays ds cs news p n root le s = record {
-  all = subst (AllConfirmed (ds ++ cs)) (sym (front_grows news p n le)) (all_confirmed_stays ds cs (front n p) s.all);
-  is_root = s.is_root ∙ ap (λ v. dictionary_root (left_by v)) (sym (confirmed_calls_stay ds cs (front n p) s.all) ∙ ap (confirmed_calls (ds ++ cs)) (sym (front_grows news p n le)));
+pub seal_stays : (ds cs : List Completion) (news p : List Entry) (n : ℕ) (root : List ℕ) → SealHolds cs p n root → SealHolds (ds ++ cs) (news ++ p) n root
+seal_stays ds cs news p n root s = record {
+  within = omega (arith, s.within, length-append news p);
+  all = subst (AllConfirmed (ds ++ cs)) (sym (front_grows news p n s.within)) (all_confirmed_stays ds cs (front n p) s.all);
+  is_root = s.is_root ∙ ap (λ v. dictionary_root (left_by v)) (sym (confirmed_calls_stay ds cs (front n p) s.all) ∙ ap (confirmed_calls (ds ++ cs)) (sym (front_grows news p n s.within)));
 }
 
 -- ---- what a later history keeps of an earlier one

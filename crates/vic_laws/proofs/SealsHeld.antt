@@ -1,7 +1,7 @@
 -- Each seal that a client takes or makes holds of its path, unless a tag was forged or two texts collide.
 use Rattle.std.specs.Prelude.{◌≡◌, ◌≢◌, ℕ, ◌+◌, ◌<◌, ◌≤◌, ◌⊎◌, List, [], ◌∷◌, ◌++◌, length, Some}
 use Rattle.std.specs.List.{AllByRecursion}
-use Rattle.std.proofs.Common.{refl, ap, subst, sym, ◌∙◌, inl, inr, arith, add-one, append_assoc, le_trans}
+use Rattle.std.proofs.Common.{refl, ap, subst, sym, ◌∙◌, inl, inr, arith, add-one, append_assoc, le_refl, le_trans}
 use Rattle.std.proofs.lemmas.Bool.{cases_eq}
 use Rattle.vic_dict.specs.declared.op.Entry.{Entry}
 use Rattle.vic_dict.specs.Lists.{IsIn, AreBytes, front}
@@ -37,9 +37,10 @@ use Rattle.vic_laws.proofs.MadeSeals.{seal_checked, MadeSeal, made_stays, made_h
 
 -- the seal of an own call that stands above a seal that holds
 seal_next : (cs : List Completion) (p below : List Entry) (e : Entry) (by : Completion) (first : Own) (part : Part) (root : List ℕ) (n : ℕ)
-    → front (n + 1) p ≡ e ∷ below → below ≡ front n p → confirmed cs (e ∷ below) ≡ Some by → e.op ≡ first.op → is_done by.outcome ≡ first.done
+    → n + 1 ≤ length p → front (n + 1) p ≡ e ∷ below → below ≡ front n p → confirmed cs (e ∷ below) ≡ Some by → e.op ≡ first.op → is_done by.outcome ≡ first.done
     → SealHolds cs p n root → part ≡ left_by (confirmed_calls cs (front n p)) → SealHolds cs p (n + 1) (new_root first part root)
-seal_next cs p below e by first part root n is rest found op status holds told = record {
+seal_next cs p below e by first part root n within is rest found op status holds told = record {
+  within = within;
   all = subst (AllConfirmed cs) (sym is) ((by, found), subst (AllConfirmed cs) (sym rest) holds.all);
   is_root = ap (λ d. new_root first d root) told
       ∙ (root_written first (left_by (confirmed_calls cs (front n p))) root (record { entry = e; outcome = by.outcome }) holds.is_root op status
@@ -171,19 +172,20 @@ module _ (g : Group) (whole : List TraceStep) (lawful : AreSteps g whole) (hones
       now (inl zero) =
           let none : front seal.position p ≡ [] = ap (λ n. front n p) zero ∙ front_none p in
           record {
+            within = sealing.within;
             all = subst (AllConfirmed (completions g past)) (sym none) tt;
             is_root = (sealing.spelled.first zero).0 ∙ (sym (root_at_start (completions g past)) ∙ ap (λ q. dictionary_root (left_by (confirmed_calls (completions g past) q))) (sym none));
           }
       now (inr away) =
           let held = made_holds g (IsListed g whole) (of_genesis refl) two_apart (completions g past) seal.position (front seal.position p) seal.root.bytes sealing.spelled.position spelled texts (was_made away) in
-          record { all = held.0; is_root = held.1 }
+          record { within = sealing.within; all = held.0; is_root = held.1 }
 
   -- a seal that holds does so after one more step
-  seal_later : (x : TraceStep) (past : List TraceStep) (news p : List Entry) (n : ℕ) (root : List ℕ) → n ≤ length p → SealHolds (completions g past) p n root
+  seal_later : (x : TraceStep) (past : List TraceStep) (news p : List Entry) (n : ℕ) (root : List ℕ) → SealHolds (completions g past) p n root
       → SealHolds (completions g (x ∷ past)) (news ++ p) n root
-  seal_later x past news p n root le s =
+  seal_later x past news p n root s =
       let more = completions_grow g (x ∷ []) past in
-      subst (λ cs. SealHolds cs (news ++ p) n root) (sym more.1) (seal_stays more.0 (completions g past) news p n root le s)
+      subst (λ cs. SealHolds cs (news ++ p) n root) (sym more.1) (seal_stays more.0 (completions g past) news p n root s)
 
   -- the part of an answer is what its seal's front leaves
   pub part_is_left : (later : List TraceStep) (x : TraceStep) (past : List TraceStep) → whole ≡ later ++ x ∷ past → (bytes : List ℕ) (part : Part) (n : ℕ) (root : List ℕ)
@@ -211,16 +213,16 @@ module _ (g : Group) (whole : List TraceStep) (lawful : AreSteps g whole) (hones
       subst (λ r. SealHolds (completions g (x ∷ past)) (move_of g past x).next.path (move_of g past x).next.sealed r) (sym k.root)
       (subst (λ n. SealHolds (completions g (x ∷ past)) (move_of g past x).next.path n s.root) (sym k.sealed)
       (subst (λ p. SealHolds (completions g (x ∷ past)) p s.sealed s.root) (sym k.path)
-      (seal_later x past [] s.path s.sealed s.root (stands_within g past (steps_of later (x ∷ past) e).0 x.client).sealed before)))
+      (seal_later x past [] s.path s.sealed s.root before)))
   own_stands later x past e made before (is_called k) =
       let s = standing g x.client past in
       subst (λ v. SealHolds (completions g (x ∷ past)) v.next.path v.next.sealed v.next.root) (sym k.moved)
-      (seal_later x past [] s.path s.sealed s.root (stands_within g past (steps_of later (x ∷ past) e).0 x.client).sealed before)
+      (seal_later x past [] s.path s.sealed s.root before)
   own_stands later x past e made before (is_replied k) =
       let s = standing g x.client past in
       let p : List Entry = call_of x.client k.seq k.op ∷ (k.others ++ s.path) in
       subst (λ v. SealHolds (completions g (x ∷ past)) v.next.path v.next.sealed v.next.root) (sym k.moved)
-      (seal_later x past [] p k.seal.position k.seal.root.bytes k.sealing.within
+      (seal_later x past [] p k.seal.position k.seal.root.bytes
       (taken_seal later x past e made (say.Reply k.seal k.entries k.bytes) k.seal (taken_at g past x _ k.takes) refl p (ap (λ v. v.next.path) k.moved) k.sealing))
   own_stands later x past e made before (is_updated k) =
       let s = standing g x.client past in
@@ -229,12 +231,13 @@ module _ (g : Group) (whole : List TraceStep) (lawful : AreSteps g whole) (hones
       let root = k.seal.root.bytes in
       let path_is : (move_of g past x).next.path ≡ s.path = ap (λ v. v.next.path) k.moved in
       let holds : SealHolds (completions g (x ∷ past)) s.path n root =
-      seal_later x past [] s.path n root k.sealing.within (taken_seal later x past e made (say.Update k.seal k.bytes) k.seal (taken_at g past x _ k.takes) refl s.path path_is k.sealing) in
+      seal_later x past [] s.path n root (taken_seal later x past e made (say.Update k.seal k.bytes) k.seal (taken_at g past x _ k.takes) refl s.path path_is k.sealing) in
       let mine : OwnConfirmed x.client (completions g past) s.path k.first =
       (subst (AllByRecursion (OwnConfirmed x.client (completions g past) s.path)) k.own_is (own_confirmed g past steps.0 x.client)).0 in
       let bound : (0 < k.first.position) × (k.first.position ≤ length s.path) =
       (subst (AllByRecursion (StandsWithin (length s.path))) k.own_is (stands_within g past steps.0 x.client).own).0 in
-      let up = front_next n s.path (subst (λ j. j ≤ length s.path) (k.next_is ∙ add-one n) bound.1) in
+      let within : n + 1 ≤ length s.path = subst (λ j. j ≤ length s.path) k.next_is bound.1 in
+      let up = front_next n s.path (subst (λ j. j ≤ length s.path) (add-one n) within) in
       let is : front (n + 1) s.path ≡ mine.entry ∷ mine.below = ap (λ j. front j s.path) (sym k.next_is) ∙ mine.is in
       let more = completions_grow g (x ∷ []) past in
       let found : confirmed (completions g (x ∷ past)) (mine.entry ∷ mine.below) ≡ Some mine.by =
@@ -244,12 +247,12 @@ module _ (g : Group) (whole : List TraceStep) (lawful : AreSteps g whole) (hones
       let told = part_is_left later x past e k.bytes k.part n root (subst (λ o. IsIn (parts_in o) k.bytes) (sym (taken_at g past x _ k.takes)) (inl refl)) k.are_bytes k.is_part k.root_is
       (subst (λ j. n ≤ j) (sym sealed_is) (omega arith)) s.path here holds in
       subst (λ v. SealHolds (completions g (x ∷ past)) v.next.path v.next.sealed v.next.root) (sym k.moved)
-      (seal_next (completions g (x ∷ past)) s.path mine.below mine.entry mine.by k.first k.part root n is (tail_same mine.entry up.0 mine.below (front n s.path) (sym is ∙ up.1)) found mine.op mine.done holds told)
+      (seal_next (completions g (x ∷ past)) s.path mine.below mine.entry mine.by k.first k.part root n within is (tail_same mine.entry up.0 mine.below (front n s.path) (sym is ∙ up.1)) found mine.op mine.done holds told)
   own_stands later x past e made before (is_listed k) =
       let s = standing g x.client past in
       let p : List Entry = k.others ++ s.path in
       subst (λ v. SealHolds (completions g (x ∷ past)) v.next.path v.next.sealed v.next.root) (sym k.moved)
-      (seal_later x past [] p k.seal.position k.seal.root.bytes k.sealing.within
+      (seal_later x past [] p k.seal.position k.seal.root.bytes
       (taken_seal later x past e made (say.Entries k.seal k.entries) k.seal (taken_at g past x _ k.takes) refl p (ap (λ v. v.next.path) k.moved) k.sealing))
 
   -- the seals made up to a step hold, where those before it do and its client's own seal does
@@ -267,16 +270,13 @@ module _ (g : Group) (whole : List TraceStep) (lawful : AreSteps g whole) (hones
       here : path g x.client (x ∷ past) ≡ (move_of g past x).next.path
       here = ap (λ w. w.path) (standing_moved g x.client x past refl)
 
-      within : (move_of g past x).next.sealed ≤ length (move_of g past x).next.path
-      within = subst (λ w. w.sealed ≤ length w.path) (standing_moved g x.client x past refl) (stands_within g (x ∷ past) (steps_of later (x ∷ past) e) x.client).sealed
-
       new : SentSeal g (move_of g past x) t → MadeSeal g (IsListed g whole) (completions g (x ∷ past)) t
       new s = record {
         position = (move_of g past x).next.sealed;
         root = (move_of g past x).next.root;
         front = front (move_of g past x).next.sealed (move_of g past x).next.path;
         is = s.is ∙ seal_text_is g (move_of g past x).next.path (move_of g past x).next.sealed (move_of g past x).next.root;
-        small = omega (arith, within, s.few);
+        small = omega (arith, holds.within, s.few);
         spelled = all_drop IsEntry _ _ (subst (AllByRecursion IsEntry) here (path_spelled g (x ∷ past) (steps_of later (x ∷ past) e) x.client));
         texts = texts_drop g (IsListed g whole) _ _ (subst (λ q. AllByRecursion (IsListed g whole) (chain_texts g q)) here (path_texts later (x ∷ past) e x.client));
         all = holds.all;
@@ -306,11 +306,11 @@ module _ (g : Group) (whole : List TraceStep) (lawful : AreSteps g whole) (hones
       stands : (me : ℕ) → (x.client ≡ me) ⊎ (x.client ≡ me → ⊥) → Stands me (x ∷ past)
       stands me (inl mine) = subst (λ s. SealHolds (completions g (x ∷ past)) s.path s.sealed s.root) (sym (standing_moved g me x past mine)) own
       stands me (inr else) = subst (λ s. SealHolds (completions g (x ∷ past)) s.path s.sealed s.root) (sym (standing_kept g me x past else))
-          (seal_later x past [] (path g me past) (standing g me past).sealed (standing g me past).root (stands_within g past steps.0 me).sealed (before.1 me))
+          (seal_later x past [] (path g me past) (standing g me past).sealed (standing g me past).root (before.1 me))
 
   pub all_hold : (later h : List TraceStep) → whole ≡ later ++ h → AllHold h
   unfolding standing texts_made completions
-  all_hold later [] e = ((λ t i rest starts. absurd i), λ me. record { all = tt; is_root = sym (root_at_start []) })
+  all_hold later [] e = ((λ t i rest starts. absurd i), λ me. record { within = le_refl 0; all = tt; is_root = sym (root_at_start []) })
   all_hold later (x ∷ past) e = more_hold later x past e (all_hold (later ++ x ∷ []) past (e ∙ sym (append_assoc later (x ∷ []) past)))
 
   -- each seal that a client took or made at a step holds in the whole history
@@ -324,23 +324,23 @@ module _ (g : Group) (whole : List TraceStep) (lawful : AreSteps g whole) (hones
       more : (ds : List Completion) × (completions g (later ++ x ∷ past) ≡ ds ++ completions g (x ∷ past))
       more = completions_grow g later (x ∷ past)
 
-      lasts : (n : ℕ) (r : List ℕ) → n ≤ length (path g x.client (x ∷ past)) → SealHolds (completions g (x ∷ past)) (path g x.client (x ∷ past)) n r → SealHolds (completions g (later ++ x ∷ past)) (path g x.client (x ∷ past)) n r
-      lasts n r le s = subst (λ cs. SealHolds cs (path g x.client (x ∷ past)) n r) (sym more.1) (seal_stays more.0 (completions g (x ∷ past)) [] (path g x.client (x ∷ past)) n r le s)
+      lasts : (n : ℕ) (r : List ℕ) → SealHolds (completions g (x ∷ past)) (path g x.client (x ∷ past)) n r → SealHolds (completions g (later ++ x ∷ past)) (path g x.client (x ∷ past)) n r
+      lasts n r s = subst (λ cs. SealHolds cs (path g x.client (x ∷ past)) n r) (sym more.1) (seal_stays more.0 (completions g (x ∷ past)) [] (path g x.client (x ∷ past)) n r s)
 
       answered : (m : ToClient) (s : Seal) → took g past x ≡ Some m → seal_of m ≡ Some s → SealHolds (completions g (later ++ x ∷ past)) (path g x.client (x ∷ past)) s.position s.root.bytes
       answered m s takes has =
           let sealing = kind_sealing g x past (kind_of g past x (steps_of later (x ∷ past) e).1) m s takes has in
           let held = taken_seal later x past e (all_hold (later ++ x ∷ []) past (e ∙ sym (append_assoc later (x ∷ []) past))).0 m s takes has (move_of g past x).next.path refl sealing in
-          lasts s.position s.root.bytes (subst (λ w. s.position ≤ length w.path) (sym moved) sealing.within)
+          lasts s.position s.root.bytes
           (subst (λ w. SealHolds (completions g (x ∷ past)) w.path s.position s.root.bytes) (sym moved)
-          (seal_later x past [] (move_of g past x).next.path s.position s.root.bytes sealing.within held))
+          (seal_later x past [] (move_of g past x).next.path s.position s.root.bytes held))
 
       now : SealAt g past x position root → SealHolds (completions g (later ++ x ∷ past)) (path g x.client (x ∷ past)) position root
       now (of_answer m s takes has n r) = subst (λ q. SealHolds (completions g (later ++ x ∷ past)) (path g x.client (x ∷ past)) position q) (sym r)
           (subst (λ j. SealHolds (completions g (later ++ x ∷ past)) (path g x.client (x ∷ past)) j s.root.bytes) (sym n) (answered m s takes has))
       now (of_its_own sends n r) = subst (λ q. SealHolds (completions g (later ++ x ∷ past)) (path g x.client (x ∷ past)) position q) (ap (λ w. w.root) moved ∙ sym r)
           (subst (λ j. SealHolds (completions g (later ++ x ∷ past)) (path g x.client (x ∷ past)) j (standing g x.client (x ∷ past)).root) (ap (λ w. w.sealed) moved ∙ sym n)
-          (lasts (standing g x.client (x ∷ past)).sealed (standing g x.client (x ∷ past)).root (stands_within g (x ∷ past) (steps_of later (x ∷ past) e) x.client).sealed ((all_hold later (x ∷ past) e).1 x.client)))
+          (lasts (standing g x.client (x ∷ past)).sealed (standing g x.client (x ∷ past)).root ((all_hold later (x ∷ past) e).1 x.client)))
 
 pub seals_hold : SealsHold
 seals_hold g h lawful honest apart later x past e position root at = seal_at_holds g h lawful.steps honest apart later x past e position root at

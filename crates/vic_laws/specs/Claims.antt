@@ -1,5 +1,5 @@
 -- The laws of histories, one by one. Each holds of every lawful history, whatever the payloads hold.
-use Rattle.std.specs.Prelude.{◌≡◌, ◌≢◌, ℕ, ◌⊎◌, List, [], ◌∷◌, ◌++◌, Some}
+use Rattle.std.specs.Prelude.{◌≡◌, ◌≢◌, ℕ, ◌≤◌, ◌⊎◌, List, [], ◌∷◌, ◌++◌, length, Some}
 use Rattle.vic_dict.specs.declared.op.Entry.{Entry}
 use Rattle.vic_dict.specs.Lists.{IsIn, front}
 use Rattle.vic_dict.specs.Dictionary.{IsProper}
@@ -31,10 +31,13 @@ TagsHold = (g : Group) (h : List TraceStep) → IsLawful g h → (later : List T
 -- ---- paths
 
 -- two fronts of clients' paths that have one hash are equal, or two different listed texts have one hash
-abbrev pub HashesTellPaths : Type 0
-HashesTellPaths = (g : Group) (h : List TraceStep) → IsLawful g h → (i j m n : ℕ)
+abbrev pub HashesTellPathsIn : Group → List TraceStep → Type 0
+HashesTellPathsIn g h = (i j m n : ℕ)
     → chain g (front m (path g i h)) ≡ chain g (front n (path g j h))
     → (front m (path g i h) ≡ front n (path g j h)) ⊎ Collides g h
+
+abbrev pub HashesTellPaths : Type 0
+HashesTellPaths = (g : Group) (h : List TraceStep) → IsLawful g h → HashesTellPathsIn g h
 
 -- ---- seals
 
@@ -43,8 +46,9 @@ abbrev pub AllConfirmed : List Completion → List Entry → Type 0
 AllConfirmed cs [] = Unit {0}
 AllConfirmed cs (e ∷ p) = ((c : Completion) × (confirmed cs (e ∷ p) ≡ Some c)) × AllConfirmed cs p
 
--- a seal at a position of a path: everything up to it is confirmed, and the root is that of the dictionary which that leaves
+-- a seal at a position of a path: it stands within the path, everything up to it is confirmed, and the root is that of the dictionary which that leaves
 pub record SealHolds (cs : List Completion) (p : List Entry) (position : ℕ) (root : List ℕ) : Type 0 where
+  pub within : position ≤ length p
   pub all : AllConfirmed cs (front position p)
   pub is_root : root ≡ dictionary_root (left_by (confirmed_calls cs (front position p)))
 
@@ -54,10 +58,13 @@ pub data SealAt (g : Group) (past : List TraceStep) (x : TraceStep) (position : 
   of_its_own : (move_of g past x).sends ≡ Some Seals → position ≡ (move_of g past x).next.sealed → root ≡ (move_of g past x).next.root → SealAt g past x position root
 
 -- unless a tag was forged or two texts collide, each seal that a client took or made holds of the path that it then has
-abbrev pub SealsHold : Type 0
-SealsHold = (g : Group) (h : List TraceStep) → IsLawful g h → (IsForged g h → ⊥) → (Collides g h → ⊥)
+abbrev pub SealsHoldIn : Group → List TraceStep → Type 0
+SealsHoldIn g h = (IsForged g h → ⊥) → (Collides g h → ⊥)
     → (later : List TraceStep) (x : TraceStep) (past : List TraceStep) → h ≡ later ++ x ∷ past → (position : ℕ) (root : List ℕ) → SealAt g past x position root
     → SealHolds (completions g h) (path g x.client (x ∷ past)) position root
+
+abbrev pub SealsHold : Type 0
+SealsHold = (g : Group) (h : List TraceStep) → IsLawful g h → SealsHoldIn g h
 
 -- ---- views
 

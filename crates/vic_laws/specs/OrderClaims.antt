@@ -1,14 +1,19 @@
--- The laws on the order of calls: which views go together, and what the words that they are made of mean.
-use Rattle.std.specs.Prelude.{◌≡◌, ℕ, ◌<◌, ◌≤◌, ◌↔◌, Bool, true, List, ◌∷◌, length, Some, None}
+-- The laws on the order of calls: which views go together, what a client decides, and what the words that they are made of mean.
+use Rattle.std.specs.Prelude.{◌≡◌, ℕ, ◌<◌, ◌≤◌, ◌↔◌, Bool, true, List, ◌∷◌, ◌++◌, length, Some, None}
 use Rattle.vic_dict.specs.declared.op.Op.{Op}
 use Rattle.vic_dict.specs.declared.op.Entry.{Entry}
+use Rattle.vic_dict.specs.declared.op.Answer.{Answer}
 use Rattle.vic_dict.specs.declared.op.Outcome.{Outcome}
+use Rattle.vic_dict.specs.declared.op.Outcome.TheVariants as outcome
 use Rattle.vic_dict.specs.Lists.{IsIn, front, newest}
+use Rattle.vic_wire.specs.declared.message.Seal.{Seal}
+use Rattle.vic_wire.specs.declared.message.Tagged.{Tagged}
+use Rattle.vic_wire.specs.declared.message.ToClient.TheVariants as say
 use Rattle.vic_wire.specs.Hashes.{Group}
 use Rattle.vic_rules.specs.declared.trace.TraceStep.{TraceStep}
-use Rattle.vic_rules.specs.Client.{same_op, same_entry, least_above}
-use Rattle.vic_rules.specs.History.{IsLawful, Completion, completions}
-use Rattle.vic_rules.specs.Trust.{IsForged}
+use Rattle.vic_rules.specs.Client.{same_op, same_entry, least_above, is_in_the_way}
+use Rattle.vic_rules.specs.History.{IsLawful, path, Completion, completions}
+use Rattle.vic_rules.specs.Trust.{IsForged, took}
 use Rattle.vic_rules.specs.Views.{confirmed, view_of, IsSameCall, IsAnswered, IsCompleted, Agree, HasAll, ShowsOnlyCalls, IsInRealTime}
 
 -- ---- the words
@@ -49,6 +54,20 @@ ConfirmedIs = (g : Group) (h : List TraceStep) → IsLawful g h → (p : List En
 abbrev pub ConfirmedByOwner : Type 0
 ConfirmedByOwner = (g : Group) (h : List TraceStep) → IsLawful g h → (e : Entry) (below : List Entry) (c : Completion)
     → confirmed (completions g h) (e ∷ below) ≡ Some c → c.client ≡ e.client
+
+-- ---- decisions
+
+-- a call that its client decided as done conflicts with no entry of another client that stands above the seal of the Reply and below the call
+abbrev pub DoneMeetsNoConflict : Type 0
+DoneMeetsNoConflict = (g : Group) (h : List TraceStep) → IsLawful g h → (later : List TraceStep) (x : TraceStep) (past : List TraceStep) → h ≡ later ++ x ∷ past
+    → (seal : Seal) (entries : List Tagged) (part : List ℕ) → took g past x ≡ Some (say.Reply seal entries part) → (e : Entry) (below : List Entry) → path g x.client (x ∷ past) ≡ e ∷ below
+    → (a : Answer) → x.returned ≡ Some (outcome.Done a) → (u : ℕ) → seal.position < u → PassesAt (is_in_the_way x.client e.op) below u → ⊥
+
+-- a call is aborted exactly by the least position of such an entry
+abbrev pub AbortedByTheLeast : Type 0
+AbortedByTheLeast = (g : Group) (h : List TraceStep) → IsLawful g h → (later : List TraceStep) (x : TraceStep) (past : List TraceStep) → h ≡ later ++ x ∷ past
+    → (seal : Seal) (entries : List Tagged) (part : List ℕ) → took g past x ≡ Some (say.Reply seal entries part) → (e : Entry) (below : List Entry) → path g x.client (x ∷ past) ≡ e ∷ below
+    → (u : ℕ) → (x.returned ≡ Some (outcome.Aborted u)) ↔ IsLeastAbove seal.position (is_in_the_way x.client e.op) below u
 
 -- ---- completions
 

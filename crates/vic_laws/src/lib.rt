@@ -11,7 +11,7 @@ pub mod order;
 pub mod trust;
 
 /// The claim on a group's views, of every lawful history. The laws in [`order`] and [`trust`] are its parts, some of them with
-/// fewer premises.
+/// fewer premises, and what it rests on: words, tags, hashes, seals, and what a client decides of its call.
 pub fn headline()
     ensures { EveryHistoryHolds }
 {}

@@ -1,6 +1,6 @@
-//! The laws on the order of calls.
+//! The laws on the order of calls, and on what a client decides of its call.
 
-ghost use Rattle.vic_laws.specs.OrderClaims.{CompletedOnce, CompletionsAre, SameOpIs, SameEntryIs, LeastAboveIs, NoneAboveIs, ConfirmedIs, ConfirmedByOwner, ViewsAgree, ViewsComplete, ViewsInRealTime, ViewsShowOnlyCalls};
+ghost use Rattle.vic_laws.specs.OrderClaims.{CompletedOnce, CompletionsAre, SameOpIs, SameEntryIs, LeastAboveIs, NoneAboveIs, ConfirmedIs, ConfirmedByOwner, DoneMeetsNoConflict, AbortedByTheLeast, ViewsAgree, ViewsComplete, ViewsInRealTime, ViewsShowOnlyCalls};
 
 /// The tests of equality of operations and of entries find what is equal.
 pub fn same_op_is()
@@ -18,6 +18,16 @@ pub fn least_above_is()
 pub fn confirmed_is()
     ensures found { ConfirmedIs }
     ensures owner { ConfirmedByOwner }
+{}
+
+/// A call that is done conflicts with no entry of another client above the seal of its Reply and below itself.
+pub fn done_meets_no_conflict()
+    ensures { DoneMeetsNoConflict }
+{}
+
+/// A call is aborted exactly by the least such entry.
+pub fn aborted_by_the_least()
+    ensures { AbortedByTheLeast }
 {}
 
 /// Every two views agree up to each call that stands in both.

@@ -12,7 +12,7 @@ pub fn tags()
     ensures { TagsHold }
 {}
 
-/// What a seal says holds.
+/// What a seal says holds, and it stands within its client's path.
 pub fn seals()
     ensures { SealsHold }
 {}

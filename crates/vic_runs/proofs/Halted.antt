@@ -1,20 +1,21 @@
--- No line is bad for that its client has halted.
-use Rattle.std.proofs.Common.{◌≡◌, ℕ, ◌+◌, ◌<◌, ◌^◌, Bool, true, false, List, [], ◌∷◌, length, take, Option, Some, None, is_none, refl, ap, subst, arith}
-use Rattle.std.specs.Prelude.{if◌then◌else◌, nat_lt}
-use Rattle.std.specs.List.{AllByRecursion}
+-- No line of an honest script is bad for that its client has halted.
+use Rattle.std.proofs.Common.{◌≡◌, ℕ, ◌+◌, Bool, true, false, List, [], ◌∷◌, Option, Some, None, is_none, refl, ap, subst, arith}
 use Rattle.vic_dict.specs.Lists.{AreBytes}
 use Rattle.vic_rules.specs.Client.{first_failing, awaits_nothing}
+use Rattle.vic_order.specs.Order.{Server}
+use Rattle.vic_order.specs.Serving.{by_rule}
 use Rattle.vic_script.specs.declared.line.Line.{Line}
 use Rattle.vic_script.specs.declared.line.Line.TheVariants as line
-use Rattle.vic_script.specs.Lines.{lines_of, line_of}
-use Rattle.vic_script.specs.Scenes.{Scene, Shown, stands, done_line, is_client, waits_in, asked_tests, bad_kind}
-use Rattle.vic_script.specs.Run.{limit, Bad, Played, stops, Tried, Fails, Does, tried_by, try_line, mode_in, follow, place_behind, play, run_of}
+use Rattle.vic_script.specs.Lines.{line_of}
+use Rattle.vic_script.specs.Scenes.{SceneOf, Scene, Shown, stands, done_line, is_client, waits_in, is_plain_call, asked_tests, bad_kind, is_honest_line}
+use Rattle.vic_script.specs.Run.{Bad, Played, Tried, Fails, Does, tried_by, try_line, mode_in, run_of, is_honest_script}
 use Rattle.vic_runs.specs.Claims.{NoLineIsHalted}
-use Rattle.vic_runs.proofs.Words.{text_fits, lines-bytes, length-lines_of}
-use Rattle.vic_runs.specs.Reached.{IsReached}
-use Rattle.vic_runs.proofs.Lines.{client_is}
-use Rattle.vic_runs.proofs.Outcomes.{reached-going}
-use Rattle.vic_runs.proofs.Runs.{ReachedIn, TriedReaches, tried, bytes-take, length-taken}
+use Rattle.vic_runs.specs.Reached.{IsHonestlyReached, IsSame}
+use Rattle.vic_runs.proofs.Words.{text_fits}
+use Rattle.vic_runs.proofs.Tests.{client_is}
+use Rattle.vic_runs.proofs.HonestScenes.{honest-going}
+use Rattle.vic_runs.proofs.Plays.{GoesSo, EachLine, claimed-run}
+use Rattle.vic_runs.proofs.Runs.{HonestIn, HonestFor, TriedHonest, honest_tried, IsHonestText, honest_for, honest-texts, StandsHonest}
 
 -- ---- tests
 
@@ -33,22 +34,34 @@ one_three : (a : Bool) → first_failing ((2, a) ∷ []) ≡ Some 3 → ⊥
 one_three false e = absurd cc
 one_three true e = absurd cc
 
-goes_on : (s : Scene) (n : ℕ) → IsReached s n → (i : ℕ) → is_client s i ≡ true → is_none (stands s i).halted ≡ true
-goes_on s n r i e = let bounds = client_is s i e in ap is_none (reached-going s n r i bounds.0 bounds.1)
+-- another test in front of tests
+one_more : (a : Bool) (others : List (ℕ × Bool)) → (first_failing others ≡ Some 3 → ⊥) → first_failing ((1, a) ∷ others) ≡ Some 3 → ⊥
+one_more false others h e = absurd cc
+one_more true others h e = h e
 
-asked_goes : (s : Scene) (n : ℕ) → IsReached s n → (i : ℕ) → first_failing (asked_tests s i) ≡ Some 3 → ⊥
-asked_goes s n r i e = asked_three (is_client s i) (is_none (stands s i).halted) (awaits_nothing (stands s i).awaiting) (goes_on s n r i) e
+module _ {V : Type 0} (R : V → Server → Type 0) (s : SceneOf V) (n : ℕ) (r : IsHonestlyReached R s n) where
+  goes_on : (i : ℕ) → is_client s i ≡ true → is_none (stands s i).halted ≡ true
+  goes_on i e = let bounds = client_is s i e in ap is_none (honest-going R s n r i bounds.0 bounds.1)
 
--- in a scene that is reached no line fails that test
-pub never_three : (s : Scene) (n : ℕ) → IsReached s n → (l : Line) → bad_kind s l ≡ Some 3 → ⊥
-unfolding bad_kind
-never_three s n r (line.Clients count) e = absurd cc
-never_three s n r (line.Call i o) e = asked_goes s n r i e
-never_three s n r (line.Poll i) e = asked_goes s n r i e
-never_three s n r (line.Sync i) e = asked_goes s n r i e
-never_three s n r (line.Serve i) e = queue_three (is_client s i) (waits_in s.up i) e
-never_three s n r (line.Take i) e = queue_three (is_client s i) (waits_in s.down i) e
-never_three s n r (line.Run i) e = one_three (is_client s i) e
+  asked_goes : (i : ℕ) → first_failing (asked_tests s i) ≡ Some 3 → ⊥
+  asked_goes i e = asked_three (is_client s i) (is_none (stands s i).halted) (awaits_nothing (stands s i).awaiting) (goes_on i) e
+
+  -- in a scene of an honest run no honest line fails that test
+  pub never_three : (l : Line) → is_honest_line l ≡ true → bad_kind s l ≡ Some 3 → ⊥
+  unfolding bad_kind
+  never_three (line.Clients count) honest e = absurd cc
+  never_three (line.Call i o) honest e = one_more (is_plain_call s o) (asked_tests s i) (asked_goes i) e
+  never_three (line.Poll i) honest e = asked_goes i e
+  never_three (line.Sync i) honest e = asked_goes i e
+  never_three (line.Serve i) honest e = queue_three (is_client s i) (waits_in s.up i) e
+  never_three (line.Take i) honest e = queue_three (is_client s i) (waits_in s.down i) e
+  never_three (line.Run i) honest e = one_three (is_client s i) e
+  never_three (line.Give i payload) honest e = absurd cc
+  never_three (line.Again i) honest e = absurd cc
+  never_three (line.Flip i k) honest e = absurd cc
+  never_three (line.Resend i) honest e = absurd cc
+  never_three (line.Copy k t) honest e = absurd cc
+  never_three (line.Move i k) honest e = absurd cc
 
 -- ---- lines
 
@@ -60,20 +73,30 @@ fails_by : (bad : Option ℕ) (shown : Shown) → (bad ≡ Some 3 → ⊥) → F
 fails_by None shown h = tt
 fails_by (Some k) shown h = λ e. h (ap (λ n. Some n) e)
 
+-- the kind of a line that is none of the script
+one_is_other : (n : ℕ) → n ≡ 1 → n ≡ 3 → ⊥
+one_is_other n e f = omega (arith, e, f)
+
 fails_first : (l : Line) → FailsOtherwise (try_line None (Some l))
 fails_first (line.Clients count) = tt
-fails_first (line.Call i o) = λ e. absurd (omega (arith, e))
-fails_first (line.Poll i) = λ e. absurd (omega (arith, e))
-fails_first (line.Sync i) = λ e. absurd (omega (arith, e))
-fails_first (line.Serve i) = λ e. absurd (omega (arith, e))
-fails_first (line.Take i) = λ e. absurd (omega (arith, e))
-fails_first (line.Run i) = λ e. absurd (omega (arith, e))
+fails_first (line.Call i o) = one_is_other 1 refl
+fails_first (line.Poll i) = one_is_other 1 refl
+fails_first (line.Sync i) = one_is_other 1 refl
+fails_first (line.Serve i) = one_is_other 1 refl
+fails_first (line.Take i) = one_is_other 1 refl
+fails_first (line.Run i) = one_is_other 1 refl
+fails_first (line.Give i payload) = one_is_other 1 refl
+fails_first (line.Again i) = one_is_other 1 refl
+fails_first (line.Flip i k) = one_is_other 1 refl
+fails_first (line.Resend i) = one_is_other 1 refl
+fails_first (line.Copy k t) = one_is_other 1 refl
+fails_first (line.Move i k) = one_is_other 1 refl
 
-fails : (scene : Option Scene) (l : Option Line) (n : ℕ) → ReachedIn scene n → FailsOtherwise (try_line scene l)
-fails None None n h = λ e. absurd (omega (arith, e))
-fails None (Some l) n h = fails_first l
-fails (Some s) None n h = λ e. absurd (omega (arith, e))
-fails (Some s) (Some l) n h = fails_by (bad_kind s l) (done_line s l) (never_three s n h l)
+fails : (scene : Option Scene) (l : Option Line) (n : ℕ) → HonestIn scene n → HonestFor scene l → FailsOtherwise (try_line scene l)
+fails None None n h honest = one_is_other 1 refl
+fails None (Some l) n h honest = fails_first l
+fails (Some s) None n h honest = one_is_other 1 refl
+fails (Some s) (Some l) n h honest = fails_by (bad_kind s l) (done_line by_rule s l) (never_three IsSame s n h l honest)
 
 -- ---- all lines
 
@@ -81,40 +104,25 @@ abbrev IsOtherwise : Option Bad → Type 0
 IsOtherwise None = Unit {0}
 IsOtherwise (Some b) = b.kind ≡ 3 → ⊥
 
-bad-either : (b : Bool) (x y : Played) → IsOtherwise x.bad → IsOtherwise y.bad → IsOtherwise (if b then x else y).bad
-bad-either true x y h k = h
-bad-either false x y h k = k
+abbrev LeavesOtherwise : Option Scene → Played → Type 0
+LeavesOtherwise scene p = IsOtherwise p.bad
 
-bad-followed : (number m : ℕ) (scene : Option Scene) (t : Tried) (rest : Scene → Played) → TriedReaches t m → FailsOtherwise t → ((s : Scene) → IsReached s m → IsOtherwise (rest s).bad)
-    → IsOtherwise (follow number scene t rest).bad
-bad-followed number m scene (Fails kind) rest t h each = h
-bad-followed number m scene (Does s text) rest t h each = each s t
+goes : (n : ℕ) (scene : Option Scene) (t : Tried) → TriedHonest t (n + 1) → FailsOtherwise t → GoesSo IsHonestText StandsHonest LeavesOtherwise n scene t
+goes n scene (Fails kind) r h = λ number. h
+goes n scene (Does s text) r h = (r, λ p claim. claim)
 
-bad-play : (total before number n : ℕ) (scene : Option Scene) (texts : List (List ℕ)) → ReachedIn scene n → n + length texts < 2 ^ 32 → AllByRecursion AreBytes texts
-    → IsOtherwise (play total before number scene texts).bad
-unfolding play
-bad-play total before number n None [] h few bytes = λ e. absurd (omega (arith, e))
-bad-play total before number n (Some s) [] h few bytes = tt
-bad-play total before number n None (text ∷ texts) h few bytes =
-    let place : ℕ = place_behind total before text in
-    let rest : Scene → Played = λ s. play total place (number + 1) (Some s) texts in
-    bad-either (nat_lt limit place) (stops None number 7) (follow number None (try_line None (line_of None text)) rest) (λ e. absurd (omega (arith, e)))
-    (bad-followed number (n + 1) None (try_line None (line_of None text)) rest (tried None (line_of None text) n tt (omega (arith, few)) (text_fits None text bytes.0)) (fails None (line_of None text) n tt)
-    (λ s r. bad-play total place (number + 1) (n + 1) (Some s) texts r (omega (arith, few)) bytes.1))
-bad-play total before number n (Some was) (text ∷ texts) h few bytes =
-    let place : ℕ = place_behind total before text in
-    let kind = mode_in (Some was) in
-    let rest : Scene → Played = λ s. play total place (number + 1) (Some s) texts in
-    bad-either (nat_lt limit place) (stops (Some was) number 7) (follow number (Some was) (try_line (Some was) (line_of kind text)) rest) (λ e. absurd (omega (arith, e)))
-    (bad-followed number (n + 1) (Some was) (try_line (Some was) (line_of kind text)) rest (tried (Some was) (line_of kind text) n h (omega (arith, few)) (text_fits kind text bytes.0)) (fails (Some was) (line_of kind text) n h)
-    (λ s r. bad-play total place (number + 1) (n + 1) (Some s) texts r (omega (arith, few)) bytes.1))
+each_line : EachLine IsHonestText StandsHonest LeavesOtherwise
+each_line = record {
+  closed = λ number. one_is_other 1 refl;
+  done = λ n s h. tt;
+  long = λ n number scene h. λ e. absurd (omega (arith, e));
+  line = λ n scene text h few good.
+      let honest : HonestFor scene (line_of (mode_in scene) text) = honest_for scene n text h good.1 in
+      goes n scene (try_line scene (line_of (mode_in scene) text)) (honest_tried scene (line_of (mode_in scene) text) n h few (text_fits (mode_in scene) text good.0) honest) (fails scene (line_of (mode_in scene) text) n h honest);
+}
 
-bad-known : (known : List ℕ) → AreBytes known → length known < 2 ^ 32 → IsOtherwise (play (length known) 0 1 None (lines_of known)).bad
-bad-known known bytes few = bad-play (length known) 0 1 0 None (lines_of known) tt (omega (arith, few, length-lines_of known)) (lines-bytes known bytes)
-
-bad-run : (script : List ℕ) → AreBytes script → IsOtherwise (run_of script).bad
-unfolding run_of
-bad-run script bytes = bad-known (take (limit + 1) script) (bytes-take (limit + 1) script bytes) (omega (arith, length-taken (limit + 1) script))
+bad-run : (script : List ℕ) → AreBytes script → is_honest_script script ≡ true → IsOtherwise (run_of script).bad
+bad-run script bytes honest = claimed-run IsHonestText StandsHonest LeavesOtherwise each_line tt script (honest-texts script bytes honest)
 
 pub none_for_halting : NoLineIsHalted
-none_for_halting script bytes b is = subst IsOtherwise is (bad-run script bytes)
+none_for_halting script bytes honest b is = subst IsOtherwise is (bad-run script bytes honest)

@@ -1,130 +1,238 @@
--- Scenes that lines of a script reach: what they have, and how one leads to another.
-use Rattle.std.proofs.Common.{◌≡◌, ℕ, ◌+◌, ◌<◌, ◌≤◌, false, [], ◌∷◌, length, refl, sym, subst, ◌∙◌, arith}
-use Rattle.vic_wire.specs.Hashes.{Group, IsGroup}
+-- Scenes that any lines reach: what they have, and how one leads to another.
+use Rattle.std.proofs.Common.{◌≡◌, ℕ, ◌+◌, ◌<◌, ◌≤◌, true, List, [], ◌∷◌, Option, Some, None, refl, ◌∙◌, arith}
+use Rattle.std.proofs.lemmas.List.{length-set}
+use Rattle.vic_dict.specs.Lists.{AreBytes}
+use Rattle.vic_wire.specs.Messages.{answer_text}
 use Rattle.vic_rules.specs.declared.trace.Input.{Input}
 use Rattle.vic_rules.specs.declared.trace.Input.TheVariants as input
+use Rattle.vic_rules.specs.declared.trace.TraceStep.{TraceStep}
 use Rattle.vic_rules.specs.Client.{MayStep}
-use Rattle.vic_rules.specs.History.{standing, AreSteps, IsLawful}
-use Rattle.vic_rules.specs.Trust.{IsForged}
-use Rattle.vic_order.specs.Honest.{Asks, Serves, Takes, World, happens, MayBe, IsHonestRun, world_after}
-use Rattle.vic_honest.proofs.Runs.{tags_made, all_lawful}
-use Rattle.vic_script.specs.Scenes.{Queue, Scene, opening, queue_of, stands, steps, served, serves, taken, takes}
+use Rattle.vic_rules.specs.History.{standing, IsLawful}
+use Rattle.vic_order.specs.Order.{Server, ready, serve}
+use Rattle.vic_order.specs.Serving.{by_rule}
+use Rattle.vic_script.specs.Scenes.{Queue, Scene, opening, queue_of, set_queue, server_at, server_of, stands, steps, served, serves, taken, takes, takes_aloud, hears_aloud, last_sent, resends, copies, joins, is_server}
 use Rattle.vic_script.specs.Run.{plain_group}
-use Rattle.vic_script.specs.Print.{is_forged}
-use Rattle.vic_runs.specs.Reached.{Shows, IsReached}
-use Rattle.vic_runs.proofs.Forged.{is_forged-none}
-use Rattle.vic_runs.proofs.Scenes.{opening-shows, step_by, steps-shows, serves-shows, takes-shows}
+use Rattle.vic_runs.specs.Reached.{ServerHolds, IfThere, HoldsBytes, IsReached}
+use Rattle.vic_runs.proofs.Lists.{all-set, all-replicate}
+use Rattle.vic_runs.proofs.Queues.{length-set_queue, queue-bytes, joined-bytes, queued-bytes}
+use Rattle.vic_runs.proofs.Servers.{there-at}
+use Rattle.vic_runs.proofs.Seats.{IsSeated, seated-opening, seated-served, seated-copies, seated-joins}
+use Rattle.vic_runs.proofs.Scenes.{step_by}
 use Rattle.vic_runs.proofs.Counting.{calls-step, calls-payload}
+use Rattle.vic_runs.proofs.Keeping.{holds-fresh, holds-serve}
+use Rattle.vic_runs.proofs.Sent.{sent-bytes, last_sent-bytes}
 
 -- ---- what such a scene has
 
-pub reached-group : (s : Scene) (n : ℕ) → IsReached s n → IsGroup s.group
-reached-group s n r = r.honest.group
-
+-- its clients step by the rules
 pub reached-lawful : (s : Scene) (n : ℕ) → IsReached s n → IsLawful s.group s.history
-reached-lawful s n r = subst (IsLawful s.group) r.shows.history (all_lawful s.group r.events r.honest)
+reached-lawful s n r = r.lawful
 
-pub reached-honest : (s : Scene) (n : ℕ) → IsReached s n → IsForged s.group s.history → ⊥
-reached-honest s n r = subst (λ h. IsForged s.group h → ⊥) r.shows.history (tags_made s.group r.events r.honest)
+-- each client has its queues and a server that exists
+pub reached-seated : (s : Scene) (n : ℕ) → IsReached s n → IsSeated s
+reached-seated s n r = record { up_count = r.up_count; down_count = r.down_count; by_count = r.by_count; placed = r.placed }
 
--- so it prints that the tags were made
-pub reached-is_forged : (s : Scene) (n : ℕ) → IsReached s n → is_forged s.group s.history ≡ false
-reached-is_forged s n r = is_forged-none s.group s.history (reached-honest s n r)
+-- the payloads of each queue that is read are bytes
+pub reached-up_bytes : (s : Scene) (n : ℕ) → IsReached s n → (i : ℕ) → HoldsBytes (queue_of s.up i)
+reached-up_bytes s n r i = queue-bytes s.up i r.up_bytes
 
-pub reached-up_count : (s : Scene) (n : ℕ) → IsReached s n → length s.up ≡ s.group.count
-reached-up_count s n r = r.shows.up_count
+pub reached-down_bytes : (s : Scene) (n : ℕ) → IsReached s n → (i : ℕ) → HoldsBytes (queue_of s.down i)
+reached-down_bytes s n r i = queue-bytes s.down i r.down_bytes
 
-pub reached-down_count : (s : Scene) (n : ℕ) → IsReached s n → length s.down ≡ s.group.count
-reached-down_count s n r = r.shows.down_count
+-- each server that exists keeps bytes
+pub reached-server : (s : Scene) (n : ℕ) → IsReached s n → (k : ℕ) → IfThere ServerHolds (server_at s.servers k)
+reached-server s n r k = there-at ServerHolds s.servers k r.servers
 
-pub reached-calls : (s : Scene) (n : ℕ) → IsReached s n → (i : ℕ) → (stands s i).calls ≤ n
-reached-calls s n r = r.calls
-
+-- so few calls are at most more
 pub reached-more : (s : Scene) (n m : ℕ) → n ≤ m → IsReached s n → IsReached s m
-reached-more s n m more r = record { plain = r.plain; events = r.events; honest = r.honest; shows = r.shows; calls = λ i. omega (arith, more, r.calls i) }
+reached-more s n m more r = record {
+  plain = r.plain;
+  lawful = r.lawful;
+  calls = λ i. omega (arith, more, r.calls i);
+  up_count = r.up_count;
+  down_count = r.down_count;
+  up_bytes = r.up_bytes;
+  down_bytes = r.down_bytes;
+  by_count = r.by_count;
+  placed = r.placed;
+  servers_count = r.servers_count;
+  servers = r.servers;
+}
 
 -- ---- the opening
 
 pub reached-opening : (count : ℕ) → 0 < count → count ≤ 64 → IsReached (opening (plain_group count)) 0
-unfolding world_after standing
-reached-opening count above upto = record {
-  plain = refl;
-  events = [];
-  honest = record { group = record { count = (above, upto); key = (omega arith, omega arith) }; steps = tt };
-  shows = opening-shows (plain_group count);
-  calls = λ i. omega arith;
+unfolding standing
+reached-opening count above upto =
+    let seats : IsSeated (opening (plain_group count)) = seated-opening (plain_group count) _ in
+    record {
+      plain = refl;
+      lawful = record { group = record { count = (above, upto); key = (omega arith, omega arith) }; steps = tt };
+      calls = λ i. omega arith;
+      up_count = seats.up_count;
+      down_count = seats.down_count;
+      up_bytes = all-replicate HoldsBytes count [] tt;
+      down_bytes = all-replicate HoldsBytes count [] tt;
+      by_count = seats.by_count;
+      placed = seats.placed;
+      servers_count = refl;
+      servers = (holds-fresh (plain_group count).mode count ready, (tt, (tt, (tt, tt))));
+    }
+
+-- ---- a client steps
+
+-- the steps so far, and one that may be next
+lawful-next : (s : Scene) (n : ℕ) → IsReached s n → (i : ℕ) → 0 < i → i ≤ s.group.count → (given : Input) → MayStep s.group (stands s i) given → IsLawful s.group (step_by s.group i given s.history ∷ s.history)
+lawful-next s n r i above upto given may = record { group = r.lawful.group; steps = (r.lawful.steps, record { member = (above, upto); may = may; sent = refl; returned = refl }) }
+
+reached-step : (s : Scene) (n m : ℕ) → IsReached s n → (i : ℕ) → 0 < i → i ≤ s.group.count → (given : Input) → MayStep s.group (stands s i) given
+    → ((j : ℕ) → (standing s.group j (step_by s.group i given s.history ∷ s.history)).calls ≤ m) → IsReached (steps s i given) m
+unfolding steps
+reached-step s n m r i above upto given may calls =
+    let x : TraceStep = step_by s.group i given s.history in
+    let lawful : IsLawful s.group (x ∷ s.history) = lawful-next s n r i above upto given may in
+    record {
+      plain = r.plain;
+      lawful = lawful;
+      calls = calls;
+      up_count = length-set_queue s.up i _ ∙ r.up_count;
+      down_count = r.down_count;
+      up_bytes = all-set HoldsBytes s.up _ _ r.up_bytes (queued-bytes (queue_of s.up i) x.sent (reached-up_bytes s n r i) (sent-bytes s.group x s.history lawful));
+      down_bytes = r.down_bytes;
+      by_count = r.by_count;
+      placed = r.placed;
+      servers_count = r.servers_count;
+      servers = r.servers;
+    }
+
+-- it may have been called once more then
+pub reached-steps : (s : Scene) (n : ℕ) → IsReached s n → (i : ℕ) → 0 < i → i ≤ s.group.count → (given : Input) → MayStep s.group (stands s i) given → IsReached (steps s i given) (n + 1)
+reached-steps s n r i above upto given may =
+    let x : TraceStep = step_by s.group i given s.history in
+    reached-step s n (n + 1) r i above upto given may (λ j. omega (arith, r.calls j, calls-step s.group s.history x (lawful-next s n r i above upto given may).steps j))
+
+-- a payload calls nothing
+pub reached-payload : (s : Scene) (n : ℕ) → IsReached s n → (i : ℕ) → 0 < i → i ≤ s.group.count → (payload : List ℕ) → AreBytes payload → IsReached (steps s i (input.Payload payload)) n
+reached-payload s n r i above upto payload bytes =
+    let given : Input = input.Payload payload in
+    let x : TraceStep = step_by s.group i given s.history in
+    reached-step s n n r i above upto given bytes (λ j. omega (arith, r.calls j, calls-payload s.group s.history x (lawful-next s n r i above upto given bytes).steps payload refl j))
+
+-- ---- a server serves
+
+reached-served : (s : Scene) (n : ℕ) → IsReached s n → (i : ℕ) → 0 < i → i ≤ s.group.count → (queue : Queue) → HoldsBytes queue → (server : Option Server) → IfThere ServerHolds server
+    → IsReached (served by_rule s i queue server) n
+reached-served s n r i above upto [] bytes server holds = r
+reached-served s n r i above upto (payload ∷ rest) bytes None holds = r
+reached-served s n r i above upto (payload ∷ rest) bytes (Some server) holds =
+    let kept : ServerHolds (serve server i payload).next × AreBytes (answer_text (serve server i payload).answer) = holds-serve server i payload holds above (omega (arith, upto, r.lawful.group.count.1)) bytes.0 in
+    let seats : IsSeated (served by_rule s i (payload ∷ rest) (Some server)) = seated-served by_rule s (reached-seated s n r) i (payload ∷ rest) (Some server) in
+    record {
+      plain = r.plain;
+      lawful = r.lawful;
+      calls = r.calls;
+      up_count = seats.up_count;
+      down_count = seats.down_count;
+      up_bytes = all-set HoldsBytes s.up _ rest r.up_bytes bytes.1;
+      down_bytes = all-set HoldsBytes s.down _ _ r.down_bytes (joined-bytes (queue_of s.down i) (answer_text (serve server i payload).answer) (reached-down_bytes s n r i) kept.1);
+      by_count = seats.by_count;
+      placed = seats.placed;
+      servers_count = length-set s.servers _ _ ∙ r.servers_count;
+      servers = all-set (IfThere ServerHolds) s.servers _ (Some (serve server i payload).next) r.servers kept.0;
+    }
+
+pub reached-serves : (s : Scene) (n : ℕ) → IsReached s n → (i : ℕ) → 0 < i → i ≤ s.group.count → IsReached (serves by_rule s i) n
+unfolding serves
+reached-serves s n r i above upto =
+    reached-served s n r i above upto (queue_of s.up i) (reached-up_bytes s n r i) (server_at s.servers (server_of s.served_by i)) (reached-server s n r (server_of s.served_by i))
+
+-- ---- a client takes a payload
+
+-- a change of payloads that leaves bytes
+abbrev pub KeepsBytes : (List ℕ → List ℕ) → Type 0
+KeepsBytes change = (payload : List ℕ) → AreBytes payload → AreBytes (change payload)
+
+reached-fewer : (s : Scene) (n : ℕ) → IsReached s n → (i : ℕ) (rest : Queue) → HoldsBytes rest → IsReached (record s { down = set_queue s.down i rest }) n
+reached-fewer s n r i rest bytes = record {
+  plain = r.plain;
+  lawful = r.lawful;
+  calls = r.calls;
+  up_count = r.up_count;
+  down_count = length-set_queue s.down i rest ∙ r.down_count;
+  up_bytes = r.up_bytes;
+  down_bytes = all-set HoldsBytes s.down _ rest r.down_bytes bytes;
+  by_count = r.by_count;
+  placed = r.placed;
+  servers_count = r.servers_count;
+  servers = r.servers;
 }
 
--- ---- a client is asked
+reached-taken : (change : List ℕ → List ℕ) → KeepsBytes change → (s : Scene) (n : ℕ) → IsReached s n → (i : ℕ) → 0 < i → i ≤ s.group.count → (queue : Queue) → HoldsBytes queue → IsReached (taken change s i queue) n
+reached-taken change keeps s n r i above upto [] bytes = r
+reached-taken change keeps s n r i above upto (payload ∷ rest) bytes =
+    reached-payload (record s { down = set_queue s.down i rest }) n (reached-fewer s n r i rest bytes.1) i above upto (change payload) (keeps payload bytes.0)
 
-abbrev pub IsAsked : Input → Type 0
-IsAsked (input.Call o) = Unit {0}
-IsAsked input.Poll = Unit {0}
-IsAsked input.Sync = Unit {0}
-IsAsked (input.Payload payload) = ⊥
-
-may-ask : (g : Group) (w : World) (i : ℕ) (given : Input) → IsAsked given → 0 < i → i ≤ g.count → MayStep g (standing g i w.history) given → MayBe g w (Asks i given)
-may-ask g w i (input.Call o) asked above upto may = (above, upto, may)
-may-ask g w i input.Poll asked above upto may = (above, upto, may)
-may-ask g w i input.Sync asked above upto may = (above, upto, may)
-may-ask g w i (input.Payload payload) asked above upto may = absurd asked
-
-pub reached-asked : (s : Scene) (n : ℕ) → IsReached s n → (i : ℕ) → 0 < i → i ≤ s.group.count → (given : Input) → IsAsked given → MayStep s.group (stands s i) given → IsReached (steps s i given) (n + 1)
-unfolding world_after happens steps
-reached-asked s n r i above upto given asked may =
-    let g : Group = s.group in
-    let w : World = world_after g r.events in
-    let may_be : MayBe g w (Asks i given) = may-ask g w i given asked above upto (subst (λ h. MayStep g (standing g i h) given) (sym r.shows.history) may) in
-    let run : IsHonestRun g (Asks i given ∷ r.events) = record { group = r.honest.group; steps = (r.honest.steps, may_be) } in
-    let shows : Shows (steps s i given) (world_after g (Asks i given ∷ r.events)) = steps-shows s w r.shows i above upto given in
-    let lawful : AreSteps g (step_by g i given s.history ∷ s.history) = subst (AreSteps g) shows.history (all_lawful g (Asks i given ∷ r.events) run).steps in
-    record {
-      plain = r.plain;
-      events = Asks i given ∷ r.events;
-      honest = run;
-      shows = shows;
-      calls = λ j. omega (arith, r.calls j, calls-step g s.history (step_by g i given s.history) lawful j);
-    }
-
--- ---- the server serves, and a client takes
-
-pub reached-served : (s : Scene) (n : ℕ) → IsReached s n → (i : ℕ) → 0 < i → i ≤ s.group.count → (queue : Queue) → queue_of s.up i ≡ queue → (queue ≡ [] → ⊥) → IsReached (served s i queue) n
-unfolding world_after happens
-reached-served s n r i above upto [] is waits = absurd (waits refl)
-reached-served s n r i above upto (payload ∷ rest) is waits =
-    let g : Group = s.group in
-    let w : World = world_after g r.events in
-    let full : w.up i ≡ [] → ⊥ = λ e. let none = sym is ∙ sym (r.shows.up i above upto) ∙ e in absurd cc in
-    record {
-      plain = r.plain;
-      events = Serves i ∷ r.events;
-      honest = record { group = r.honest.group; steps = (r.honest.steps, (above, upto, full)) };
-      shows = serves-shows s w r.shows i above upto (payload ∷ rest) is;
-      calls = r.calls;
-    }
-
-pub reached-serves : (s : Scene) (n : ℕ) → IsReached s n → (i : ℕ) → 0 < i → i ≤ s.group.count → (queue_of s.up i ≡ [] → ⊥) → IsReached (serves s i) n
-unfolding serves
-reached-serves s n r i above upto waits = reached-served s n r i above upto (queue_of s.up i) refl waits
-
-pub reached-taken : (s : Scene) (n : ℕ) → IsReached s n → (i : ℕ) → 0 < i → i ≤ s.group.count → (queue : Queue) → queue_of s.down i ≡ queue → (queue ≡ [] → ⊥) → IsReached (taken s i queue) n
-unfolding world_after happens steps
-reached-taken s n r i above upto [] is waits = absurd (waits refl)
-reached-taken s n r i above upto (payload ∷ rest) is waits =
-    let g : Group = s.group in
-    let w : World = world_after g r.events in
-    let full : w.down i ≡ [] → ⊥ = λ e. let none = sym is ∙ sym (r.shows.down i above upto) ∙ e in absurd cc in
-    let run : IsHonestRun g (Takes i ∷ r.events) = record { group = r.honest.group; steps = (r.honest.steps, (above, upto, full)) } in
-    let shows : Shows (taken s i (payload ∷ rest)) (world_after g (Takes i ∷ r.events)) = takes-shows s w r.shows i above upto (payload ∷ rest) is in
-    let lawful : AreSteps g (step_by g i (input.Payload payload) s.history ∷ s.history) = subst (AreSteps g) shows.history (all_lawful g (Takes i ∷ r.events) run).steps in
-    record {
-      plain = r.plain;
-      events = Takes i ∷ r.events;
-      honest = run;
-      shows = shows;
-      calls = λ j. omega (arith, r.calls j, calls-payload g s.history (step_by g i (input.Payload payload) s.history) lawful payload refl j);
-    }
-
-pub reached-takes : (s : Scene) (n : ℕ) → IsReached s n → (i : ℕ) → 0 < i → i ≤ s.group.count → (queue_of s.down i ≡ [] → ⊥) → IsReached (takes s i) n
+pub reached-takes : (change : List ℕ → List ℕ) → KeepsBytes change → (s : Scene) (n : ℕ) → IsReached s n → (i : ℕ) → 0 < i → i ≤ s.group.count → IsReached (takes change s i) n
 unfolding takes
-reached-takes s n r i above upto waits = reached-taken s n r i above upto (queue_of s.down i) refl waits
+reached-takes change keeps s n r i above upto = reached-taken change keeps s n r i above upto (queue_of s.down i) (reached-down_bytes s n r i)
+
+pub reached-takes_aloud : (change : List ℕ → List ℕ) → KeepsBytes change → (s : Scene) (n : ℕ) → IsReached s n → (i : ℕ) → 0 < i → i ≤ s.group.count → IsReached (takes_aloud change s i).scene n
+unfolding takes_aloud
+reached-takes_aloud change keeps s n r i above upto = reached-takes change keeps s n r i above upto
+
+pub reached-hears : (s : Scene) (n : ℕ) → IsReached s n → (i : ℕ) → 0 < i → i ≤ s.group.count → (o : Option (List ℕ)) → IfThere AreBytes o → IsReached (hears_aloud s i o).scene n
+reached-hears s n r i above upto None bytes = r
+reached-hears s n r i above upto (Some payload) bytes = reached-payload s n r i above upto payload bytes
+
+-- ---- what it sent joins its requests again
+
+pub reached-resends : (s : Scene) (n : ℕ) → IsReached s n → (i : ℕ) → IsReached (resends s i) n
+reached-resends s n r i = record {
+  plain = r.plain;
+  lawful = r.lawful;
+  calls = r.calls;
+  up_count = length-set_queue s.up i _ ∙ r.up_count;
+  down_count = r.down_count;
+  up_bytes = all-set HoldsBytes s.up _ _ r.up_bytes (queued-bytes (queue_of s.up i) (last_sent i s.history) (reached-up_bytes s n r i) (last_sent-bytes s.group s.history r.lawful i));
+  down_bytes = r.down_bytes;
+  by_count = r.by_count;
+  placed = r.placed;
+  servers_count = r.servers_count;
+  servers = r.servers;
+}
+
+-- ---- servers are copied and left
+
+pub reached-copies : (s : Scene) (n : ℕ) → IsReached s n → (k t : ℕ) → is_server s k ≡ true → IsReached (copies s k t) n
+reached-copies s n r k t there =
+    let seats : IsSeated (copies s k t) = seated-copies s (reached-seated s n r) k t there in
+    record {
+      plain = r.plain;
+      lawful = r.lawful;
+      calls = r.calls;
+      up_count = r.up_count;
+      down_count = r.down_count;
+      up_bytes = r.up_bytes;
+      down_bytes = r.down_bytes;
+      by_count = r.by_count;
+      placed = seats.placed;
+      servers_count = length-set s.servers _ _ ∙ r.servers_count;
+      servers = all-set (IfThere ServerHolds) s.servers _ (server_at s.servers k) r.servers (reached-server s n r k);
+    }
+
+pub reached-joins : (s : Scene) (n : ℕ) → IsReached s n → (i k : ℕ) → is_server s k ≡ true → IsReached (joins s i k) n
+reached-joins s n r i k there =
+    let seats : IsSeated (joins s i k) = seated-joins s (reached-seated s n r) i k there in
+    record {
+      plain = r.plain;
+      lawful = r.lawful;
+      calls = r.calls;
+      up_count = r.up_count;
+      down_count = r.down_count;
+      up_bytes = r.up_bytes;
+      down_bytes = r.down_bytes;
+      by_count = seats.by_count;
+      placed = seats.placed;
+      servers_count = r.servers_count;
+      servers = r.servers;
+    }

@@ -1,38 +1,47 @@
--- The run of every script of bytes reaches its scene.
-use Rattle.std.proofs.Common.{◌≡◌, ℕ, zero, suc, ◌+◌, ◌<◌, ◌≤◌, ◌^◌, Bool, true, false, List, [], ◌∷◌, length, take, Option, Some, None, refl, ap, ◌∙◌, arith}
-use Rattle.std.specs.Prelude.{if◌then◌else◌, nat_lt}
+-- The run of a script reaches its scene, and that of an honest script one of an honest run.
+use Rattle.std.proofs.Common.{◌≡◌, ℕ, ◌+◌, ◌<◌, ◌≤◌, ◌^◌, true, List, [], length, take, Option, Some, None, refl, sym, ap, subst, ◌∙◌, arith}
 use Rattle.std.specs.List.{AllByRecursion}
 use Rattle.std.proofs.lemmas.List.{length-take}
 use Rattle.vic_dict.specs.Lists.{AreBytes}
+use Rattle.vic_dict.specs.declared.op.Mode.TheVariants as mode
+use Rattle.vic_wire.specs.Hashes.{Group}
 use Rattle.vic_rules.specs.History.{IsLawful}
 use Rattle.vic_rules.specs.Trust.{IsForged}
-use Rattle.vic_order.specs.Honest.{Event, IsHonestRun, world_after}
 use Rattle.vic_laws.proofs.EveryHistory.{every_history_holds}
-use Rattle.vic_spellings.proofs.Steps.{bytes-nil, bytes-rest}
-use Rattle.vic_spellings.proofs.Bytes.{bytes-cons}
+use Rattle.vic_laws.proofs.Words.{all_true}
+use Rattle.vic_order.specs.Order.{fresh_server, ready}
+use Rattle.vic_order.specs.Serving.{by_rule}
+use Rattle.vic_order.specs.Honest.{Event, IsHonestRun, world_after}
+use Rattle.vic_spellings.proofs.Steps.{bytes-take}
 use Rattle.vic_script.specs.declared.line.Line.{Line}
 use Rattle.vic_script.specs.declared.line.Line.TheVariants as line
 use Rattle.vic_script.specs.Lines.{lines_of, line_of}
-use Rattle.vic_script.specs.Scenes.{Scene, Shown, opening, done_line, bad_kind}
-use Rattle.vic_script.specs.Run.{limit, Played, stops, plain_group, Tried, Fails, Does, tried_by, try_line, mode_in, follow, place_behind, play, run_of, group_in, history_in, group_of, history_of}
+use Rattle.vic_script.specs.Scenes.{Scene, Shown, opening, server_at, done_line, bad_kind}
+use Rattle.vic_script.specs.Run.{limit, Played, plain_group, Tried, Fails, Does, tried_by, try_line, mode_in, run_of, is_honest, is_honest_script, group_in, history_in, group_of, history_of}
 use Rattle.vic_runs.specs.Claims.{RunsAreLawful, NothingIsForged, RunsAreHonest, ClaimsHold}
+use Rattle.vic_runs.specs.Reached.{IsReached, IsHonestlyReached, IsSame}
 use Rattle.vic_runs.proofs.Forged.{is_forged-none}
-use Rattle.vic_runs.proofs.Words.{FitsIn, text_fits, lines-bytes, length-lines_of}
-use Rattle.vic_runs.specs.Reached.{IsReached}
-use Rattle.vic_runs.proofs.Reached.{reached-more, reached-opening, reached-lawful, reached-honest}
+use Rattle.vic_runs.proofs.Lists.{all_both}
+use Rattle.vic_runs.proofs.Words.{FitsIn, text_fits, lines-bytes}
+use Rattle.vic_runs.proofs.Reached.{reached-more, reached-opening, reached-lawful}
 use Rattle.vic_runs.proofs.Lines.{few_calls, reached-line}
+use Rattle.vic_runs.proofs.Kept.{same_is_kept}
+use Rattle.vic_runs.proofs.Honest.{honest-more, honest-opening, honest-line}
+use Rattle.vic_runs.proofs.HonestScenes.{honest-unforged}
+use Rattle.vic_runs.proofs.Plays.{GoesSo, EachLine, claimed-run}
+
+-- what is known of a script has at most as many bytes
+pub length-taken : (n : ℕ) (bs : List ℕ) → length (take n bs) ≤ n
+length-taken n bs = omega (arith, length-take n bs)
 
 -- the scene is reached, if there is one
 abbrev pub ReachedIn : Option Scene → ℕ → Type 0
 ReachedIn None n = Unit {0}
 ReachedIn (Some s) n = IsReached s n
 
-pub reached_in-more : (scene : Option Scene) (n m : ℕ) → n ≤ m → ReachedIn scene n → ReachedIn scene m
-reached_in-more None n m more h = tt
-reached_in-more (Some s) n m more h = reached-more s n m more h
-
 -- ---- a line
 
+-- a line that was tried is bad, or its scene is reached
 abbrev pub TriedReaches : Tried → ℕ → Type 0
 TriedReaches (Fails k) n = Unit {0}
 TriedReaches (Does s text) n = IsReached s n
@@ -49,108 +58,180 @@ tried-first (line.Sync i) n fits = tt
 tried-first (line.Serve i) n fits = tt
 tried-first (line.Take i) n fits = tt
 tried-first (line.Run i) n fits = tt
+tried-first (line.Give i payload) n fits = tt
+tried-first (line.Again i) n fits = tt
+tried-first (line.Flip i k) n fits = tt
+tried-first (line.Resend i) n fits = tt
+tried-first (line.Copy k t) n fits = tt
+tried-first (line.Move i k) n fits = tt
 
+-- a line that fits leads on to a scene that is reached, or is bad
 pub tried : (scene : Option Scene) (l : Option Line) (n : ℕ) → ReachedIn scene n → n + 1 < 2 ^ 32 → FitsIn l → TriedReaches (try_line scene l) (n + 1)
 tried None None n h few fits = tt
 tried None (Some l) n h few fits = tried-first l n fits
 tried (Some s) None n h few fits = tt
-tried (Some s) (Some l) n h few fits = tried-by (bad_kind s l) (done_line s l) (n + 1) (λ good. reached-line s n l h (few_calls s n h few) good fits)
-
-followed : (number m n k : ℕ) (scene : Option Scene) (t : Tried) (rest : Scene → Played) → n ≤ k → ReachedIn scene n → TriedReaches t m → ((s : Scene) → IsReached s m → ReachedIn (rest s).scene k)
-    → ReachedIn (follow number scene t rest).scene k
-followed number m n k scene (Fails kind) rest more h t each = reached_in-more scene n k more h
-followed number m n k scene (Does s text) rest more h t each = each s t
+tried (Some s) (Some l) n h few fits = tried-by (bad_kind s l) (done_line by_rule s l) (n + 1) (λ good. reached-line s n l h (few_calls s n h.calls few l) good fits)
 
 -- ---- all lines
 
-played-either : (b : Bool) (x y : Played) (n : ℕ) → ReachedIn x.scene n → ReachedIn y.scene n → ReachedIn (if b then x else y).scene n
-played-either true x y n h k = h
-played-either false x y n h k = k
+-- where a script stands after n lines, and what its run leaves
+abbrev StandsReached : ℕ → Option Scene → Type 0
+StandsReached n scene = ReachedIn scene n
 
--- lines from a scene that is reached reach another
-pub reached-play : (total before number n : ℕ) (scene : Option Scene) (texts : List (List ℕ)) → ReachedIn scene n → n + length texts < 2 ^ 32 → AllByRecursion AreBytes texts
-    → ReachedIn (play total before number scene texts).scene (n + length texts)
-unfolding play
-reached-play total before number n None [] h few bytes = tt
-reached-play total before number n (Some s) [] h few bytes = reached-more s n (n + 0) (omega arith) h
-reached-play total before number n None (text ∷ texts) h few bytes =
-    let place : ℕ = place_behind total before text in
-    let rest : Scene → Played = λ s. play total place (number + 1) (Some s) texts in
-    played-either (nat_lt limit place) (stops None number 7) (follow number None (try_line None (line_of None text)) rest) (n + length (text ∷ texts)) tt
-    (followed number (n + 1) n (n + length (text ∷ texts)) None (try_line None (line_of None text)) rest (omega arith) tt
-    (tried None (line_of None text) n tt (omega (arith, few)) (text_fits None text bytes.0))
-    (λ s r. reached_in-more (rest s).scene (n + 1 + length texts) (n + length (text ∷ texts)) (omega arith) (reached-play total place (number + 1) (n + 1) (Some s) texts r (omega (arith, few)) bytes.1)))
-reached-play total before number n (Some was) (text ∷ texts) h few bytes =
-    let place : ℕ = place_behind total before text in
-    let kind = mode_in (Some was) in
-    let rest : Scene → Played = λ s. play total place (number + 1) (Some s) texts in
-    let m : ℕ = n + length (text ∷ texts) in
-    played-either (nat_lt limit place) (stops (Some was) number 7) (follow number (Some was) (try_line (Some was) (line_of kind text)) rest) m (reached-more was n m (omega arith) h)
-    (followed number (n + 1) n m (Some was) (try_line (Some was) (line_of kind text)) rest (omega arith) h
-    (tried (Some was) (line_of kind text) n h (omega (arith, few)) (text_fits kind text bytes.0))
-    (λ s r. reached_in-more (rest s).scene (n + 1 + length texts) m (omega arith) (reached-play total place (number + 1) (n + 1) (Some s) texts r (omega (arith, few)) bytes.1)))
+abbrev LeavesReached : Option Scene → Played → Type 0
+LeavesReached scene p = (m : ℕ) × ReachedIn p.scene m
 
-pub bytes-take : (n : ℕ) (bs : List ℕ) → AreBytes bs → AreBytes (take n bs)
-bytes-take zero bs h = bytes-nil
-bytes-take (suc n) [] h = bytes-nil
-bytes-take (suc n) (b ∷ bs) h = bytes-cons b (take n bs) (h 0) (bytes-take n bs (bytes-rest b bs h))
+goes : (n : ℕ) (scene : Option Scene) (t : Tried) → ReachedIn scene n → TriedReaches t (n + 1) → GoesSo AreBytes StandsReached LeavesReached n scene t
+goes n scene (Fails kind) h r = λ number. (n, h)
+goes n scene (Does s text) h r = (r, λ p claim. claim)
 
-reached-known : (known : List ℕ) → AreBytes known → length known < 2 ^ 32 → ReachedIn (play (length known) 0 1 None (lines_of known)).scene (0 + length (lines_of known))
-reached-known known bytes few = reached-play (length known) 0 1 0 None (lines_of known) tt (omega (arith, few, length-lines_of known)) (lines-bytes known bytes)
-
-pub length-taken : (n : ℕ) (bs : List ℕ) → length (take n bs) ≤ n
-length-taken n bs = omega (arith, length-take n bs)
+each_line : EachLine AreBytes StandsReached LeavesReached
+each_line = record {
+  closed = λ number. (0, tt);
+  done = λ n s h. (n, h);
+  long = λ n number scene h. (n, h);
+  line = λ n scene text h few bytes. goes n scene (try_line scene (line_of (mode_in scene) text)) h (tried scene (line_of (mode_in scene) text) n h few (text_fits (mode_in scene) text bytes));
+}
 
 -- a script of bytes reaches the scene that it leaves
 pub reached-run : (script : List ℕ) → AreBytes script → (n : ℕ) × ReachedIn (run_of script).scene n
-unfolding run_of
-reached-run script bytes =
-    let known : List ℕ = take (limit + 1) script in
-    (0 + length (lines_of known), reached-known known (bytes-take (limit + 1) script bytes) (omega (arith, length-taken (limit + 1) script)))
+reached-run script bytes = claimed-run AreBytes StandsReached LeavesReached each_line tt script (lines-bytes (take (limit + 1) script) (bytes-take (limit + 1) script bytes))
 
 -- ---- what each run is
 
+-- a script that never opened has made no step
 lawful-in : (scene : Option Scene) (n : ℕ) → ReachedIn scene n → IsLawful (group_in scene) (history_in scene)
 lawful-in None n h = record { group = record { count = (omega arith, omega arith); key = (omega arith, omega arith) }; steps = tt }
 lawful-in (Some s) n h = reached-lawful s n h
 
-honest-in : (scene : Option Scene) (n : ℕ) → ReachedIn scene n → IsForged (group_in scene) (history_in scene) → ⊥
-honest-in None n h forged = forged
-honest-in (Some s) n h forged = reached-honest s n h forged
-
 pub all_lawful : RunsAreLawful
 all_lawful script bytes = let r = reached-run script bytes in lawful-in (run_of script).scene r.0 r.1
 
-never_forged : (script : List ℕ) → AreBytes script → IsForged (group_of script) (history_of script) → ⊥
-never_forged script bytes = let r = reached-run script bytes in honest-in (run_of script).scene r.0 r.1
+pub all_hold : ClaimsHold
+all_hold script bytes =
+    let lawful = all_lawful script bytes in
+    record { lawful = lawful; views = every_history_holds (group_of script) (history_of script) lawful }
+
+-- ---- honest scripts
+
+-- the scene is one of clients with one honest server, if there is one
+abbrev pub HonestIn : Option Scene → ℕ → Type 0
+HonestIn None n = Unit {0}
+HonestIn (Some s) n = IsHonestlyReached IsSame s n
+
+-- once a script has opened its lines are honest
+abbrev pub HonestFor : Option Scene → Option Line → Type 0
+HonestFor None l = Unit {0}
+HonestFor (Some s) l = is_honest l ≡ true
+
+-- a line that was tried is bad, or its scene is such a one
+abbrev pub TriedHonest : Tried → ℕ → Type 0
+TriedHonest (Fails k) n = Unit {0}
+TriedHonest (Does s text) n = IsHonestlyReached IsSame s n
+
+honest_tried-by : (bad : Option ℕ) (shown : Shown) (n : ℕ) → (bad ≡ None → IsHonestlyReached IsSame shown.scene n) → TriedHonest (tried_by bad shown) n
+honest_tried-by None shown n h = h refl
+honest_tried-by (Some k) shown n h = tt
+
+honest_opens : (count n : ℕ) → 0 < count → count ≤ 64 → IsHonestlyReached IsSame (opening (plain_group count)) n
+honest_opens count n above upto =
+    let g : Group = plain_group count in
+    honest-more IsSame (opening g) 0 n (omega arith) (honest-opening IsSame g (fresh_server g.mode g.count ready) (record { count = (above, upto); key = (omega arith, omega arith) }) refl refl)
+
+honest_tried-first : (l : Line) (n : ℕ) → FitsIn (Some l) → TriedHonest (try_line None (Some l)) n
+honest_tried-first (line.Clients count) n fits = honest_opens count n fits.0 fits.1
+honest_tried-first (line.Call i o) n fits = tt
+honest_tried-first (line.Poll i) n fits = tt
+honest_tried-first (line.Sync i) n fits = tt
+honest_tried-first (line.Serve i) n fits = tt
+honest_tried-first (line.Take i) n fits = tt
+honest_tried-first (line.Run i) n fits = tt
+honest_tried-first (line.Give i payload) n fits = tt
+honest_tried-first (line.Again i) n fits = tt
+honest_tried-first (line.Flip i k) n fits = tt
+honest_tried-first (line.Resend i) n fits = tt
+honest_tried-first (line.Copy k t) n fits = tt
+honest_tried-first (line.Move i k) n fits = tt
+
+-- an honest line that fits leads on to such a scene, or is bad
+pub honest_tried : (scene : Option Scene) (l : Option Line) (n : ℕ) → HonestIn scene n → n + 1 < 2 ^ 32 → FitsIn l → HonestFor scene l → TriedHonest (try_line scene l) (n + 1)
+honest_tried None None n h few fits honest = tt
+honest_tried None (Some l) n h few fits honest = honest_tried-first l (n + 1) fits
+honest_tried (Some s) None n h few fits honest = tt
+honest_tried (Some s) (Some l) n h few fits honest =
+    honest_tried-by (bad_kind s l) (done_line by_rule s l) (n + 1) (λ good. honest-line IsSame by_rule same_is_kept s n l h (few_calls s n h.calls few l) good fits honest)
+
+-- a line of an honest script
+abbrev pub IsHonestText : List ℕ → Type 0
+IsHonestText text = AreBytes text × (is_honest (line_of (Some mode.Plain) text) ≡ true)
+
+-- it is honest in the mode that the script has
+pub honest_for : (scene : Option Scene) (n : ℕ) (text : List ℕ) → HonestIn scene n → is_honest (line_of (Some mode.Plain) text) ≡ true → HonestFor scene (line_of (mode_in scene) text)
+honest_for None n text h honest = tt
+honest_for (Some s) n text h honest = subst (λ m. is_honest (line_of (Some m) text) ≡ true) (sym h.plain) honest
+
+-- each line of an honest script of bytes
+pub honest-texts : (script : List ℕ) → AreBytes script → is_honest_script script ≡ true → AllByRecursion IsHonestText (lines_of (take (limit + 1) script))
+honest-texts script bytes honest =
+    let known : List ℕ = take (limit + 1) script in
+    all_both AreBytes (λ text. is_honest (line_of (Some mode.Plain) text) ≡ true) (lines_of known) (lines-bytes known (bytes-take (limit + 1) script bytes))
+    (all_true (λ text. is_honest (line_of (Some mode.Plain) text)) (λ text. is_honest (line_of (Some mode.Plain) text) ≡ true) (λ text e. e) (lines_of known) honest)
+
+-- where an honest script stands after n lines, and what its run leaves
+abbrev pub StandsHonest : ℕ → Option Scene → Type 0
+StandsHonest n scene = HonestIn scene n
+
+abbrev LeavesHonest : Option Scene → Played → Type 0
+LeavesHonest scene p = (m : ℕ) × HonestIn p.scene m
+
+honest_goes : (n : ℕ) (scene : Option Scene) (t : Tried) → HonestIn scene n → TriedHonest t (n + 1) → GoesSo IsHonestText StandsHonest LeavesHonest n scene t
+honest_goes n scene (Fails kind) h r = λ number. (n, h)
+honest_goes n scene (Does s text) h r = (r, λ p claim. claim)
+
+each_honest_line : EachLine IsHonestText StandsHonest LeavesHonest
+each_honest_line = record {
+  closed = λ number. (0, tt);
+  done = λ n s h. (n, h);
+  long = λ n number scene h. (n, h);
+  line = λ n scene text h few good. honest_goes n scene (try_line scene (line_of (mode_in scene) text)) h
+      (honest_tried scene (line_of (mode_in scene) text) n h few (text_fits (mode_in scene) text good.0) (honest_for scene n text h good.1));
+}
+
+-- an honest script of bytes reaches such a scene
+pub honest-run : (script : List ℕ) → AreBytes script → is_honest_script script ≡ true → (n : ℕ) × HonestIn (run_of script).scene n
+honest-run script bytes honest = claimed-run IsHonestText StandsHonest LeavesHonest each_honest_line tt script (honest-texts script bytes honest)
+
+-- ---- what each honest run is
+
+unforged-in : (scene : Option Scene) (n : ℕ) → HonestIn scene n → IsForged (group_in scene) (history_in scene) → ⊥
+unforged-in None n h forged = forged
+unforged-in (Some s) n h forged = honest-unforged IsSame s n h forged
 
 pub none_forged : NothingIsForged
-none_forged script bytes = (is_forged-none (group_of script) (history_of script) (never_forged script bytes), never_forged script bytes)
+none_forged script bytes honest =
+    let r = honest-run script bytes honest in
+    let never : IsForged (group_of script) (history_of script) → ⊥ = unforged-in (run_of script).scene r.0 r.1 in
+    (is_forged-none (group_of script) (history_of script) never, never)
 
 -- an honest run that has what a scene has
 record IsRunIn (scene : Option Scene) : Type 0 where
   events : List Event
   honest : IsHonestRun (group_in scene) events
   history : (world_after (group_in scene) events).history ≡ history_in scene
-  server : (s : Scene) → scene ≡ Some s → (world_after (group_in scene) events).server ≡ s.server
+  server : (s : Scene) → scene ≡ Some s → server_at s.servers 1 ≡ Some (world_after (group_in scene) events).server
 
-run-in : (scene : Option Scene) (n : ℕ) → ReachedIn scene n → IsRunIn scene
+run-in : (scene : Option Scene) (n : ℕ) → HonestIn scene n → IsRunIn scene
 unfolding world_after
-run-in None n h = record { events = []; honest = record { group = (lawful-in None n h).group; steps = tt }; history = refl; server = λ s e. absurd cc }
+run-in None n h = record { events = []; honest = record { group = record { count = (omega arith, omega arith); key = (omega arith, omega arith) }; steps = tt }; history = refl; server = λ s e. absurd cc }
 run-in (Some s) n h = record {
   events = h.events;
   honest = h.honest;
   history = h.shows.history;
-  server = λ t e. let same : s ≡ t = cc in h.shows.server ∙ ap (λ x. x.server) same;
+  server = λ t e. let same : s ≡ t = cc in ap (λ x. server_at x.servers 1) (sym same) ∙ ap (λ l. server_at l 1) h.shows.only ∙ ap (λ v. Some v) h.shows.same;
 }
 
 pub all_honest : RunsAreHonest
-all_honest script bytes =
-    let r = reached-run script bytes in
+all_honest script bytes honest =
+    let r = honest-run script bytes honest in
     let run = run-in (run_of script).scene r.0 r.1 in
     record { events = run.events; honest = run.honest; history = run.history; server = run.server }
-
-pub all_hold : ClaimsHold
-all_hold script bytes =
-    let lawful = all_lawful script bytes in
-    record { lawful = lawful; honest = never_forged script bytes; tags_made = (none_forged script bytes).0; views = every_history_holds (group_of script) (history_of script) lawful }

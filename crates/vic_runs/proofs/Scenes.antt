@@ -1,29 +1,17 @@
--- What happens in a scene happens in a world of an honest run.
-use Rattle.std.proofs.Common.{◌≡◌, ℕ, ◌<◌, ◌≤◌, List, [], ◌∷◌, ◌++◌, length, Option, refl, sym, ap, subst, ◌∙◌, arith, length-append}
-use Rattle.std.proofs.lemmas.List.{length-replicate}
+-- What happens in a scene, whatever its servers are: the steps of its clients, what stays, and what waits.
+use Rattle.std.proofs.Common.{◌≡◌, ℕ, zero, suc, ◌<◌, ◌≤◌, Bool, true, false, List, [], ◌∷◌, ◌++◌, length, Option, Some, None, is_some, refl, sym, ap, ◌∙◌, arith, length-append}
+use Rattle.std.specs.Prelude.{if◌then◌else◌, nat_eq}
 use Rattle.vic_wire.specs.Hashes.{Group}
-use Rattle.vic_wire.specs.Messages.{answer_text}
 use Rattle.vic_rules.specs.declared.trace.Input.{Input}
 use Rattle.vic_rules.specs.declared.trace.Input.TheVariants as input
 use Rattle.vic_rules.specs.declared.trace.TraceStep.{TraceStep}
 use Rattle.vic_rules.specs.Client.{step, payload_of}
 use Rattle.vic_rules.specs.History.{standing}
-use Rattle.vic_order.specs.Order.{serve}
-use Rattle.vic_order.specs.Honest.{World, changed}
-use Rattle.vic_order.specs.Honest as honest
-use Rattle.vic_script.specs.Scenes.{Queue, Scene, opening, queue_of, set_queue, queued, steps, served, serves, taken, takes}
-use Rattle.vic_runs.specs.Reached.{Shows}
-use Rattle.vic_runs.proofs.Queues.{queue-fresh, queue-set_same, same-queued, same-changed, length-set_queue}
-
-pub opening-shows : (g : Group) → Shows (opening g) (honest.opening g)
-opening-shows g = record {
-  history = refl;
-  server = refl;
-  up_count = length-replicate g.count _;
-  down_count = length-replicate g.count _;
-  up = λ i low high. sym (queue-fresh g.count i);
-  down = λ i low high. sym (queue-fresh g.count i);
-}
+use Rattle.vic_order.specs.Serving.{Serving}
+use Rattle.vic_script.specs.declared.line.Line.{Line}
+use Rattle.vic_script.specs.declared.line.Line.TheVariants as line
+use Rattle.vic_script.specs.Scenes.{Queue, SceneOf, ShownOf, queue_of, set_queue, server_at, server_of, is_server, steps, served, serves, taken, takes, unchanged, flipped, takes_aloud, hears_aloud, last_taken, quietly, behind, turns, most_turns, done_line}
+use Rattle.vic_runs.proofs.Queues.{queue-set_same}
 
 -- what a client sends at a step
 abbrev pub sent_by : Group → ℕ → Input → List TraceStep → Option (List ℕ)
@@ -35,93 +23,79 @@ step_by g i given h =
     let v = step g i (standing g i h) given in
     record { client = i; input = given; sent = payload_of g i v.next v.sends; returned = v.returns }
 
-pub steps-history : (s : Scene) (i : ℕ) (given : Input) → (steps s i given).history ≡ step_by s.group i given s.history ∷ s.history
-unfolding steps
-steps-history s i given = refl
+-- ---- the group stays
 
-pub steps-group : (s : Scene) (i : ℕ) (given : Input) → (steps s i given).group ≡ s.group
-unfolding steps
-steps-group s i given = refl
+module _ {V : Type 0} where
+  pub steps-group : (s : SceneOf V) (i : ℕ) (given : Input) → (steps s i given).group ≡ s.group
+  unfolding steps
+  steps-group s i given = refl
 
-pub steps-shows : (s : Scene) (w : World) → Shows s w → (i : ℕ) → 0 < i → i ≤ s.group.count → (given : Input) → Shows (steps s i given) (honest.steps s.group w i given)
-unfolding steps
-steps-shows s w h i above upto given =
-    let g : Group = s.group in
-    let joins : honest.queued (w.up i) (sent_by g i given w.history) ≡ queued (queue_of s.up i) (sent_by g i given s.history) =
-    same-queued (w.up i) (sent_by g i given w.history) ∙ ap (λ q. queued q (sent_by g i given w.history)) (h.up i above upto) ∙ ap (λ l. queued (queue_of s.up i) (sent_by g i given l)) h.history in
-    record {
-      history = ap (λ l. step_by g i given l ∷ l) h.history;
-      server = h.server;
-      up_count = length-set_queue s.up i _ ∙ h.up_count;
-      down_count = h.down_count;
-      up = same-changed g.count w.up s.up i (honest.queued (w.up i) (sent_by g i given w.history)) (queued (queue_of s.up i) (sent_by g i given s.history)) h.up_count h.up above upto joins;
-      down = h.down;
-    }
+  served-group : (rule : Serving V) (s : SceneOf V) (i : ℕ) (queue : Queue) (server : Option V) → (served rule s i queue server).group ≡ s.group
+  served-group rule s i [] server = refl
+  served-group rule s i (payload ∷ rest) None = refl
+  served-group rule s i (payload ∷ rest) (Some server) = refl
 
-served-shows : (s : Scene) (w : World) → Shows s w → (i : ℕ) → 0 < i → i ≤ s.group.count → (queue : Queue) → Shows (served s i queue) (honest.serves w i queue)
-served-shows s w h i above upto [] = h
-served-shows s w h i above upto (payload ∷ rest) =
-    let joins : w.down i ++ answer_text (serve w.server i payload).answer ∷ [] ≡ queue_of s.down i ++ answer_text (serve s.server i payload).answer ∷ [] =
-    ap (λ q. q ++ answer_text (serve w.server i payload).answer ∷ []) (h.down i above upto) ∙ ap (λ v. queue_of s.down i ++ answer_text (serve v i payload).answer ∷ []) h.server in
-    record {
-      history = h.history;
-      server = ap (λ v. (serve v i payload).next) h.server;
-      up_count = length-set_queue s.up i rest ∙ h.up_count;
-      down_count = length-set_queue s.down i _ ∙ h.down_count;
-      up = same-changed s.group.count w.up s.up i rest rest h.up_count h.up above upto refl;
-      down = same-changed s.group.count w.down s.down i (w.down i ++ answer_text (serve w.server i payload).answer ∷ []) (queue_of s.down i ++ answer_text (serve s.server i payload).answer ∷ []) h.down_count h.down above upto joins;
-    }
+  pub serves-group : (rule : Serving V) (s : SceneOf V) (i : ℕ) → (serves rule s i).group ≡ s.group
+  unfolding serves
+  serves-group rule s i = served-group rule s i (queue_of s.up i) (server_at s.servers (server_of s.served_by i))
 
--- the same where the queue is the client's
-pub serves-shows : (s : Scene) (w : World) → Shows s w → (i : ℕ) → 0 < i → i ≤ s.group.count → (queue : Queue) → queue_of s.up i ≡ queue → Shows (served s i queue) (honest.serves w i (w.up i))
-serves-shows s w h i above upto queue is =
-    subst (λ q. Shows (served s i queue) (honest.serves w i q)) (sym (h.up i above upto ∙ is)) (served-shows s w h i above upto queue)
+  taken-group : (change : List ℕ → List ℕ) (s : SceneOf V) (i : ℕ) (queue : Queue) → (taken change s i queue).group ≡ s.group
+  taken-group change s i [] = refl
+  taken-group change s i (payload ∷ rest) = steps-group (record s { down = set_queue s.down i rest }) i (input.Payload (change payload))
 
-taken-shows : (s : Scene) (w : World) → Shows s w → (i : ℕ) → 0 < i → i ≤ s.group.count → (queue : Queue) → Shows (taken s i queue) (honest.takes s.group w i queue)
-taken-shows s w h i above upto [] = h
-taken-shows s w h i above upto (payload ∷ rest) =
-    let before : Shows (record s { down = set_queue s.down i rest }) (record w { down = changed w.down i rest }) = record {
-      history = h.history;
-      server = h.server;
-      up_count = h.up_count;
-      down_count = length-set_queue s.down i rest ∙ h.down_count;
-      up = h.up;
-      down = same-changed s.group.count w.down s.down i rest rest h.down_count h.down above upto refl;
-    } in
-    steps-shows (record s { down = set_queue s.down i rest }) (record w { down = changed w.down i rest }) before i above upto (input.Payload payload)
+  pub takes-group : (change : List ℕ → List ℕ) (s : SceneOf V) (i : ℕ) → (takes change s i).group ≡ s.group
+  unfolding takes
+  takes-group change s i = taken-group change s i (queue_of s.down i)
 
-pub takes-shows : (s : Scene) (w : World) → Shows s w → (i : ℕ) → 0 < i → i ≤ s.group.count → (queue : Queue) → queue_of s.down i ≡ queue → Shows (taken s i queue) (honest.takes s.group w i (w.down i))
-takes-shows s w h i above upto queue is =
-    subst (λ q. Shows (taken s i queue) (honest.takes s.group w i q)) (sym (h.down i above upto ∙ is)) (taken-shows s w h i above upto queue)
+  pub takes_aloud-group : (change : List ℕ → List ℕ) (s : SceneOf V) (i : ℕ) → (takes_aloud change s i).scene.group ≡ s.group
+  unfolding takes_aloud
+  takes_aloud-group change s i = takes-group change s i
 
--- ---- what stays
+  pub hears-group : (s : SceneOf V) (i : ℕ) (o : Option (List ℕ)) → (hears_aloud s i o).scene.group ≡ s.group
+  hears-group s i None = refl
+  hears-group s i (Some payload) = steps-group s i (input.Payload payload)
 
-served-group : (s : Scene) (i : ℕ) (queue : Queue) → (served s i queue).group ≡ s.group
-served-group s i [] = refl
-served-group s i (payload ∷ rest) = refl
+  group-either : (g : Group) (b : Bool) (x y : ShownOf V) → x.scene.group ≡ g → y.scene.group ≡ g → (if b then x else y).scene.group ≡ g
+  group-either g true x y h k = h
+  group-either g false x y h k = k
 
-pub serves-group : (s : Scene) (i : ℕ) → (serves s i).group ≡ s.group
-unfolding serves
-serves-group s i = served-group s i (queue_of s.up i)
+  pub turns-group : (rule : Serving V) (k : ℕ) (s : SceneOf V) (i : ℕ) → (turns rule k s i).scene.group ≡ s.group
+  unfolding turns
+  turns-group rule zero s i = refl
+  turns-group rule (suc k) s i =
+      let turn : ShownOf V = takes_aloud unchanged (serves rule s i) i in
+      group-either s.group (nat_eq (length (queue_of s.up i)) 0) (quietly s) (behind turn.text (turns rule k turn.scene i)) refl
+      (turns-group rule k turn.scene i ∙ takes_aloud-group unchanged (serves rule s i) i ∙ serves-group rule s i)
 
-taken-group : (s : Scene) (i : ℕ) (queue : Queue) → (taken s i queue).group ≡ s.group
-taken-group s i [] = refl
-taken-group s i (payload ∷ rest) = steps-group (record s { down = set_queue s.down i rest }) i (input.Payload payload)
+  -- no line changes the group
+  pub line-group : (rule : Serving V) (s : SceneOf V) (l : Line) → (done_line rule s l).scene.group ≡ s.group
+  line-group rule s (line.Clients n) = refl
+  line-group rule s (line.Call i o) = steps-group s i (input.Call o)
+  line-group rule s (line.Poll i) = steps-group s i input.Poll
+  line-group rule s (line.Sync i) = steps-group s i input.Sync
+  line-group rule s (line.Serve i) = serves-group rule s i
+  line-group rule s (line.Take i) = takes_aloud-group unchanged s i
+  line-group rule s (line.Run i) = turns-group rule most_turns s i
+  line-group rule s (line.Give i payload) = steps-group s i (input.Payload payload)
+  line-group rule s (line.Again i) = hears-group s i (last_taken i s.history)
+  line-group rule s (line.Flip i n) = takes_aloud-group (flipped n) s i
+  line-group rule s (line.Resend i) = refl
+  line-group rule s (line.Copy n t) = refl
+  line-group rule s (line.Move i n) = refl
 
-pub takes-group : (s : Scene) (i : ℕ) → (takes s i).group ≡ s.group
-unfolding takes
-takes-group s i = taken-group s i (queue_of s.down i)
+  -- ---- what waits
 
--- ---- what waits
+  served-waits : (rule : Serving V) (s : SceneOf V) (i : ℕ) (queue : Queue) (server : Option V) → 0 < i → i ≤ length s.down → (queue ≡ [] → ⊥) → is_some server ≡ true
+      → queue_of (served rule s i queue server).down i ≡ [] → ⊥
+  served-waits rule s i [] server above upto waits there none = waits refl
+  served-waits rule s i (payload ∷ rest) None above upto waits there none = absurd cc
+  served-waits rule s i (payload ∷ rest) (Some server) above upto waits there none =
+      let answer : List ℕ = (rule server i i payload).0 in
+      let e : queue_of s.down i ++ answer ∷ [] ≡ [] = sym (queue-set_same s.down i (queue_of s.down i ++ answer ∷ []) above upto) ∙ none in
+      omega (arith, ap length e, length-append (queue_of s.down i) (answer ∷ []))
 
-served-waits : (s : Scene) (i : ℕ) (queue : Queue) → 0 < i → i ≤ length s.down → (queue ≡ [] → ⊥) → queue_of (served s i queue).down i ≡ [] → ⊥
-served-waits s i [] above upto waits none = waits refl
-served-waits s i (payload ∷ rest) above upto waits none =
-    let answer : List ℕ = answer_text (serve s.server i payload).answer in
-    let e : queue_of s.down i ++ answer ∷ [] ≡ [] = sym (queue-set_same s.down i (queue_of s.down i ++ answer ∷ []) above upto) ∙ none in
-    omega (arith, ap length e, length-append (queue_of s.down i) (answer ∷ []))
-
--- where a request was served an answer waits
-pub serves-waits : (s : Scene) (i : ℕ) → 0 < i → i ≤ length s.down → (queue_of s.up i ≡ [] → ⊥) → queue_of (serves s i).down i ≡ [] → ⊥
-unfolding serves
-serves-waits s i above upto waits none = served-waits s i (queue_of s.up i) above upto waits none
+  -- where a request waits and the client's server exists, an answer waits once it was served
+  pub serves-waits : (rule : Serving V) (s : SceneOf V) (i : ℕ) → 0 < i → i ≤ length s.down → (queue_of s.up i ≡ [] → ⊥) → is_server s (server_of s.served_by i) ≡ true
+      → queue_of (serves rule s i).down i ≡ [] → ⊥
+  unfolding serves
+  serves-waits rule s i above upto waits there none = served-waits rule s i (queue_of s.up i) (server_at s.servers (server_of s.served_by i)) above upto waits there none

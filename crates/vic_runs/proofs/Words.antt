@@ -18,8 +18,8 @@ use Rattle.vic_spellings.proofs.Steps.{bytes-nil, bytes-rest}
 use Rattle.vic_spellings.proofs.Bytes.{bytes-cons}
 use Rattle.vic_script.specs.declared.line.Line.{Line}
 use Rattle.vic_script.specs.declared.line.Line.TheVariants as line
-use Rattle.vic_script.specs.Words.{is_plain, is_lower_hex, is_percent, hex_word, word_bytes, word_number, word_client}
-use Rattle.vic_script.specs.Lines.{put_first, lines_of, words_of, within, key_of, value_of, prefix_of, put_of, op_of, call_of, clients_of, named, header_of, event_of, or_line, line_in, line_of}
+use Rattle.vic_script.specs.Words.{is_plain, is_lower_hex, is_percent, hex_word, word_bytes, word_number, word_capped}
+use Rattle.vic_script.specs.Lines.{put_first, lines_of, words_of, within, key_of, value_of, prefix_of, put_of, op_of, call_of, clients_of, named, give_of, pair_of, is_place, copy_of, paired, header_of, called, event_of, or_line, line_in, line_of}
 use Rattle.vic_runs.specs.Claims.{FitsLine}
 
 -- ---- lines and words
@@ -159,8 +159,10 @@ line-mapped f (Some n) h = h n
 
 named-fits : (name a : List ℕ) → FitsIn (named name a)
 named-fits name a =
-    let client : Option ℕ = word_client a in
-    let runs : Option Line = if bytes_eq name (codes "run") then option_map line.Run client else None in
+    let client : Option ℕ = word_capped a in
+    let resends : Option Line = if bytes_eq name (codes "resend") then option_map line.Resend client else None in
+    let agains : Option Line = if bytes_eq name (codes "again") then option_map line.Again client else resends in
+    let runs : Option Line = if bytes_eq name (codes "run") then option_map line.Run client else agains in
     let takes : Option Line = if bytes_eq name (codes "take") then option_map line.Take client else runs in
     let serves : Option Line = if bytes_eq name (codes "serve") then option_map line.Serve client else takes in
     let syncs : Option Line = if bytes_eq name (codes "sync") then option_map line.Sync client else serves in
@@ -168,7 +170,34 @@ named-fits name a =
     (line-either (bytes_eq name (codes "sync")) (option_map line.Sync client) serves (line-mapped line.Sync client (λ n. tt))
     (line-either (bytes_eq name (codes "serve")) (option_map line.Serve client) takes (line-mapped line.Serve client (λ n. tt))
     (line-either (bytes_eq name (codes "take")) (option_map line.Take client) runs (line-mapped line.Take client (λ n. tt))
-    (line-either (bytes_eq name (codes "run")) (option_map line.Run client) None (line-mapped line.Run client (λ n. tt)) tt))))
+    (line-either (bytes_eq name (codes "run")) (option_map line.Run client) agains (line-mapped line.Run client (λ n. tt))
+    (line-either (bytes_eq name (codes "again")) (option_map line.Again client) resends (line-mapped line.Again client (λ n. tt))
+    (line-either (bytes_eq name (codes "resend")) (option_map line.Resend client) None (line-mapped line.Resend client (λ n. tt)) tt))))))
+
+give-fits : (i : Option ℕ) (payload : Option (List ℕ)) → BytesIn payload → FitsIn (give_of i payload)
+give-fits (Some i) (Some payload) h = h
+give-fits (Some i) None h = tt
+give-fits None payload h = tt
+
+pair-fits : (make : ℕ → ℕ → Line) → ((i n : ℕ) → FitsLine (make i n)) → (i n : Option ℕ) → FitsIn (pair_of make i n)
+pair-fits make each (Some i) (Some n) = each i n
+pair-fits make each (Some i) None = tt
+pair-fits make each None n = tt
+
+copy-fits : (n t : Option ℕ) → FitsIn (copy_of n t)
+copy-fits (Some n) (Some t) = line-either (is_place t) (Some (line.Copy n t)) None tt tt
+copy-fits (Some n) None = tt
+copy-fits None t = tt
+
+paired-fits : (name a b : List ℕ) → AreBytes b → FitsIn (paired name a b)
+paired-fits name a b h =
+    let moves : Option Line = if bytes_eq name (codes "move") then pair_of line.Move (word_capped a) (word_capped b) else None in
+    let copies : Option Line = if bytes_eq name (codes "copy") then copy_of (word_capped a) (word_number b) else moves in
+    let flips : Option Line = if bytes_eq name (codes "flip") then pair_of line.Flip (word_capped a) (word_capped b) else copies in
+    line-either (bytes_eq name (codes "give")) (give_of (word_capped a) (word_bytes b)) flips (give-fits (word_capped a) (word_bytes b) (word-bytes b h))
+    (line-either (bytes_eq name (codes "flip")) (pair_of line.Flip (word_capped a) (word_capped b)) copies (pair-fits line.Flip (λ i n. tt) (word_capped a) (word_capped b))
+    (line-either (bytes_eq name (codes "copy")) (copy_of (word_capped a) (word_number b)) moves (copy-fits (word_capped a) (word_number b))
+    (line-either (bytes_eq name (codes "move")) (pair_of line.Move (word_capped a) (word_capped b)) None (pair-fits line.Move (λ i n. tt) (word_capped a) (word_capped b)) tt)))
 
 call-fits : (i : Option ℕ) (o : Option Op) → FitsOp o → FitsIn (call_of i o)
 call-fits (Some i) (Some o) h = h
@@ -189,12 +218,16 @@ header-fits (name ∷ []) = tt
 header-fits (name ∷ a ∷ []) = line-either (bytes_eq name (codes "clients")) (clients_of (word_number a)) None (clients-fit (word_number a)) tt
 header-fits (name ∷ a ∷ b ∷ others) = tt
 
+called-fits : (kind : Mode) (name a : List ℕ) (others : List (List ℕ)) → AllByRecursion AreBytes others → FitsIn (called kind name a others)
+called-fits mode.Plain name a others h = line-either (bytes_eq name (codes "call")) (call_of (word_capped a) (op_of others)) None (call-fits (word_capped a) (op_of others) (op-fits others h)) tt
+called-fits mode.Objects name a others h = tt
+
 event-fits : (kind : Mode) (words : List (List ℕ)) → AllByRecursion AreBytes words → FitsIn (event_of kind words)
 event-fits kind [] h = tt
 event-fits kind (name ∷ []) h = tt
 event-fits kind (name ∷ a ∷ []) h = named-fits name a
-event-fits mode.Objects (name ∷ a ∷ b ∷ others) h = tt
-event-fits mode.Plain (name ∷ a ∷ b ∷ others) h = line-either (bytes_eq name (codes "call")) (call_of (word_client a) (op_of (b ∷ others))) None (call-fits (word_client a) (op_of (b ∷ others)) (op-fits (b ∷ others) h.1.1)) tt
+event-fits kind (name ∷ a ∷ b ∷ []) h = paired-fits name a b h.1.1.0
+event-fits kind (name ∷ a ∷ b ∷ c ∷ others) h = called-fits kind name a (b ∷ c ∷ others) h.1.1
 
 or-fits : (x y : Option Line) → FitsIn x → FitsIn y → FitsIn (or_line x y)
 or-fits (Some l) y h k = h

@@ -1,7 +1,6 @@
 -- The laws of scripts, one by one.
-use Rattle.std.specs.Prelude.{◌≡◌, ℕ, ◌<◌, ◌≤◌, ◌↔◌, true, false, List, [], reverse, Some, None}
+use Rattle.std.specs.Prelude.{◌≡◌, ℕ, ◌<◌, ◌≤◌, ◌↔◌, true, false, List, [], reverse, Some}
 use Rattle.std.specs.List.{flat_map}
-use Rattle.vic_dict.specs.declared.op.Outcome.TheVariants as outcome
 use Rattle.vic_dict.specs.Lists.{IsIn, AreBytes}
 use Rattle.vic_dict.specs.Dictionary.{Fits, AreBytesIn}
 use Rattle.vic_wire.specs.Hashes.{Group}
@@ -11,15 +10,17 @@ use Rattle.vic_rules.specs.declared.trace.TraceStep.{TraceStep}
 use Rattle.vic_rules.specs.History.{IsLawful, Completion, completions}
 use Rattle.vic_rules.specs.Trust.{IsForged}
 use Rattle.vic_rules.specs.Headline.{Headline}
+use Rattle.vic_order.specs.Order.{Server}
 use Rattle.vic_order.specs.Honest.{Event, IsHonestRun, world_after}
+use Rattle.vic_honest.specs.Claims.{StandsAsFated}
 use Rattle.vic_script.specs.declared.line.Line.{Line}
 use Rattle.vic_script.specs.declared.line.Line.TheVariants as line
-use Rattle.vic_honest.specs.Claims.{StandsAsFated}
-use Rattle.vic_script.specs.Scenes.{Scene, stands, said}
-use Rattle.vic_script.specs.Run.{Bad, run_of, group_of, history_of, bad_line_of}
+use Rattle.vic_script.specs.Scenes.{Scene, server_at, said}
+use Rattle.vic_script.specs.Run.{Bad, run_of, is_honest_script, group_of, history_of, bad_line_of}
 use Rattle.vic_script.specs.Print.{is_forged}
+use Rattle.vic_runs.specs.Reached.{GoesOn}
 
--- the operation of a call is within its lengths and is bytes, and a group has 1 to 64 clients
+-- the operation of a call is within its lengths and is bytes, a group has 1 to 64 clients, and a payload is bytes
 abbrev pub FitsLine : Line → Type 0
 FitsLine (line.Clients n) = (0 < n) × (n ≤ 64)
 FitsLine (line.Call i o) = Fits o × AreBytesIn o
@@ -28,55 +29,30 @@ FitsLine (line.Sync i) = Unit {0}
 FitsLine (line.Serve i) = Unit {0}
 FitsLine (line.Take i) = Unit {0}
 FitsLine (line.Run i) = Unit {0}
+FitsLine (line.Give i payload) = AreBytes payload
+FitsLine (line.Again i) = Unit {0}
+FitsLine (line.Flip i n) = Unit {0}
+FitsLine (line.Resend i) = Unit {0}
+FitsLine (line.Copy n t) = Unit {0}
+FitsLine (line.Move i n) = Unit {0}
+
+-- ---- every script of bytes
 
 -- each client steps by the rules
 abbrev pub RunsAreLawful : Type 0
 RunsAreLawful = (script : List ℕ) → AreBytes script → IsLawful (group_of script) (history_of script)
 
--- every tag that a client takes was made before, and the print says so
-abbrev pub NothingIsForged : Type 0
-NothingIsForged = (script : List ℕ) → AreBytes script → (is_forged (group_of script) (history_of script) ≡ false) × (IsForged (group_of script) (history_of script) → ⊥)
-
 -- the test finds a history forged exactly where it is
 abbrev pub ForgedIs : Type 0
 ForgedIs = (g : Group) (h : List TraceStep) → (is_forged g h ≡ true) ↔ IsForged g h
 
--- a run of clients with one honest server that has a script's history, and its server where the script opened
-pub record IsRunOf (script : List ℕ) : Type 0 where
-  pub events : List Event
-  pub honest : IsHonestRun (group_of script) events
-  pub history : (world_after (group_of script) events).history ≡ history_of script
-  pub server : (s : Scene) → (run_of script).scene ≡ Some s → (world_after (group_of script) events).server ≡ s.server
-
-abbrev pub RunsAreHonest : Type 0
-RunsAreHonest = (script : List ℕ) → AreBytes script → IsRunOf script
-
 -- what is claimed of a script's run
 pub record IsGood (script : List ℕ) : Type 0 where
   pub lawful : IsLawful (group_of script) (history_of script)
-  pub honest : IsForged (group_of script) (history_of script) → ⊥
-  pub tags_made : is_forged (group_of script) (history_of script) ≡ false
   pub views : Headline (group_of script) (history_of script)
 
 abbrev pub ClaimsHold : Type 0
 ClaimsHold = (script : List ℕ) → AreBytes script → IsGood script
-
--- every completed call is an entry of the server's log, and its outcome is what becomes of that entry
-abbrev pub OutcomesAreFates : Type 0
-OutcomesAreFates = (script : List ℕ) → AreBytes script → (s : Scene) → (run_of script).scene ≡ Some s → (c : Completion) → IsIn (completions s.group s.history) c → StandsAsFated s.server.log c
-
--- no client has halted, and no step returned that a check failed; a call that is refused names one of four limits
-pub record GoesOn (s : Scene) : Type 0 where
-  pub stands_so : (i : ℕ) → 0 < i → i ≤ s.group.count → (stands s i).halted ≡ None
-  pub returns_so : (x : TraceStep) → IsIn s.history x → (check : ℕ) → x.returned ≡ Some (outcome.Halted check) → ⊥
-  pub refuses_so : (x : TraceStep) → IsIn s.history x → (number : ℕ) → x.returned ≡ Some (outcome.Refused number) → (0 < number) × (number ≤ 4)
-
-abbrev pub NobodyHalts : Type 0
-NobodyHalts = (script : List ℕ) → AreBytes script → (s : Scene) → (run_of script).scene ≡ Some s → GoesOn s
-
--- no line is bad for that its client has halted
-abbrev pub NoLineIsHalted : Type 0
-NoLineIsHalted = (script : List ℕ) → AreBytes script → (b : Bad) → bad_line_of script ≡ Some b → b.kind ≡ 3 → ⊥
 
 -- what a step prints, by what its client was given
 abbrev pub line_of_input : Input → TraceStep → List ℕ
@@ -92,3 +68,33 @@ line_of_step x = line_of_input x.input x
 -- what the lines of a script print is what its steps tell, the oldest first
 abbrev pub PrintsAreReturns : Type 0
 PrintsAreReturns = (script : List ℕ) → (run_of script).text ≡ flat_map line_of_step (reverse (history_of script))
+
+-- ---- every honest script of bytes: no line tampers with what its one server answers
+
+-- every tag that a client takes was made before, and the print says so
+abbrev pub NothingIsForged : Type 0
+NothingIsForged = (script : List ℕ) → AreBytes script → is_honest_script script ≡ true
+    → (is_forged (group_of script) (history_of script) ≡ false) × (IsForged (group_of script) (history_of script) → ⊥)
+
+-- a run of clients with one honest server that has a script's history, and its one server where the script opened
+pub record IsRunOf (script : List ℕ) : Type 0 where
+  pub events : List Event
+  pub honest : IsHonestRun (group_of script) events
+  pub history : (world_after (group_of script) events).history ≡ history_of script
+  pub server : (s : Scene) → (run_of script).scene ≡ Some s → server_at s.servers 1 ≡ Some (world_after (group_of script) events).server
+
+abbrev pub RunsAreHonest : Type 0
+RunsAreHonest = (script : List ℕ) → AreBytes script → is_honest_script script ≡ true → IsRunOf script
+
+-- every completed call is an entry of the server's log, and its outcome is what becomes of that entry
+abbrev pub OutcomesAreFates : Type 0
+OutcomesAreFates = (script : List ℕ) → AreBytes script → is_honest_script script ≡ true → (s : Scene) → (run_of script).scene ≡ Some s
+    → (server : Server) → server_at s.servers 1 ≡ Some server → (c : Completion) → IsIn (completions s.group s.history) c → StandsAsFated server.log c
+
+-- no client halts
+abbrev pub NobodyHalts : Type 0
+NobodyHalts = (script : List ℕ) → AreBytes script → is_honest_script script ≡ true → (s : Scene) → (run_of script).scene ≡ Some s → GoesOn s
+
+-- no line is bad for that its client has halted
+abbrev pub NoLineIsHalted : Type 0
+NoLineIsHalted = (script : List ℕ) → AreBytes script → is_honest_script script ≡ true → (b : Bad) → bad_line_of script ≡ Some b → b.kind ≡ 3 → ⊥

@@ -1,9 +1,10 @@
-//! The laws of scripts: the run of every script of bytes is a run of clients with one honest server, so what holds of honest
-//! runs and of lawful histories holds of it.
+//! The laws of scripts: in the run of every script of bytes the clients step by the rules, whatever its lines do to payloads and
+//! servers, so what holds of lawful histories holds of it. Where no line tampers with what the one server answers, it is a run of
+//! clients with one honest server, and what holds of those holds of it.
 //!
 //! This crate has no code of its own. `specs/Claims.antt` states the laws over the definitions of `vic_script`, and each is the
 //! contract of a function without parameters and with an empty body. The contract of [`claims_hold`] carries the claim on a
-//! group's views to every script.
+//! group's views to every script. `specs/Reached.antt` says what holds of the scenes that lines reach.
 #![tactic(auto)]
 
 ghost use Rattle.vic_runs.specs.Claims.{RunsAreLawful, NothingIsForged, ForgedIs, RunsAreHonest, ClaimsHold, OutcomesAreFates, NobodyHalts, NoLineIsHalted, PrintsAreReturns};
@@ -13,7 +14,7 @@ pub fn runs_are_lawful()
     ensures { RunsAreLawful }
 {}
 
-/// In the run of a script every tag that a client takes was made by a client before.
+/// In the run of an honest script every tag that a client takes was made by a client before.
 pub fn nothing_is_forged()
     ensures { NothingIsForged }
 {}
@@ -23,7 +24,7 @@ pub fn forged_is()
     ensures { ForgedIs }
 {}
 
-/// The run of a script is a run of clients with one honest server.
+/// The run of an honest script is a run of clients with one honest server.
 pub fn runs_are_honest()
     ensures { RunsAreHonest }
 {}
@@ -33,17 +34,17 @@ pub fn claims_hold()
     ensures { ClaimsHold }
 {}
 
-/// Each call that a script completes returns what becomes of it in the server's log.
+/// Each call that an honest script completes returns what becomes of it in the server's log.
 pub fn outcomes_are_fates()
     ensures { OutcomesAreFates }
 {}
 
-/// In the run of a script no client halts.
+/// In the run of an honest script no client halts.
 pub fn nobody_halts()
     ensures { NobodyHalts }
 {}
 
-/// No line of a script is bad for that its client has halted.
+/// No line of an honest script is bad for that its client has halted.
 pub fn no_line_is_halted()
     ensures { NoLineIsHalted }
 {}
