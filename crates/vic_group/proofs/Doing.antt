@@ -1,46 +1,19 @@
--- What a world does at a line.
-use Rattle.std.proofs.Common.{◌≡◌, ℕ, zero, suc, ◌+◌, ◌<◌, Bool, true, false, List, [], ◌∷◌, ◌++◌, length, Option, Some, None, Result, Ok, Err, IfOk, reverse, nat_lt, refl, sym, ap, subst, ◌∙◌, arith, slice_get, slice_set, get_or}
+-- What a world shows after its members and servers did something.
+use Rattle.std.proofs.Common.{◌≡◌, ℕ, zero, suc, ◌+◌, ◌<◌, Bool, true, false, List, [], ◌∷◌, ◌++◌, length, drop, reverse, Option, Some, None, is_some, Result, Ok, Err, IfOk, OnOk, OnErr, nat_lt, inl, inr, refl, sym, ap, subst, ◌∙◌, arith, slice_get, slice_set, get_or}
+use Rattle.std.specs.Prelude.{IfSome, ◌⊎◌}
+use Rattle.std.proofs.lemmas.Bool.{lt-ltb, le-ltb}
 use Rattle.std.proofs.lemmas.List.{reverse-append}
-use Rattle.std.proofs.lemmas.Bool.{lt-ltb}
 use Rattle.vic_dict.specs.declared.bytes.NoMemory.{NoMemory}
+use Rattle.vic_rules.specs.declared.trace.Input.TheVariants as input
 use Rattle.vic_rules.specs.declared.trace.TraceStep.{TraceStep}
-use Rattle.vic_order.specs.Order.{Server}
+use Rattle.vic_order.specs.Serving.{Serving}
 use Rattle.vic_view.specs.declared.transcript.Transcript.{Transcript}
-use Rattle.vic_view.specs.Transcripts.{steps_of, history_of, group_of}
-use Rattle.vic_script.specs.Scenes.{Scene, Queue, queue_of, stands, serves, takes, takes_aloud, said, returned_in, waits_in}
+use Rattle.vic_view.specs.Transcripts.{steps_of, history_of}
+use Rattle.vic_script.specs.Scenes.{SceneOf, Queue, queued, server_at, set_server, serves, takes, takes_aloud, steps, said, returned_in, waits_in, has_byte, oldest, hears_aloud}
 use Rattle.vic_group.specs.declared.member.Member.{Member}
-use Rattle.vic_group.specs.World.{Shows, Serves, Takes}
-use Rattle.vic_group.proofs.Scenes.{up_at, down_at, shows_serves, shows_taken, set_same}
-
--- whether a request waited
-pub served_waits : (i : ℕ) (q : Queue) (m n : Member) (v next : Server) (went : Bool) → Serves i q m n v next went → nat_lt 0 (length q) ≡ went
-served_waits i [] m n v next went does = sym does.0
-served_waits i (p ∷ q) m n v next went does = lt-ltb 0 (suc (length q)) (omega arith) ∙ sym does.0
-
--- the server's turn
-pub serve_goes : (t : Transcript) (ms : List Member) (v next : Server) (s : Scene) (i k : ℕ) (m n : Member) (r : Result Bool NoMemory) → Shows t ms v s → i ≡ k + 1 → slice_get ms k ≡ Some m → k < length ms
-    → IfOk r (λ went. Serves i m.up m n v next went) → IfOk r (λ went. (waits_in s.up i ≡ went) × Shows t (slice_set ms k n) next (serves s i))
-serve_goes t ms v next s i k m n (Err e) shows is at lt does = tt
-serve_goes t ms v next s i k m n (Ok went) shows is at lt does = (
-  ap (λ (q : Queue). nat_lt 0 (length q)) (up_at t ms v s i k m shows is at) ∙ served_waits i m.up m n v next went does,
-  shows_serves t ms v next s i k m n went shows is at lt does,
-)
-
--- whether an answer waited, where none did
-pub none_waits : (t : Transcript) (ms : List Member) (v : Server) (s : Scene) (i k : ℕ) (m n : Member) → Shows t ms v s → i ≡ k + 1 → slice_get ms k ≡ Some m
-    → Takes s.group i (stands s i) m.down m n None → (waits_in s.down i ≡ false) × Shows t (slice_set ms k n) v s
-none_waits t ms v s i k m n shows is at does = by_queue m.down refl does
-  where
-    by_queue : (q : Queue) → m.down ≡ q → Takes s.group i (stands s i) q m n None → (waits_in s.down i ≡ false) × Shows t (slice_set ms k n) v s
-    by_queue [] is_queue takes_none = (
-      ap (λ (q : Queue). nat_lt 0 (length q)) (down_at t ms v s i k m shows is at ∙ is_queue),
-      subst (λ (c : Member). Shows t (slice_set ms k c) v s) (sym takes_none) (subst (λ (ns : List Member). Shows t ns v s) (sym (set_same ms k m at)) shows),
-    )
-    by_queue (p ∷ q) is_queue takes_none = absurd takes_none
-
--- the newest step of a longer transcript
-pub newest_of : (t after : Transcript) (x : TraceStep) → steps_of after ≡ steps_of t ++ x ∷ [] → x ∷ reverse (steps_of t) ≡ history_of after
-newest_of t after x trans = sym (ap (λ (xs : List TraceStep). reverse xs) trans ∙ reverse-append (steps_of t) (x ∷ []))
+use Rattle.vic_group.specs.World.{Shows, Acts, Joins, Stays, step_at}
+use Rattle.vic_group.proofs.Scenes.{placed_here, up_here, down_here, shows_step, shows_taken, shows_served, set_same}
+use Rattle.vic_group.proofs.Turns.{serves_rest}
 
 -- the member at a place
 pub member_at : (ms : List Member) (k : ℕ) (m : Member) → k < length ms → m ≡ get_or ms k m → slice_get ms k ≡ Some m
@@ -48,31 +21,140 @@ member_at [] k m lt is = absurd (omega arith)
 member_at (n ∷ ms) zero m lt is = let e : m ≡ n = is in ap (λ (c : Member). Some c) (sym e)
 member_at (n ∷ ms) (suc k) m lt is = member_at ms k m (omega arith) is
 
--- what a client took, where one waited
-pub one_waits : (t after : Transcript) (ms : List Member) (v : Server) (s : Scene) (i k : ℕ) (m n : Member) (x : TraceStep) → Shows t ms v s → i ≡ k + 1 → slice_get ms k ≡ Some m → k < length ms
-    → Takes s.group i (stands s i) m.down m n (Some x) → group_of after ≡ group_of t → steps_of after ≡ steps_of t ++ x ∷ []
-    → (waits_in s.down i ≡ true) × ((said i x.returned ≡ (takes_aloud s i).text) × Shows after (slice_set ms k n) v (takes_aloud s i).scene)
+-- a transcript that no step joined shows the same
+pub same_transcript : {V : Type 0} (t after : Transcript) (ms : List Member) (vs : List (Option V)) (s : SceneOf V) → Stays t after → Shows t ms vs s → Shows after ms vs s
+same_transcript t after ms vs s stays shows = record {
+  count = shows.count;
+  few = shows.few;
+  group = stays.group ∙ shows.group;
+  history = ap (λ (xs : List TraceStep). reverse xs) stays.steps ∙ shows.history;
+  up = shows.up;
+  down = shows.down;
+  served_by = shows.served_by;
+  servers = shows.servers;
+  placed = shows.placed;
+  clients = shows.clients;
+  lawful = shows.lawful;
+}
+
+-- a member that is as before, set again
+pub same_members : {V : Type 0} (t : Transcript) (ms : List Member) (vs : List (Option V)) (s : SceneOf V) (k : ℕ) (m n : Member) → slice_get ms k ≡ Some m → n ≡ m → Shows t ms vs s → Shows t (slice_set ms k n) vs s
+same_members {V = V} t ms vs s k m n at same shows =
+    subst (λ (c : Member). Shows t (slice_set ms k c) vs s) (sym same) (subst (λ (ns : List Member). Shows t ns vs s) (sym (set_same ms k m at)) shows)
+
+-- both: a call that found no memory left all as it was
+pub left_alone : {V T : Type 0} (r : Result T NoMemory) (t after : Transcript) (ms : List Member) (vs : List (Option V)) (s : SceneOf V) (k : ℕ) (m n : Member) → slice_get ms k ≡ Some m → OnErr r (n ≡ m) → OnErr r (Stays t after)
+    → Shows t ms vs s → OnErr r (Shows after (slice_set ms k n) vs s)
+left_alone (Ok x) t after ms vs s k m n at same stays shows = tt
+left_alone (Err e) t after ms vs s k m n at same stays shows = same_transcript t after (slice_set ms k n) vs s stays (same_members t ms vs s k m n at same shows)
+
+-- ---- waiting
+
+waits : (q : Queue) (p : List ℕ) → q ≡ p ∷ drop 1 q → nat_lt 0 (length q) ≡ true
+waits q p e = ap (λ (r : Queue). nat_lt 0 (length r)) e ∙ lt-ltb 0 (suc (length (drop 1 q))) (omega arith)
+
+module _ {V : Type 0} (t : Transcript) (ms : List Member) (vs : List (Option V)) (s : SceneOf V) (i k : ℕ) (m : Member) (shows : Shows t ms vs s) (is : i ≡ k + 1) (at : slice_get ms k ≡ Some m) where
+  -- no answer waits, or one does
+  pub none_waits : m.down ≡ [] → waits_in s.down i ≡ false
+  none_waits none = ap (λ (q : Queue). nat_lt 0 (length q)) (down_here t ms vs s i k m shows is at ∙ none)
+
+  pub one_waits : (p : List ℕ) → m.down ≡ p ∷ drop 1 m.down → waits_in s.down i ≡ true
+  one_waits p some = ap (λ (q : Queue). nat_lt 0 (length q)) (down_here t ms vs s i k m shows is at) ∙ waits m.down p some
+
+  -- no request waits, or one does
+  pub none_asks : m.up ≡ [] → waits_in s.up i ≡ false
+  none_asks none = ap (λ (q : Queue). nat_lt 0 (length q)) (up_here t ms vs s i k m shows is at ∙ none)
+
+  pub one_asks : (p : List ℕ) → m.up ≡ p ∷ drop 1 m.up → waits_in s.up i ≡ true
+  one_asks p some = ap (λ (q : Queue). nat_lt 0 (length q)) (up_here t ms vs s i k m shows is at) ∙ waits m.up p some
+
+  -- whether the oldest answer has a byte of a number
+  pub byte_there : (n : ℕ) (b : Bool) → b ≡ nat_lt n (length (oldest m.down)) → has_byte s.down i n ≡ b
+  byte_there n b e = ap (λ (q : Queue). nat_lt n (length (oldest q))) (down_here t ms vs s i k m shows is at) ∙ sym e
+
+-- where the oldest payload has a byte, there is one
+pub some_oldest : (n : ℕ) (q : Queue) → true ≡ nat_lt n (length (oldest q)) → q ≡ oldest q ∷ drop 1 q
+some_oldest n [] e = let none : nat_lt n 0 ≡ false = le-ltb n 0 (omega arith) in absurd cc
+some_oldest n (p ∷ q) e = refl
+
+-- ---- taking
+
+-- the steps behind a joined one
+joined : {V : Type 0} (t after : Transcript) (s : SceneOf V) (x : TraceStep) → Joins x t after → history_of t ≡ s.history → history_of after ≡ x ∷ s.history
+joined t after s x joins h = ap (λ (xs : List TraceStep). reverse xs) joins.steps ∙ reverse-append (steps_of t) (x ∷ []) ∙ ap (λ (past : List TraceStep). x ∷ past) h
+
+-- what a client made of its oldest answer as it came through a change
+pub taken_as : {V : Type 0} (t after : Transcript) (ms : List Member) (vs : List (Option V)) (s : SceneOf V) (i k : ℕ) (m n : Member) (change : List ℕ → List ℕ) (payload first : List ℕ) (before out : List ℕ) → Shows t ms vs s → i ≡ k + 1
+    → slice_get ms k ≡ Some m → k < length ms → m.down ≡ first ∷ drop 1 m.down → payload ≡ change first → Acts s.group s.history i (input.Payload payload) (record m { down = drop 1 m.down }) n
+    → Joins (step_at s.group s.history i (input.Payload payload)) t after → out ≡ before ++ said i (step_at s.group s.history i (input.Payload payload)).returned
+    → (out ≡ before ++ (takes_aloud change s i).text) × Shows after (slice_set ms k n) vs (takes_aloud change s i).scene
 unfolding takes_aloud
-one_waits t after ms v s i k m n x shows is at lt does group trans = by_queue m.down refl does
+taken_as t after ms vs s i k m n change payload first before out shows is at lt some changed acts joins told =
+    let x : TraceStep = step_at s.group s.history i (input.Payload payload) in
+    let now : Shows after (slice_set ms k n) vs (takes change s i) = shows_taken t ms vs s i k m shows is at after change payload first (drop 1 m.down) n lt some changed acts joins in
+    (told ∙ ap (λ (h : List TraceStep). before ++ said i (returned_in h)) (sym (joined t after s x joins shows.history) ∙ now.history), now)
+
+-- what a client made of a payload from elsewhere
+pub heard_as : {V : Type 0} (t after : Transcript) (ms : List Member) (vs : List (Option V)) (s : SceneOf V) (i k : ℕ) (m n : Member) (payload : List ℕ) (before out : List ℕ) → Shows t ms vs s → i ≡ k + 1
+    → slice_get ms k ≡ Some m → k < length ms → Acts s.group s.history i (input.Payload payload) m n → Joins (step_at s.group s.history i (input.Payload payload)) t after
+    → out ≡ before ++ said i (step_at s.group s.history i (input.Payload payload)).returned
+    → (out ≡ before ++ (hears_aloud s i (Some payload)).text) × Shows after (slice_set ms k n) vs (hears_aloud s i (Some payload)).scene
+heard_as t after ms vs s i k m n payload before out shows is at lt acts joins told =
+    let x : TraceStep = step_at s.group s.history i (input.Payload payload) in
+    let now : Shows after (slice_set ms k n) vs (steps s i (input.Payload payload)) = shows_step t ms vs s i k m shows is at after (input.Payload payload) n lt acts joins in
+    (told ∙ ap (λ (h : List TraceStep). before ++ said i (returned_in h)) (sym (joined t after s x joins shows.history) ∙ now.history), now)
+
+-- ---- serving
+
+-- what is there is something
+is_there : {V : Type 0} (o : Option V) → is_some o ≡ true → (v : V) × (o ≡ Some v)
+is_there None h = absurd cc
+is_there (Some v) h = (v, refl)
+
+-- what a client's server made of its oldest request, if one waited
+pub serve_goes : {V : Type 0} (rule : Serving V) (t : Transcript) (ms : List Member) (vs ws : List (Option V)) (s : SceneOf V) (i k : ℕ) (m n : Member) (r : Result Bool NoMemory) → Shows t ms vs s → i ≡ k + 1 → slice_get ms k ≡ Some m → k < length ms
+    → (r ≡ Ok false → ((m.up ≡ []) ⊎ (is_some (server_at vs m.server) ≡ false)) × ((n ≡ m) × (ws ≡ vs)))
+    → (r ≡ Ok true → IfSome (server_at vs m.server) (λ v. (m.up ≡ oldest m.up ∷ drop 1 m.up) × ((n ≡ record m { up = drop 1 m.up; down = m.down ++ (rule v i i (oldest m.up)).0 ∷ [] }) × (ws ≡ set_server vs m.server (Some (rule v i i (oldest m.up)).1)))))
+    → IfOk r (λ went. (waits_in s.up i ≡ went) × Shows t (slice_set ms k n) ws (serves rule s i))
+serve_goes rule t ms vs ws s i k m n (Err e) shows is at lt rests served = tt
+serve_goes {V = V} rule t ms vs ws s i k m n (Ok false) shows is at lt rests served =
+    let rest = rests refl in
+    let none : m.up ≡ [] = elim rest.0 [
+      | inl empty ↦ empty
+      | inr gone ↦ let there : is_some (server_at vs m.server) ≡ true = placed_here t ms vs s i k m shows is at in absurd cc
+    ] in
+    let quiet : waits_in s.up i ≡ false = none_asks t ms vs s i k m shows is at none in (
+      quiet,
+      subst (λ (us : List (Option V)). Shows t (slice_set ms k n) us (serves rule s i)) (sym rest.1.1)
+          (subst (λ (x : SceneOf V). Shows t (slice_set ms k n) vs x) (sym (serves_rest rule s i quiet)) (same_members t ms vs s k m n at rest.1.0 shows)),
+    )
+serve_goes {V = V} rule t ms vs ws s i k m n (Ok true) shows is at lt rests served =
+    let here = is_there (server_at vs m.server) (placed_here t ms vs s i k m shows is at) in
+    let does = subst (λ (o : Option V). IfSome o (λ v. (m.up ≡ oldest m.up ∷ drop 1 m.up) × ((n ≡ record m { up = drop 1 m.up; down = m.down ++ (rule v i i (oldest m.up)).0 ∷ [] }) × (ws ≡ set_server vs m.server (Some (rule v i i (oldest m.up)).1))))) here.1 (served refl) in (
+      one_asks t ms vs s i k m shows is at (oldest m.up) does.0,
+      shows_served rule t ms vs ws s i k m n here.0 (oldest m.up) (drop 1 m.up) shows is at lt here.1 does.0 does.1.0 does.1.1,
+    )
+
+-- what it left that found no memory
+pub serve_left : {V : Type 0} (t : Transcript) (ms : List Member) (vs ws : List (Option V)) (s : SceneOf V) (k : ℕ) (m n : Member) (r : Result Bool NoMemory) → Shows t ms vs s → slice_get ms k ≡ Some m → OnErr r ((n ≡ m) × (ws ≡ vs)) → OnErr r (Shows t (slice_set ms k n) ws s)
+serve_left t ms vs ws s k m n (Ok went) shows at kept = tt
+serve_left {V = V} t ms vs ws s k m n (Err e) shows at kept = subst (λ (us : List (Option V)). Shows t (slice_set ms k n) us s) (sym kept.1) (same_members t ms vs s k m n at kept.0 shows)
+
+-- what a client made of a payload, if memory sufficed
+pub heard_if : {T V : Type 0} (r : Result T NoMemory) (t after : Transcript) (ms : List Member) (vs : List (Option V)) (s : SceneOf V) (i k : ℕ) (m n : Member) (payload : List ℕ) (before out : List ℕ) → Shows t ms vs s → i ≡ k + 1
+    → slice_get ms k ≡ Some m → k < length ms → OnOk r (Acts s.group s.history i (input.Payload payload) m n) → OnOk r (Joins (step_at s.group s.history i (input.Payload payload)) t after)
+    → OnOk r (out ≡ before ++ said i (step_at s.group s.history i (input.Payload payload)).returned)
+    → OnOk r ((out ≡ before ++ (hears_aloud s i (Some payload)).text) × Shows after (slice_set ms k n) vs (hears_aloud s i (Some payload)).scene)
+heard_if (Err e) t after ms vs s i k m n payload before out shows is at lt acts joins told = tt
+heard_if (Ok done) t after ms vs s i k m n payload before out shows is at lt acts joins told = heard_as t after ms vs s i k m n payload before out shows is at lt acts joins told
+
+-- nothing was sent that could be sent again
+pub resent_same : {V : Type 0} (t : Transcript) (ms : List Member) (vs : List (Option V)) (s : SceneOf V) (k : ℕ) (m n : Member) → Shows t ms vs s → slice_get ms k ≡ Some m → is_some m.sent ≡ false → n ≡ record m { up = queued m.up m.sent } → Shows t (slice_set ms k n) vs s
+resent_same t ms vs s k m n shows at none e = same_members t ms vs s k m n at (e ∙ unsent m none) shows
   where
-    by_queue : (q : Queue) → m.down ≡ q → Takes s.group i (stands s i) q m n (Some x)
-        → (waits_in s.down i ≡ true) × ((said i x.returned ≡ said i (returned_in (takes s i).history)) × Shows after (slice_set ms k n) v (takes s i))
-    by_queue [] is_queue takes_one = absurd takes_one
-    by_queue (p ∷ q) is_queue takes_one =
-        let waits : queue_of s.down i ≡ p ∷ q = down_at t ms v s i k m shows is at ∙ is_queue in
-        let now : Shows after (slice_set ms k n) v (takes s i) = shows_taken t after ms v s i k m n p q x shows is at lt waits takes_one group trans in (
-          ap (λ (r : Queue). nat_lt 0 (length r)) waits ∙ lt-ltb 0 (suc (length q)) (omega arith),
-          (ap (λ (h : List TraceStep). said i (returned_in h)) (newest_of t after x trans ∙ now.history), now),
-        )
+    nothing : (o : Option (List ℕ)) (q : Queue) → is_some o ≡ false → queued q o ≡ q
+    nothing None q h = refl
+    nothing (Some p) q h = absurd cc
 
--- a client's turn to take
-pub take_none : (t : Transcript) (ms : List Member) (v : Server) (s : Scene) (i k : ℕ) (m n : Member) (o : Option TraceStep) → Shows t ms v s → i ≡ k + 1 → slice_get ms k ≡ Some m → o ≡ None
-    → Takes s.group i (stands s i) m.down m n o → (waits_in s.down i ≡ false) × Shows t (slice_set ms k n) v s
-take_none t ms v s i k m n o shows is at none does = none_waits t ms v s i k m n shows is at (subst (λ (p : Option TraceStep). Takes s.group i (stands s i) m.down m n p) none does)
-
-pub take_one : (t after : Transcript) (ms : List Member) (v : Server) (s : Scene) (i k : ℕ) (m n : Member) (o : Option TraceStep) (x : TraceStep) → Shows t ms v s → i ≡ k + 1 → slice_get ms k ≡ Some m → k < length ms → o ≡ Some x
-    → Takes s.group i (stands s i) m.down m n o → after.mode ≡ t.mode → after.count ≡ t.count → after.key ≡ t.key → steps_of after ≡ steps_of t ++ x ∷ []
-    → (waits_in s.down i ≡ true) × ((said i x.returned ≡ (takes_aloud s i).text) × Shows after (slice_set ms k n) v (takes_aloud s i).scene)
-take_one t after ms v s i k m n o x shows is at lt some does mode count key trans =
-    let group : group_of after ≡ group_of t = cc in
-    one_waits t after ms v s i k m n x shows is at lt (subst (λ (p : Option TraceStep). Takes s.group i (stands s i) m.down m n p) some does) group trans
+    unsent : (m : Member) → is_some m.sent ≡ false → record m { up = queued m.up m.sent } ≡ m
+    unsent m h = ap (λ (q : Queue). record m { up = q }) (nothing m.sent m.up h)

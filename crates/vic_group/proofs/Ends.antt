@@ -5,16 +5,22 @@ use Rattle.std.proofs.lemmas.List.{append-nil}
 use Rattle.vic_ports.specs.Causes.{LeavesBehind}
 use Rattle.vic_ports.specs.Written.{AppendedAll, AppendedFront}
 use Rattle.vic_dict.specs.Lists.{AreBytes}
-use Rattle.vic_script.specs.Run.{limit, Bad, Played, run_of, bad_line_of, group_in, history_in}
+use Rattle.vic_script.specs.Run.{limit, Bad, Played, run_of, is_honest_script, bad_line_of, group_in, history_in, group_of, history_of}
 use Rattle.vic_script.specs.Print.{print_of, print_of_script, is_forged, all_views, all_agreements, tags_line, end_text}
-use Rattle.vic_runs.proofs.Runs.{all_hold, all_honest}
+use Rattle.vic_laws.proofs.Paths.{hashes_tell_paths}
+use Rattle.vic_laws.proofs.SealsHeld.{seals_hold}
+use Rattle.vic_runs.proofs.Forged.{is_forged-Decides}
+use Rattle.vic_runs.proofs.Runs.{all_hold, all_honest, none_forged}
 use Rattle.vic_runs.proofs.Outcomes.{run_is_honest}
 use Rattle.vic_runs.proofs.Halted.{none_for_halting}
 use Rattle.vic_runs.proofs.Prints.{prints_returns}
+use Rattle.vic_group.specs.declared.play.End.{End}
+use Rattle.vic_group.specs.declared.play.End.TheVariants as end
 use Rattle.vic_group.specs.declared.status.Status.{Status}
 use Rattle.vic_group.specs.declared.status.Status.TheVariants as status
 use Rattle.vic_group.specs.Words.{usage_line, read_fault_line}
-use Rattle.vic_group.specs.Ends.{Taken, Given, taken_of, IsOutput, Ends, IsComplete, IsAsClaimed, ClaimHolds}
+use Rattle.vic_group.specs.Ends.{Taken, Given, taken_of, IsReadWhole, IsOutput, IsDone, done_status, Ends, IsComplete, IsHonest, IsAsClaimed, ClaimHolds}
+use Rattle.vic_group.specs.Playing.{ended_by, end_of}
 use Rattle.vic_group.specs.Output.{Composes, ComposesRun, Finishes}
 use Rattle.vic_group.proofs.Spans.{run-front, long-bad}
 
@@ -27,6 +33,11 @@ if_past P bytes (Some script) new more left p = subst P (sym (ap run_of left.2 �
 
 -- ---- what was composed
 
+-- what is told of a source is the script
+if_told : (old : Option (List ℕ)) (script : List ℕ) (P : List ℕ → Type 0) → ((other : List ℕ) → old ≡ Some other → other ≡ script) → P script → IfSome old P
+if_told None script P same p = tt
+if_told (Some other) script P same p = subst P (sym (same other refl)) p
+
 -- a run with a bad line
 abbrev Stopped : List ℕ → Played → Type 0
 Stopped line p = IsSome p.bad × (line ≡ print_of p)
@@ -36,12 +47,29 @@ pub composes_past : (bytes line : List ℕ) (s : Status) (old new : Option (List
 composes_past bytes line s old new before now ended left more composed =
     let t = taken_of old new before now ended in
     elim composed [
-      | inl c ↦ let bad : false ≡ true = sym (ap is_some c.1.0) ∙ long-bad bytes more in absurd cc
+      | inl c ↦ let bad : false ≡ true = sym (ap is_some c.1.1.0.0) ∙ long-bad bytes more in absurd cc
       | inr others ↦ elim others [
         | inl c ↦ subst (λ r. Composes true t r line) (sym c.0) (refl, (inr (bytes, (more, left)), if_past (Stopped line) bytes old new more left c.1))
         | inr c ↦ subst (λ r. Composes true t r line) (sym c.0) (refl, c.1)
       ]
     ]
+
+-- a run that was read whole
+pub composes_whole : (script line : List ℕ) (s : Status) (old new : Option (List ℕ)) (before now : ℕ) (ended : Bool) → IsReadWhole (taken_of old new before now ended) → ((other : List ℕ) → old ≡ Some other → other ≡ script)
+    → ComposesRun script s line → Composes true (taken_of old new before now ended) s line
+composes_whole script line s old new before now ended whole same composed =
+    let t = taken_of old new before now ended in
+    elim composed [
+      | inl c ↦ subst (λ r. Composes true t r line) (sym c.1.0) (composes-done c.0 c.1.1)
+      | inr others ↦ elim others [
+        | inl c ↦ subst (λ r. Composes true t r line) (sym c.0) (refl, (inl whole, if_told old script (λ other. IsSome (bad_line_of other) × (line ≡ print_of_script other)) same c.1))
+        | inr c ↦ subst (λ r. Composes true t r line) (sym c.0) (refl, c.1)
+      ]
+    ]
+  where
+    composes-done : (forged : Bool) → IsDone script forged × (line ≡ print_of_script script) → Composes true (taken_of old new before now ended) (done_status forged) line
+    composes-done false c = (refl, (whole, if_told old script (λ other. IsDone other false × (line ≡ print_of_script other)) same c))
+    composes-done true c = (refl, (whole, if_told old script (λ other. IsDone other true × (line ≡ print_of_script other)) same c))
 
 -- ---- what was written
 
@@ -55,14 +83,14 @@ all-front line (Some held) new all = (line, [], (sym (append-nil line), all))
 
 output-of : (right : Bool) (t : Taken) (planned : Status) (line : List ℕ) → Composes right t planned line → IsOutput right t line
 output-of false t status.Ok line c = absurd cc
-output-of false t status.TagsNotMade line c = absurd c
+output-of false t status.TagsNotMade line c = absurd cc
 output-of false t status.Usage line c = c.1
 output-of false t status.ReadFault line c = absurd cc
 output-of false t status.WriteFault line c = absurd c
 output-of false t status.BadLine line c = absurd cc
 output-of false t status.NoMemory line c = absurd cc
-output-of true t status.Ok line c = inr (inr (if_some-map t.old (λ script. (bad_line_of script ≡ None) × (line ≡ print_of_script script)) (λ script. line ≡ print_of_script script) (λ script p. p.1) c.1.1))
-output-of true t status.TagsNotMade line c = absurd c
+output-of true t status.Ok line c = inr (inr (if_some-map t.old (λ script. IsDone script false × (line ≡ print_of_script script)) (λ script. line ≡ print_of_script script) (λ script p. p.1) c.1.1))
+output-of true t status.TagsNotMade line c = inr (inr (if_some-map t.old (λ script. IsDone script true × (line ≡ print_of_script script)) (λ script. line ≡ print_of_script script) (λ script p. p.1) c.1.1))
 output-of true t status.Usage line c = absurd cc
 output-of true t status.ReadFault line c = inl (c.1.1, c.1.0)
 output-of true t status.WriteFault line c = absurd c
@@ -78,11 +106,18 @@ ends-done right t k status.Ok line c all = (
   c.0,
   (
     c.1.0,
-    if_some-map t.old (λ script. (bad_line_of script ≡ None) × (line ≡ print_of_script script)) (λ script. (bad_line_of script ≡ None) × AppendedAll (print_of_script script) k.old k.new)
+    if_some-map t.old (λ script. IsDone script false × (line ≡ print_of_script script)) (λ script. IsDone script false × AppendedAll (print_of_script script) k.old k.new)
         (λ script p. (p.0, written-as line (print_of_script script) k all p.1)) c.1.1,
   ),
 )
-ends-done right t k status.TagsNotMade line c all = c
+ends-done right t k status.TagsNotMade line c all = (
+  c.0,
+  (
+    c.1.0,
+    if_some-map t.old (λ script. IsDone script true × (line ≡ print_of_script script)) (λ script. IsDone script true × AppendedAll (print_of_script script) k.old k.new)
+        (λ script p. (p.0, written-as line (print_of_script script) k all p.1)) c.1.1,
+  ),
+)
 ends-done right t k status.Usage line c all = (c.0, written-as line usage_line k all c.1)
 ends-done right t k status.ReadFault line c all = (c.0, (c.1.0, written-as line read_fault_line k all c.1.1))
 ends-done right t k status.WriteFault line c all = absurd c
@@ -112,8 +147,14 @@ bad-none script None e some = absurd cc
 bad-none script (Some b) e some = absurd cc
 
 pub complete_of : (right : Bool) (t : Taken) (k : Given) (result : Status) → Ends right t k result → IsComplete right t k result
-complete_of right t k status.Ok ends is read written script told good = inl refl
-complete_of right t k status.TagsNotMade ends is read written script told good = absurd ends
+complete_of right t k status.Ok ends is read written script told good =
+    let here : IsDone script false × AppendedAll (print_of_script script) k.old k.new =
+    subst (λ o. IfSome o (λ s. IsDone s false × AppendedAll (print_of_script s) k.old k.new)) told ends.1.1 in
+    inl (ap done_status (sym here.0.1))
+complete_of right t k status.TagsNotMade ends is read written script told good =
+    let here : IsDone script true × AppendedAll (print_of_script script) k.old k.new =
+    subst (λ o. IfSome o (λ s. IsDone s true × AppendedAll (print_of_script s) k.old k.new)) told ends.1.1 in
+    inl (ap done_status (sym here.0.1))
 complete_of right t k status.Usage ends is read written script told good = let e : true ≡ false = sym is ∙ ends.0 in absurd cc
 complete_of right t k status.ReadFault ends is read written script told good = absurd (read ends.1.0)
 complete_of right t k status.WriteFault ends is read written script told good = absurd (written ends.0)
@@ -123,28 +164,45 @@ complete_of right t k status.BadLine ends is read written script told good =
     absurd (bad-none script (bad_line_of script) good here.0)
 complete_of right t k status.NoMemory ends is read written script told good = inr refl
 
+-- ---- how a run ends
+
+-- where a run ends so, its status is this
+pub run_composes : (script line : List ℕ) (e : End) (s : Status) → e ≡ end_of (run_of script) → line ≡ print_of_script script
+    → (e ≡ end.Whole → s ≡ status.Ok) → (e ≡ end.Forged → s ≡ status.TagsNotMade) → (e ≡ end.Bad → s ≡ status.BadLine) → ComposesRun script s line
+run_composes script line e s is prints whole forged bad = by_end (run_of script).bad refl (is_forged (group_of script) (history_of script)) refl
+  where
+    by_end : (b : Option Bad) → (run_of script).bad ≡ b → (f : Bool) → is_forged (group_of script) (history_of script) ≡ f → ComposesRun script s line
+    by_end (Some b) at f test = inr (inl (bad (is ∙ ap (λ (o : Option Bad). ended_by o (is_forged (group_of script) (history_of script))) at), (subst (λ (o : Option Bad). IsSome o) (sym at) refl, prints)))
+    by_end None at false test = inl (false, (whole (is ∙ ap (λ (o : Option Bad). ended_by o (is_forged (group_of script) (history_of script))) at ∙ ap (ended_by None) test), ((at, test), prints)))
+    by_end None at true test = inl (true, (forged (is ∙ ap (λ (o : Option Bad). ended_by o (is_forged (group_of script) (history_of script))) at ∙ ap (ended_by None) test), ((at, test), prints)))
+
 -- ---- the claim
 
-said_last : (p : Played) → p.bad ≡ None → is_forged (group_in p.scene) (history_in p.scene) ≡ false
-    → print_of p ≡ p.text ++ (all_views (group_in p.scene) (history_in p.scene) ++ all_agreements (group_in p.scene) (history_in p.scene) ++ tags_line false)
+said_last : (p : Played) → p.bad ≡ None
+    → print_of p ≡ p.text ++ (all_views (group_in p.scene) (history_in p.scene) ++ all_agreements (group_in p.scene) (history_in p.scene) ++ tags_line (is_forged (group_in p.scene) (history_in p.scene)))
 unfolding print_of
-said_last p good made =
-    let views : List ℕ = all_views (group_in p.scene) (history_in p.scene) in
-    let agree : List ℕ = all_agreements (group_in p.scene) (history_in p.scene) in
-    ap (λ b. p.text ++ end_text (group_in p.scene) (history_in p.scene) b) good ∙ ap (λ b. p.text ++ (views ++ agree ++ tags_line b)) made
+said_last p good = ap (λ b. p.text ++ end_text (group_in p.scene) (history_in p.scene) b) good
+
+honestly : (script : List ℕ) → AreBytes script → is_honest_script script ≡ true → IsHonest script
+honestly script bytes honest = record {
+  run = all_honest script bytes honest;
+  tags_made = (none_forged script bytes honest).0;
+  scene = run_is_honest script bytes honest;
+  none_halted = none_for_halting script bytes honest;
+}
 
 claimed : (script : List ℕ) → AreBytes script → IsAsClaimed script
 claimed script bytes =
     let good = all_hold script bytes in
     record {
-      honest = all_honest script bytes;
       lawful = good.lawful;
-      tags_made = good.tags_made;
-      says_so = λ whole. said_last (run_of script) whole good.tags_made;
+      paths = λ i j m n. hashes_tell_paths (group_of script) (history_of script) good.lawful.steps i j m n;
+      seals = seals_hold (group_of script) (history_of script) good.lawful;
       views = good.views;
-      scene = run_is_honest script bytes;
-      none_halted = none_for_halting script bytes;
+      tags = is_forged-Decides (group_of script) (history_of script);
+      says_so = said_last (run_of script);
       prints = prints_returns script;
+      honest = honestly script bytes;
     }
 
 pub claims_in : (old : Option (List ℕ)) → IfSome old ClaimHolds

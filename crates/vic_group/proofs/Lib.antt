@@ -2,11 +2,11 @@ pub mod Ends
 pub mod Members
 pub mod Playing
 pub mod Spans
-pub mod Acting
 pub mod Scenes
 pub mod Entering
-pub mod Doing
 pub mod Asking
 pub mod Turns
+pub mod Acting
+pub mod Doing
 pub mod Lines
 pub mod Honest

@@ -1,86 +1,185 @@
 -- What a line makes of a world, by its kind.
-use Rattle.std.proofs.Common.{◌≡◌, ℕ, Bool, true, false, List, [], ◌∷◌, ◌++◌, Option, Some, None, Result, Ok, Err, IfOk, if◌then◌else◌, sym, ap, subst, ◌∙◌}
+use Rattle.std.proofs.Common.{◌≡◌, ℕ, Bool, true, false, List, [], ◌∷◌, ◌++◌, Option, Some, None, is_some, Result, Ok, Err, IfOk, OnErr, if◌then◌else◌, refl, sym, ap, subst, ◌∙◌}
+use Rattle.std.specs.Prelude.{MatchOption}
 use Rattle.std.proofs.lemmas.List.{append-nil}
 use Rattle.vic_dict.specs.declared.bytes.NoMemory.{NoMemory}
+use Rattle.vic_dict.specs.declared.op.Op.{Op}
 use Rattle.vic_rules.specs.declared.trace.Input.{Input}
+use Rattle.vic_rules.specs.declared.trace.Input.TheVariants as input
 use Rattle.vic_rules.specs.Client.{first_failing}
+use Rattle.vic_order.specs.Serving.{Serving}
 use Rattle.vic_script.specs.declared.line.Line.{Line}
 use Rattle.vic_script.specs.declared.line.Line.TheVariants as line
-use Rattle.vic_script.specs.Scenes.{Scene, Shown, quietly, steps, serves, turns, is_client, asked_tests, line_tests, waits_in, bad_kind, done_line}
+use Rattle.vic_script.specs.Lines.{is_place}
+use Rattle.vic_script.specs.Scenes.{SceneOf, ShownOf, quietly, steps, serves, unchanged, flipped, hears_aloud, most_turns, turns, resends, copies, joins, last_taken, last_sent, is_client, is_server, server_at, is_plain_call, asked_tests, line_tests, waits_in, has_byte, bad_kind, done_line}
+use Rattle.vic_view.specs.declared.transcript.Transcript.{Transcript}
+use Rattle.vic_group.specs.declared.member.Member.{Member}
 use Rattle.vic_group.specs.declared.world.World.{World}
-use Rattle.vic_group.specs.World.{ShowsScene, Goes, TakesAloud}
+use Rattle.vic_group.specs.World.{Shows, ShowsScene, TakesAloud, IsLeft, IsLeftOf, Does, states}
+use Rattle.vic_group.proofs.Asking.{first_fails, one_passes, both_pass, second_fails}
 use Rattle.vic_group.proofs.Turns.{serves_rest}
 
--- a line by which a client is asked for something
-pub asks : (r : Result (Option ℕ) NoMemory) (s : Scene) (l : Line) (i : ℕ) (given : Input) (w : World) (out : List ℕ)
-    → line_tests s l ≡ asked_tests s i → done_line s l ≡ quietly (steps s i given)
-    → IfOk r (λ bad. (first_failing (asked_tests s i) ≡ bad) × Goes s (quietly (steps s i given)) w [] [] bad)
-    → IfOk r (λ bad. (bad_kind s l ≡ bad) × Goes s (done_line s l) w out out bad)
-unfolding bad_kind
-asks (Err e) s l i given w out tests does went = tt
-asks (Ok None) s l i given w out tests does went = (
-  ap (λ (cs : List (ℕ × Bool)). first_failing cs) tests ∙ went.0,
-  subst (λ (d : Shown). (out ≡ out ++ d.text) × ShowsScene w d.scene) (sym does) (sym (append-nil out), went.1.1),
-)
-asks (Ok (Some k)) s l i given w out tests does went = (ap (λ (cs : List (ℕ × Bool)). first_failing cs) tests ∙ went.0, went.1)
+module _ {S V : Type 0} (state : S → V) (rule : Serving V) where
+  -- a line that prints nothing, behind what was printed
+  pub behind_all : (s : SceneOf V) (l : Line) (r : Result (Option ℕ) NoMemory) (w : World S) (out : List ℕ) → Does state rule s l r w [] [] → Does state rule s l r w out out
+  behind_all s l (Ok None) w out does = (does.0, (sym (append-nil out) ∙ ap (λ (text : List ℕ). out ++ text) does.1.0, does.1.1))
+  behind_all s l (Ok (Some k)) w out does = does
+  behind_all s l (Err e) w out does = does
 
--- a line of a client that isn't there
-pub absent : (s : Scene) (l : Line) (i : ℕ) (cs : List (ℕ × Bool)) (w : World) → line_tests s l ≡ (2, is_client s i) ∷ cs → is_client s i ≡ false → ShowsScene w s
-    → (bad_kind s l ≡ Some 2) × ShowsScene w s
-unfolding bad_kind
-absent s l i cs w tests gone shows = (
-  ap (λ (ds : List (ℕ × Bool)). first_failing ds) tests ∙ ap (λ (b : Bool). if b then first_failing cs else Some 2) gone,
-  shows,
-)
+  -- a call of a client that is asked for it
+  pub called_line : (r : Result (Option ℕ) NoMemory) (s : SceneOf V) (i : ℕ) (o copy : Op) (w : World S) → copy ≡ o → is_plain_call s o ≡ true
+      → IfOk r (λ bad. (first_failing (asked_tests s i) ≡ bad) × MatchOption bad (ShowsScene state w (steps s i (input.Call copy))) (λ kind. ShowsScene state w s)) → OnErr r (ShowsScene state w s)
+      → Does state rule s (line.Call i o) r w [] []
+  unfolding bad_kind
+  called_line (Err e) s i o copy w same plain went kept = kept
+  called_line (Ok None) s i o copy w same plain went kept = (
+    ap (λ (b : Bool). if b then first_failing (asked_tests s i) else Some 1) plain ∙ went.0,
+    (refl, subst (λ (p : Op). ShowsScene state w (steps s i (input.Call p))) same went.1),
+  )
+  called_line (Ok (Some k)) s i o copy w same plain went kept = (ap (λ (b : Bool). if b then first_failing (asked_tests s i) else Some 1) plain ∙ went.0, went.1)
 
--- the kind where one test is left
+  pub uncalled_line : (s : SceneOf V) (i : ℕ) (o : Op) (w : World S) → is_plain_call s o ≡ false → ShowsScene state w s → Does state rule s (line.Call i o) (Ok (Some 1)) w [] []
+  unfolding bad_kind
+  uncalled_line s i o w other shows = (first_fails 1 (is_plain_call s o) (asked_tests s i) other, shows)
 
-pub one_test : (s : Scene) (l : Line) (i : ℕ) (waits went : Bool) → line_tests s l ≡ (2, is_client s i) ∷ (5, waits) ∷ [] → is_client s i ≡ true → waits ≡ went
-    → bad_kind s l ≡ (if went then None else Some 5)
-unfolding bad_kind
-one_test s l i waits went tests there is =
-    ap (λ (ds : List (ℕ × Bool)). first_failing ds) tests ∙ ap (λ (b : Bool). if b then (if waits then None else Some 5) else Some 2) there ∙ ap (λ (b : Bool). if b then None else Some 5) is
+  -- a line by which a client is asked for something
+  pub asks : (r : Result (Option ℕ) NoMemory) (s : SceneOf V) (l : Line) (i : ℕ) (given : Input) (w : World S) (out : List ℕ) → line_tests s l ≡ asked_tests s i → done_line rule s l ≡ quietly (steps s i given)
+      → (ShowsScene state w s → IsLeft state rule s l w)
+      → IfOk r (λ bad. (first_failing (asked_tests s i) ≡ bad) × MatchOption bad (ShowsScene state w (steps s i given)) (λ kind. ShowsScene state w s)) → OnErr r (ShowsScene state w s)
+      → Does state rule s l r w out out
+  unfolding bad_kind
+  asks (Err e) s l i given w out tests does left went kept = left kept
+  asks (Ok None) s l i given w out tests does left went kept = (
+    ap (λ (cs : List (ℕ × Bool)). first_failing cs) tests ∙ went.0,
+    subst (λ (d : ShownOf V). (out ≡ out ++ d.text) × ShowsScene state w d.scene) (sym does) (sym (append-nil out), went.1),
+  )
+  asks (Ok (Some k)) s l i given w out tests does left went kept = (ap (λ (cs : List (ℕ × Bool)). first_failing cs) tests ∙ went.0, went.1)
 
--- a serving
-pub served_line : (s : Scene) (l : Line) (i : ℕ) (w : World) (out : List ℕ) → l ≡ line.Serve i → is_client s i ≡ true → waits_in s.up i ≡ true → ShowsScene w (serves s i)
-    → (bad_kind s l ≡ None) × ((out ≡ out ++ (done_line s l).text) × ShowsScene w (done_line s l).scene)
-served_line s l i w out is there waits shows = (
-  one_test s l i (waits_in s.up i) true (ap (λ (k : Line). line_tests s k) is) there waits,
-  subst (λ (d : Shown). (out ≡ out ++ d.text) × ShowsScene w d.scene) (sym (ap (λ (k : Line). done_line s k) is)) (sym (append-nil out), shows),
-)
+  -- a line of a client that isn't there
+  pub absent : (s : SceneOf V) (l : Line) (who : ℕ) (others : List (ℕ × Bool)) (w : World S) → line_tests s l ≡ (2, is_client s who) ∷ others → is_client s who ≡ false → ShowsScene state w s
+      → (bad_kind s l ≡ Some 2) × ShowsScene state w s
+  unfolding bad_kind
+  absent s l who others w tests gone shows = (ap (λ (cs : List (ℕ × Bool)). first_failing cs) tests ∙ first_fails 2 (is_client s who) others gone, shows)
 
-pub unserved_line : (s : Scene) (l : Line) (i : ℕ) (w : World) → l ≡ line.Serve i → is_client s i ≡ true → waits_in s.up i ≡ false → ShowsScene w (serves s i)
-    → (bad_kind s l ≡ Some 5) × ShowsScene w s
-unserved_line s l i w is there none shows = (
-  one_test s l i (waits_in s.up i) false (ap (λ (k : Line). line_tests s k) is) there none,
-  subst (λ (t : Scene). ShowsScene w t) (serves_rest s i none) shows,
-)
+  -- a serving
+  pub served_line : (s : SceneOf V) (i who : ℕ) (w : World S) → i ≡ who → is_client s i ≡ true → waits_in s.up i ≡ true → ShowsScene state w (serves rule s i) → Does state rule s (line.Serve who) (Ok None) w [] []
+  unfolding bad_kind
+  served_line s i who w e there some shows =
+      subst (λ (n : ℕ). Does state rule s (line.Serve n) (Ok None) w [] []) e (both_pass 2 5 (is_client s i) (waits_in s.up i) there some, (refl, shows))
 
--- a taking
-pub took_line : (s : Scene) (l : Line) (i : ℕ) (w : World) (before after : List ℕ) (went : Bool) → l ≡ line.Take i → is_client s i ≡ true → went ≡ true → waits_in s.down i ≡ went → TakesAloud s i w before after went
-    → (bad_kind s l ≡ None) × ((after ≡ before ++ (done_line s l).text) × ShowsScene w (done_line s l).scene)
-took_line s l i w before after went is there came waits does = (
-  one_test s l i (waits_in s.down i) true (ap (λ (k : Line). line_tests s k) is) there (waits ∙ came),
-  subst (λ (d : Shown). (after ≡ before ++ d.text) × ShowsScene w d.scene) (sym (ap (λ (k : Line). done_line s k) is)) (subst (λ (g : Bool). TakesAloud s i w before after g) came does),
-)
+  pub unserved_line : (s : SceneOf V) (i who : ℕ) (w : World S) → i ≡ who → is_client s i ≡ true → waits_in s.up i ≡ false → ShowsScene state w (serves rule s i) → Does state rule s (line.Serve who) (Ok (Some 5)) w [] []
+  unfolding bad_kind
+  unserved_line s i who w e there none shows =
+      subst (λ (n : ℕ). Does state rule s (line.Serve n) (Ok (Some 5)) w [] []) e
+      (second_fails 2 5 (is_client s i) (waits_in s.up i) there none, subst (λ (t : SceneOf V). ShowsScene state w t) (serves_rest rule s i none) shows)
 
-pub untook_line : (s : Scene) (l : Line) (i : ℕ) (w : World) (before after : List ℕ) (went : Bool) → l ≡ line.Take i → is_client s i ≡ true → went ≡ false → waits_in s.down i ≡ went → TakesAloud s i w before after went
-    → (bad_kind s l ≡ Some 5) × ShowsScene w s
-untook_line s l i w before after went is there gone waits does = (
-  one_test s l i (waits_in s.down i) false (ap (λ (k : Line). line_tests s k) is) there (waits ∙ gone),
-  (subst (λ (g : Bool). TakesAloud s i w before after g) gone does).1,
-)
+  -- a taking
+  pub took_line : (s : SceneOf V) (i who : ℕ) (w : World S) (before after : List ℕ) (went : Bool) → i ≡ who → is_client s i ≡ true → went ≡ true → (waits_in s.down i ≡ went) × TakesAloud state unchanged s i w before after went
+      → Does state rule s (line.Take who) (Ok None) w before after
+  unfolding bad_kind
+  took_line s i who w before after went e there came does =
+      subst (λ (n : ℕ). Does state rule s (line.Take n) (Ok None) w before after) e
+      (both_pass 2 5 (is_client s i) (waits_in s.down i) there (does.0 ∙ came), subst (λ (g : Bool). TakesAloud state unchanged s i w before after g) came does.1)
 
--- a run
-pub ran_line : (s : Scene) (l : Line) (i : ℕ) (w : World) (before after : List ℕ) → l ≡ line.Run i → is_client s i ≡ true → (after ≡ before ++ (turns 2100 s i).text) × ShowsScene w (turns 2100 s i).scene
-    → (bad_kind s l ≡ None) × ((after ≡ before ++ (done_line s l).text) × ShowsScene w (done_line s l).scene)
-unfolding bad_kind
-ran_line s l i w before after is there does = (
-  ap (λ (k : Line). first_failing (line_tests s k)) is ∙ ap (λ (b : Bool). if b then None else Some 2) there,
-  subst (λ (d : Shown). (after ≡ before ++ d.text) × ShowsScene w d.scene) (sym (ap (λ (k : Line). done_line s k) is)) does,
-)
+  pub untook_line : (s : SceneOf V) (i who : ℕ) (w : World S) (before after : List ℕ) (went : Bool) → i ≡ who → is_client s i ≡ true → went ≡ false → (waits_in s.down i ≡ went) × TakesAloud state unchanged s i w before after went
+      → Does state rule s (line.Take who) (Ok (Some 5)) w before after
+  unfolding bad_kind
+  untook_line s i who w before after went e there gone does =
+      subst (λ (n : ℕ). Does state rule s (line.Take n) (Ok (Some 5)) w before after) e
+      (second_fails 2 5 (is_client s i) (waits_in s.down i) there (does.0 ∙ gone), (subst (λ (g : Bool). TakesAloud state unchanged s i w before after g) gone does.1).1)
 
--- a second opening
-pub opened_line : (s : Scene) (l : Line) (n : ℕ) → l ≡ line.Clients n → bad_kind s l ≡ Some 1
-unfolding bad_kind
-opened_line s l n is = ap (λ (k : Line). first_failing (line_tests s k)) is
+  -- a taking of an answer that was changed
+  pub flipped_line : (s : SceneOf V) (i who n : ℕ) (w : World S) (before after : List ℕ) (went : Bool) → i ≡ who → is_client s i ≡ true → went ≡ true → (has_byte s.down i n ≡ went) × TakesAloud state (flipped n) s i w before after went
+      → Does state rule s (line.Flip who n) (Ok None) w before after
+  unfolding bad_kind
+  flipped_line s i who n w before after went e there came does =
+      subst (λ (k : ℕ). Does state rule s (line.Flip k n) (Ok None) w before after) e
+      (both_pass 2 5 (is_client s i) (has_byte s.down i n) there (does.0 ∙ came), subst (λ (g : Bool). TakesAloud state (flipped n) s i w before after g) came does.1)
+
+  pub unflipped_line : (s : SceneOf V) (i who n : ℕ) (w : World S) (before after : List ℕ) (went : Bool) → i ≡ who → is_client s i ≡ true → went ≡ false → (has_byte s.down i n ≡ went) × TakesAloud state (flipped n) s i w before after went
+      → Does state rule s (line.Flip who n) (Ok (Some 5)) w before after
+  unfolding bad_kind
+  unflipped_line s i who n w before after went e there gone does =
+      subst (λ (k : ℕ). Does state rule s (line.Flip k n) (Ok (Some 5)) w before after) e
+      (second_fails 2 5 (is_client s i) (has_byte s.down i n) there (does.0 ∙ gone), (subst (λ (g : Bool). TakesAloud state (flipped n) s i w before after g) gone does.1).1)
+
+  -- a run
+  pub ran_line : (s : SceneOf V) (i who : ℕ) (w : World S) (before after : List ℕ) → i ≡ who → is_client s i ≡ true → (after ≡ before ++ (turns rule most_turns s i).text) × ShowsScene state w (turns rule most_turns s i).scene
+      → Does state rule s (line.Run who) (Ok None) w before after
+  unfolding bad_kind
+  ran_line s i who w before after e there does = subst (λ (n : ℕ). Does state rule s (line.Run n) (Ok None) w before after) e (one_passes 2 (is_client s i) there, does)
+
+  pub cut_line : {T : Type 0} (r : Result T NoMemory) (s : SceneOf V) (i who : ℕ) (w : World S) → i ≡ who → is_client s i ≡ true → OnErr r (IsLeftOf state rule most_turns s i w) → OnErr r ((is_client s who ≡ true) × IsLeftOf state rule most_turns s who w)
+  cut_line (Ok done) s i who w e there left = tt
+  cut_line (Err f) s i who w e there left = subst (λ (n : ℕ). (is_client s n ≡ true) × IsLeftOf state rule most_turns s n w) e (there, left)
+
+  -- a payload that is given
+  pub gave_line : (s : SceneOf V) (i who : ℕ) (payload copy : List ℕ) (w : World S) (before after : List ℕ) → i ≡ who → copy ≡ payload → is_client s i ≡ true
+      → (after ≡ before ++ (hears_aloud s i (Some copy)).text) × ShowsScene state w (hears_aloud s i (Some copy)).scene → Does state rule s (line.Give who payload) (Ok None) w before after
+  unfolding bad_kind
+  gave_line s i who payload copy w before after e same there does =
+      subst (λ (p : List ℕ). Does state rule s (line.Give who p) (Ok None) w before after) same
+      (subst (λ (n : ℕ). Does state rule s (line.Give n copy) (Ok None) w before after) e (one_passes 2 (is_client s i) there, does))
+
+  -- a payload that is taken once more
+  pub repeated_line : (s : SceneOf V) (i who : ℕ) (payload : List ℕ) (w : World S) (before after : List ℕ) → i ≡ who → last_taken i s.history ≡ Some payload → is_client s i ≡ true
+      → (after ≡ before ++ (hears_aloud s i (Some payload)).text) × ShowsScene state w (hears_aloud s i (Some payload)).scene → Does state rule s (line.Again who) (Ok None) w before after
+  unfolding bad_kind
+  repeated_line s i who payload w before after e last there does =
+      subst (λ (n : ℕ). Does state rule s (line.Again n) (Ok None) w before after) e (
+        both_pass 2 5 (is_client s i) (is_some (last_taken i s.history)) there (ap (λ (o : Option (List ℕ)). is_some o) last),
+        subst (λ (o : Option (List ℕ)). (after ≡ before ++ (hears_aloud s i o).text) × ShowsScene state w (hears_aloud s i o).scene) (sym last) does,
+      )
+
+  pub unrepeated_line : (s : SceneOf V) (i who : ℕ) (w : World S) → i ≡ who → last_taken i s.history ≡ None → is_client s i ≡ true → ShowsScene state w s → (bad_kind s (line.Again who) ≡ Some 5) × ShowsScene state w s
+  unfolding bad_kind
+  unrepeated_line s i who w e none there shows =
+      subst (λ (n : ℕ). (bad_kind s (line.Again n) ≡ Some 5) × ShowsScene state w s) e (second_fails 2 5 (is_client s i) (is_some (last_taken i s.history)) there (ap (λ (o : Option (List ℕ)). is_some o) none), shows)
+
+  -- a server that is copied
+  pub copied_line : (s : SceneOf V) (n to : ℕ) (w : World S) → is_place to ≡ true → is_server s n ≡ true → ShowsScene state w (copies s n to) → Does state rule s (line.Copy n to) (Ok None) w [] []
+  unfolding bad_kind
+  copied_line s n to w place there shows = (both_pass 1 6 (is_place to) (is_server s n) place there, (refl, shows))
+
+  pub misplaced_line : (s : SceneOf V) (n to : ℕ) (w : World S) → is_place to ≡ false → ShowsScene state w s → Does state rule s (line.Copy n to) (Ok (Some 1)) w [] []
+  unfolding bad_kind
+  misplaced_line s n to w place shows = (first_fails 1 (is_place to) ((6, is_server s n) ∷ []) place, shows)
+
+  pub uncopied_line : (s : SceneOf V) (n to : ℕ) (w : World S) → is_place to ≡ true → is_server s n ≡ false → ShowsScene state w s → Does state rule s (line.Copy n to) (Ok (Some 6)) w [] []
+  unfolding bad_kind
+  uncopied_line s n to w place gone shows = (second_fails 1 6 (is_place to) (is_server s n) place gone, shows)
+
+  -- a client that would join a server that doesn't exist
+  pub unmoved_line : (s : SceneOf V) (i who n : ℕ) (w : World S) → i ≡ who → is_client s i ≡ true → is_server s n ≡ false → ShowsScene state w s → Does state rule s (line.Move who n) (Ok (Some 6)) w [] []
+  unfolding bad_kind
+  unmoved_line s i who n w e there gone shows =
+      subst (λ (k : ℕ). Does state rule s (line.Move k n) (Ok (Some 6)) w [] []) e (second_fails 2 6 (is_client s i) (is_server s n) there gone, shows)
+
+  -- a second opening
+  pub opened_line : (s : SceneOf V) (l : Line) (n : ℕ) (w : World S) → l ≡ line.Clients n → ShowsScene state w s → (bad_kind s l ≡ Some 1) × ShowsScene state w s
+  unfolding bad_kind
+  opened_line s l n w is shows = (ap (λ (k : Line). first_failing (line_tests s k)) is, shows)
+
+-- a server of the scene that a world shows
+pub server_shown : {S V : Type 0} (state : S → V) (w : World S) (s : SceneOf V) (n : ℕ) → ShowsScene state w s → is_some (server_at (states state w.servers) n) ≡ is_server s n
+server_shown {V = V} state w s n shows = ap (λ (us : List (Option V)). is_some (server_at us n)) shows.servers
+
+module _ {V : Type 0} (t : Transcript) (ms : List Member) (vs : List (Option V)) where
+  -- a payload that is sent again
+  pub resent_shows : (s : SceneOf V) (i who : ℕ) → i ≡ who → is_some (last_sent i s.history) ≡ true → is_client s i ≡ true → Shows t ms vs (resends s i)
+      → (bad_kind s (line.Resend who) ≡ None) × ((◌≡◌ {A = List ℕ} [] []) × Shows t ms vs (resends s who))
+  unfolding bad_kind
+  resent_shows s i who e some there shows =
+      subst (λ (n : ℕ). (bad_kind s (line.Resend n) ≡ None) × ((◌≡◌ {A = List ℕ} [] []) × Shows t ms vs (resends s n))) e (both_pass 2 5 (is_client s i) (is_some (last_sent i s.history)) there some, (refl, shows))
+
+  pub unresent_shows : (s : SceneOf V) (i who : ℕ) → i ≡ who → is_some (last_sent i s.history) ≡ false → is_client s i ≡ true → Shows t ms vs s → (bad_kind s (line.Resend who) ≡ Some 5) × Shows t ms vs s
+  unfolding bad_kind
+  unresent_shows s i who e none there shows =
+      subst (λ (n : ℕ). (bad_kind s (line.Resend n) ≡ Some 5) × Shows t ms vs s) e (second_fails 2 5 (is_client s i) (is_some (last_sent i s.history)) there none, shows)
+
+  -- a client that joins a server
+  pub moved_shows : (s : SceneOf V) (i who n : ℕ) → i ≡ who → is_client s i ≡ true → is_server s n ≡ true → Shows t ms vs (joins s i n)
+      → (bad_kind s (line.Move who n) ≡ None) × ((◌≡◌ {A = List ℕ} [] []) × Shows t ms vs (joins s who n))
+  unfolding bad_kind
+  moved_shows s i who n e there server shows =
+      subst (λ (k : ℕ). (bad_kind s (line.Move k n) ≡ None) × ((◌≡◌ {A = List ℕ} [] []) × Shows t ms vs (joins s k n))) e (both_pass 2 6 (is_client s i) (is_server s n) there server, (refl, shows))

@@ -1,63 +1,63 @@
 -- A script's lines, done in a world that shows where the script stands.
-use Rattle.std.proofs.Common.{◌≡◌, ℕ, suc, ◌+◌, ◌<◌, ◌≤◌, ◌^◌, Bool, true, false, List, [], ◌∷◌, ◌++◌, length, take, Option, Some, None, Result, Ok, Err, is_some, refl, sym, ap, subst, ◌∙◌, arith, append_assoc, append-nil}
+use Rattle.std.proofs.Common.{◌≡◌, ℕ, ◌+◌, ◌-◌, ◌<◌, ◌≤◌, ◌^◌, Bool, true, false, List, [], ◌∷◌, ◌++◌, length, take, Option, Some, None, Result, Ok, Err, refl, sym, ap, subst, ◌∙◌, arith, append_assoc, append-nil}
 use Rattle.std.proofs.lemmas.Bool.{le-ltb, lt-ltb}
 use Rattle.std.specs.Prelude.{IfOk, if◌then◌else◌, nat_lt}
-use Rattle.std.specs.List.{AllByRecursion}
 use Rattle.std.proofs.lemmas.List.{take_all}
 use Rattle.vic_dict.specs.Lists.{AreBytes}
 use Rattle.vic_dict.specs.declared.op.Mode.{Mode}
 use Rattle.vic_dict.specs.declared.op.Mode.TheVariants as mode
 use Rattle.vic_wire.specs.Hashes.{Group}
-use Rattle.vic_rules.specs.declared.trace.TraceStep.{TraceStep}
-use Rattle.vic_rules.specs.History.{standing}
 use Rattle.vic_view.specs.Transcripts.{history_of, group_of as transcript_group}
 use Rattle.vic_order.specs.Order.{Server}
 use Rattle.vic_script.specs.declared.line.Line.{Line}
 use Rattle.vic_script.specs.declared.line.Line.TheVariants as line
 use Rattle.vic_script.specs.Lines.{lines_of, line_of}
-use Rattle.vic_script.specs.Scenes.{Scene, Queue, opening}
+use Rattle.vic_script.specs.Scenes.{Scene, opening}
 use Rattle.vic_script.specs.Run.{limit, Played as Run, stops, printed_before, plain_group, Tried, Fails, Does, try_line, follow, place_behind, play, run_of}
-use Rattle.vic_script.specs.Print.{bad_line, end_text, print_of}
+use Rattle.vic_script.specs.Print.{bad_line, end_text, print_of, is_forged}
 use Rattle.vic_runs.proofs.Words.{text_fits}
 use Rattle.vic_runs.specs.Reached.{IsReached}
 use Rattle.vic_runs.proofs.Reached.{reached-more, reached-opening}
 use Rattle.vic_runs.proofs.Runs.{TriedReaches, tried}
-use Rattle.vic_group.specs.declared.member.Member.{Member}
 use Rattle.vic_group.specs.declared.play.BadLine.{BadLine}
+use Rattle.vic_group.specs.declared.play.End.TheVariants as end
 use Rattle.vic_group.specs.declared.play.Played.{Played}
 use Rattle.vic_group.specs.declared.world.World.{World}
-use Rattle.vic_group.specs.Members.{AllStand}
-use Rattle.vic_group.specs.World.{MemberStands, ShowsScene, IsReady, AllReady}
-use Rattle.vic_group.specs.Playing.{scene_of, Shows, Opens, Tries, tried_at, Follows, Prints}
+use Rattle.vic_group.specs.World.{MemberStands, ShowsScene, MayDo}
+use Rattle.vic_group.specs.Playing.{state, scene_of, Shows, Opens, Tries, tried_at, Follows, Prints, ended_by, end_of}
+use Rattle.vic_group.proofs.Members.{stand_at}
+use Rattle.vic_group.proofs.Scenes.{same_scene}
 
 -- ---- the world and its scene
 
 -- a world shows no other scene
-pub scene_same : (w : World) (s : Scene) → ShowsScene w s → s ≡ scene_of w
-scene_same w s h =
-    let t : Scene = scene_of w in
-    let a : t ≡ record { group = s.group; history = t.history; up = t.up; down = t.down; server = t.server } = ap (λ (x : Group). record { group = x; history = t.history; up = t.up; down = t.down; server = t.server }) h.group in
-    let b = ap (λ (x : List TraceStep). record { group = s.group; history = x; up = t.up; down = t.down; server = t.server }) h.history in
-    let c = ap (λ (x : List Queue). record { group = s.group; history = s.history; up = x; down = t.down; server = t.server }) h.up in
-    let d = ap (λ (x : List Queue). record { group = s.group; history = s.history; up = s.up; down = x; server = t.server }) h.down in
-    let e = ap (λ (x : Server). record { group = s.group; history = s.history; up = s.up; down = s.down; server = x }) h.server in
-    sym (a ∙ b ∙ c ∙ d ∙ e)
+pub scene_same : (w : World Server) (s : Scene) → ShowsScene state w s → s ≡ scene_of w
+scene_same w s h = same_scene s (scene_of w) (sym h.group) (sym h.history) (sym h.up) (sym h.down) (sym h.served_by) (sym h.servers)
 
-all-ready : (g : Group) (h : List TraceStep) (n i : ℕ) (ms : List Member) → g.mode ≡ mode.Plain → ((j : ℕ) → (standing g j h).calls ≤ n) → n + 1 < 2 ^ 32 → AllStand (MemberStands g) g h i ms → AllByRecursion IsReady ms
-all-ready g h n i [] plain calls few all = tt
-all-ready g h n i (m ∷ ms) plain calls few all =
-    ((ap (λ (x : Group). x.mode) all.0.group ∙ plain, omega (arith, few, calls i, all.0.stands.calls)), all-ready g h n (suc i) ms plain calls few all.1)
-
--- where so few lines were done, each client may call once more
-pub ready_of : (w : World) (n : ℕ) → Shows w → IsReached (scene_of w) n → n + 1 < 2 ^ 32 → AllReady w
-ready_of w n shows r few = all-ready (scene_of w).group (scene_of w).history n 1 w.members.items r.plain r.calls few shows.clients
+-- where so few lines were done, the client that a line calls may call once more
+pub may_of : (w : World Server) (n : ℕ) (l : Line) → Shows w → IsReached (scene_of w) n → n + 1 < 2 ^ 32 → MayDo w l
+may_of w n (line.Call i o) shows r few = λ plain above m at.
+    let so = stand_at (MemberStands (scene_of w).group (scene_of w).history) 1 (i - 1) w.members.items m shows.clients at in
+    (ap (λ (x : Group). x.mode) so.group ∙ r.plain, omega (arith, few, r.calls (1 + (i - 1)), so.stands.calls))
+may_of w n (line.Clients k) shows r few = tt
+may_of w n (line.Poll i) shows r few = tt
+may_of w n (line.Sync i) shows r few = tt
+may_of w n (line.Serve i) shows r few = tt
+may_of w n (line.Take i) shows r few = tt
+may_of w n (line.Run i) shows r few = tt
+may_of w n (line.Give i payload) shows r few = tt
+may_of w n (line.Again i) shows r few = tt
+may_of w n (line.Flip i k) shows r few = tt
+may_of w n (line.Resend i) shows r few = tt
+may_of w n (line.Copy k t) shows r few = tt
+may_of w n (line.Move i k) shows r few = tt
 
 -- ---- the first line
 
 pub known_all : (n : ℕ) (script : List ℕ) → length script ≤ n → script ≡ take (n + 1) script
 known_all n script few = sym (take_all (n + 1) script (omega (arith, few)))
 
-pub opens_clients : (l : Option Line) (count : ℕ) (w : World) → l ≡ Some (line.Clients count) → 0 < count → count ≤ 64 → ShowsScene w (opening (plain_group count)) → Opens (try_line None l) (Some w)
+pub opens_clients : (l : Option Line) (count : ℕ) (w : World Server) → l ≡ Some (line.Clients count) → 0 < count → count ≤ 64 → ShowsScene state w (opening (plain_group count)) → Opens (try_line None l) (Some w)
 opens_clients l count w e above upto shows =
     subst (λ o. Opens (try_line None o) (Some w)) (sym e) (refl, (shows, reached-more (opening (plain_group count)) 0 1 (omega arith) (reached-opening count above upto)))
 
@@ -66,12 +66,12 @@ opens_clients l count w e above upto shows =
 none-some : (kind : ℕ) → None ≡ Some kind → ⊥
 none-some kind e = absurd cc
 
-follows-tried : (n : ℕ) (t : Tried) (w : World) (old new : List ℕ) → TriedReaches t (n + 1) → Tries t w old new None → Follows n t w old new None
+follows-tried : (n : ℕ) (t : Tried) (w : World Server) (old new : List ℕ) → TriedReaches t (n + 1) → Tries t w old new None → Follows n t w old new None
 follows-tried n (Fails kind) w old new r h = absurd (none-some kind h.0)
 follows-tried n (Does s text) w old new r h = (refl, (h.1.0, (h.1.1, r)))
 
 -- a line within the limit that was done
-pub follows_none : (place n : ℕ) (s : Scene) (text : List ℕ) (w : World) (old new : List ℕ) → place ≤ limit → IsReached s n → n + 1 < 2 ^ 32 → AreBytes text
+pub follows_none : (place n : ℕ) (s : Scene) (text : List ℕ) (w : World Server) (old new : List ℕ) → place ≤ limit → IsReached s n → n + 1 < 2 ^ 32 → AreBytes text
     → Tries (try_line (Some s) (line_of (Some mode.Plain) text)) w old new None → Follows n (tried_at place s text) w old new None
 follows_none place n s text w old new within r few bytes h =
     let t : Tried = try_line (Some s) (line_of (Some s.group.mode) text) in
@@ -96,12 +96,12 @@ printed-twice : (a b : List ℕ) (p : Run) → printed_before a (printed_before 
 printed-twice a b p = ap (λ (t : List ℕ). record { scene = p.scene; text = t; bad = p.bad }) (sym (append_assoc a b p.text))
 
 -- a line was done, and the run goes on from there
-pub goes_on : (n : ℕ) (run : Run) (scene : Option Scene) (t : Tried) (rest : Scene → Run) (w : World) (old new : List ℕ) → run ≡ printed_before old (follow n scene t rest) → Follows n t w old new None
+pub goes_on : (n : ℕ) (run : Run) (scene : Option Scene) (t : Tried) (rest : Scene → Run) (w : World Server) (old new : List ℕ) → run ≡ printed_before old (follow n scene t rest) → Follows n t w old new None
     → (Shows w × IsReached (scene_of w) (n + 1)) × (run ≡ printed_before new (rest (scene_of w)))
 goes_on n run scene (Fails kind) rest w old new e h = absurd cc
 goes_on n run scene (Does s text) rest w old new e h =
     let same : s ≡ scene_of w = scene_same w s h.1.1.0 in (
-      (subst (λ (x : Scene). ShowsScene w x) same h.1.1.0, subst (λ (x : Scene). IsReached x (n + 1)) same h.1.1.1),
+      (subst (λ (x : Scene). ShowsScene state w x) same h.1.1.0, subst (λ (x : Scene). IsReached x (n + 1)) same h.1.1.1),
       e ∙ printed-twice old text (rest s) ∙ ap (λ (o : List ℕ). printed_before o (rest s)) (sym h.1.0) ∙ ap (λ (x : Scene). printed_before new (rest x)) same,
     )
 
@@ -123,12 +123,12 @@ print-done : (out : List ℕ) (s : Scene) → print_of (printed_before out (reco
 unfolding print_of
 print-done out s = ap (λ (o : List ℕ). o ++ end_text s.group s.history None) (append-nil out)
 
-prints-stops : (run : Run) (out : List ℕ) (scene : Option Scene) (n kind : ℕ) → run ≡ printed_before out (stops scene n kind) → (p : Played) → p.text ≡ out ++ bad_line (record { number = n; kind = kind }) → p.bad ≡ true → Prints run p
-prints-stops run out scene n kind e p text bad = (text ∙ sym (print-stopped out scene n kind) ∙ ap print_of (sym e), bad ∙ ap (λ (r : Run). is_some r.bad) (sym e))
+prints-stops : (run : Run) (out : List ℕ) (scene : Option Scene) (n kind : ℕ) → run ≡ printed_before out (stops scene n kind) → (p : Played) → p.text ≡ out ++ bad_line (record { number = n; kind = kind }) → p.end ≡ end.Bad → Prints run p
+prints-stops run out scene n kind e p text bad = (text ∙ sym (print-stopped out scene n kind) ∙ ap print_of (sym e), bad ∙ ap end_of (sym e))
 
 -- a line was bad
-pub prints_stop : (n : ℕ) (run : Run) (scene : Option Scene) (t : Tried) (rest : Scene → Run) (w : World) (old new : List ℕ) (b : BadLine) → run ≡ printed_before old (follow n scene t rest)
-    → Follows n t w old new (Some b) → (p : Played) → p.text ≡ new ++ bad_line (record { number = b.number; kind = b.kind }) → p.bad ≡ true → Prints run p
+pub prints_stop : (n : ℕ) (run : Run) (scene : Option Scene) (t : Tried) (rest : Scene → Run) (w : World Server) (old new : List ℕ) (b : BadLine) → run ≡ printed_before old (follow n scene t rest)
+    → Follows n t w old new (Some b) → (p : Played) → p.text ≡ new ++ bad_line (record { number = b.number; kind = b.kind }) → p.end ≡ end.Bad → Prints run p
 prints_stop n run scene (Does s made) rest w old new b e h p text bad = absurd cc
 prints_stop n run scene (Fails kind) rest w old new b e h p text bad =
     let same : b ≡ record { number = n; kind = kind } = cc in
@@ -140,19 +140,19 @@ unfolding play
 play-nil total before n s = refl
 
 -- no line is left
-pub prints_end : (total before n : ℕ) (run : Run) (w : World) (out : List ℕ) → run ≡ printed_before out (play total before n (Some (scene_of w)) []) → (p : Played)
-    → p.text ≡ out ++ end_text (transcript_group w.transcript) (history_of w.transcript) None → p.bad ≡ false → Prints run p
-prints_end total before n run w out e p text bad =
+pub prints_end : (total before n : ℕ) (run : Run) (w : World Server) (out : List ℕ) → run ≡ printed_before out (play total before n (Some (scene_of w)) []) → (p : Played)
+    → p.text ≡ out ++ end_text (transcript_group w.transcript) (history_of w.transcript) None → p.end ≡ ended_by None (is_forged (transcript_group w.transcript) (history_of w.transcript)) → Prints run p
+prints_end total before n run w out e p text ends =
     let done : run ≡ printed_before out (record { scene = Some (scene_of w); text = []; bad = None }) = e ∙ ap (printed_before out) (play-nil total before n (scene_of w)) in
-    (text ∙ sym (print-done out (scene_of w)) ∙ ap print_of (sym done), bad ∙ ap (λ (r : Run). is_some r.bad) (sym done))
+    (text ∙ sym (print-done out (scene_of w)) ∙ ap print_of (sym done), ends ∙ ap end_of (sym done))
 
 -- ---- the whole script
 
-pub prints_empty : (total : ℕ) (p : Played) → p.text ≡ bad_line (record { number = 1; kind = 1 }) → p.bad ≡ true → Prints (play total 0 1 None []) p
+pub prints_empty : (total : ℕ) (p : Played) → p.text ≡ bad_line (record { number = 1; kind = 1 }) → p.end ≡ end.Bad → Prints (play total 0 1 None []) p
 unfolding play
 prints_empty total p text bad = prints-stops (stops None 1 1) [] None 1 1 refl p text bad
 
-pub prints_long : (total : ℕ) (text : List ℕ) (texts : List (List ℕ)) → limit < place_behind total 0 text → (p : Played) → p.text ≡ bad_line (record { number = 1; kind = 7 }) → p.bad ≡ true
+pub prints_long : (total : ℕ) (text : List ℕ) (texts : List (List ℕ)) → limit < place_behind total 0 text → (p : Played) → p.text ≡ bad_line (record { number = 1; kind = 7 }) → p.end ≡ end.Bad
     → Prints (play total 0 1 None (text ∷ texts)) p
 unfolding play
 prints_long total text texts long p is bad =
@@ -160,18 +160,18 @@ prints_long total text texts long p is bad =
     let other : Run = follow 1 None (try_line None (line_of None text)) (λ s. play total place 2 (Some s) texts) in
     subst (λ (b : Bool). Prints (if b then stops None 1 7 else other) p) (sym (lt-ltb limit place long)) (prints-stops (stops None 1 7) [] None 1 7 refl p is bad)
 
-follows-opened : (t : Tried) (rest : Scene → Run) (w : World) (p : Played) → Opens t (Some w) → Prints (rest (scene_of w)) p → Prints (follow 1 None t rest) p
+follows-opened : (t : Tried) (rest : Scene → Run) (w : World Server) (p : Played) → Opens t (Some w) → Prints (rest (scene_of w)) p → Prints (follow 1 None t rest) p
 follows-opened (Fails kind) rest w p h prints = absurd cc
 follows-opened (Does s text) rest w p h prints =
     let same : scene_of w ≡ s = sym (scene_same w s h.1.0) in
     subst (λ (o : List ℕ). Prints (printed_before o (rest s)) p) (sym h.0) (subst (λ (x : Scene). Prints (rest x) p) same prints)
 
-follows-unopened : (t : Tried) (rest : Scene → Run) (p : Played) → Opens t None → p.text ≡ bad_line (record { number = 1; kind = 1 }) → p.bad ≡ true → Prints (follow 1 None t rest) p
+follows-unopened : (t : Tried) (rest : Scene → Run) (p : Played) → Opens t None → p.text ≡ bad_line (record { number = 1; kind = 1 }) → p.end ≡ end.Bad → Prints (follow 1 None t rest) p
 follows-unopened (Fails kind) rest p h text bad =
     prints-stops (stops None 1 kind) [] None 1 kind refl p (text ∙ ap (λ (k : ℕ). bad_line (record { number = 1; kind = k })) (sym h.0)) bad
 follows-unopened (Does s made) rest p h text bad = absurd h
 
-pub prints_opened : (total : ℕ) (text : List ℕ) (texts : List (List ℕ)) (w : World) (p : Played) → place_behind total 0 text ≤ limit → Opens (try_line None (line_of None text)) (Some w)
+pub prints_opened : (total : ℕ) (text : List ℕ) (texts : List (List ℕ)) (w : World Server) (p : Played) → place_behind total 0 text ≤ limit → Opens (try_line None (line_of None text)) (Some w)
     → Prints (play total (place_behind total 0 text) 2 (Some (scene_of w)) texts) p → Prints (play total 0 1 None (text ∷ texts)) p
 unfolding play
 prints_opened total text texts w p within h prints =
@@ -181,7 +181,7 @@ prints_opened total text texts w p within h prints =
     (follows-opened (try_line None (line_of None text)) rest w p h prints)
 
 pub prints_unopened : (total : ℕ) (text : List ℕ) (texts : List (List ℕ)) (p : Played) → place_behind total 0 text ≤ limit → Opens (try_line None (line_of None text)) None
-    → p.text ≡ bad_line (record { number = 1; kind = 1 }) → p.bad ≡ true → Prints (play total 0 1 None (text ∷ texts)) p
+    → p.text ≡ bad_line (record { number = 1; kind = 1 }) → p.end ≡ end.Bad → Prints (play total 0 1 None (text ∷ texts)) p
 unfolding play
 prints_unopened total text texts p within h is bad =
     let place : ℕ = place_behind total 0 text in

@@ -1,160 +1,252 @@
--- What a world shows after a client's step, and after the server's.
-use Rattle.std.proofs.Common.{◌≡◌, ℕ, zero, suc, ◌+◌, ◌-◌, ◌<◌, Bool, List, [], ◌∷◌, ◌++◌, length, map, reverse, Some, refl, sym, ap, subst, ◌∙◌, arith, slice_get, slice_set}
+-- What a world shows after a client's step, and after a server's.
+use Rattle.std.proofs.Common.{◌≡◌, ℕ, zero, suc, ◌+◌, ◌-◌, ◌<◌, true, List, [], ◌∷◌, ◌++◌, length, map, reverse, Option, Some, is_some, option_map, refl, sym, ap, subst, ◌∙◌, arith, slice_get, slice_set}
 use Rattle.std.specs.Prelude.{unwrap_or}
+use Rattle.std.specs.List.{AllByRecursion}
 use Rattle.std.proofs.lemmas.List.{map-set, reverse-append}
-use Rattle.vic_wire.specs.Messages.{answer_text}
+use Rattle.std.proofs.lemmas.Option.{slice_get-map}
+use Rattle.vic_wire.specs.Hashes.{Group}
+use Rattle.vic_laws.proofs.Words.{all_weaker}
 use Rattle.vic_rules.specs.declared.trace.Input.{Input}
 use Rattle.vic_rules.specs.declared.trace.Input.TheVariants as input
 use Rattle.vic_rules.specs.declared.trace.TraceStep.{TraceStep}
-use Rattle.vic_rules.specs.Client.{Standing, step, payload_of}
-use Rattle.vic_rules.specs.History.{standing}
-use Rattle.vic_order.specs.Order.{Server, serve}
-use Rattle.vic_client.specs.Kept.{Kept, StandsFor, group_of as kept_group}
+use Rattle.vic_rules.specs.Client.{MayStep}
+use Rattle.vic_order.specs.Serving.{Serving}
 use Rattle.vic_view.specs.declared.transcript.Transcript.{Transcript}
-use Rattle.vic_view.specs.Transcripts.{steps_of, group_of}
-use Rattle.vic_script.specs.Scenes.{Scene, Queue, queue_of, set_queue, queued, stands, steps, served, serves, taken, takes}
+use Rattle.vic_view.specs.Transcripts.{steps_of}
+use Rattle.vic_script.specs.Scenes.{SceneOf, Queue, queue_of, set_queue, queued, server_at, set_server, server_of, stands, steps, served_with, served, serves, taken, takes, last_sent, resends, copies, joins}
+use Rattle.vic_runs.proofs.Servers.{is_server-set}
 use Rattle.vic_group.specs.declared.member.Member.{Member}
-use Rattle.vic_group.specs.World.{MemberStands, Shows, Acts, Serves, Takes}
-use Rattle.vic_group.proofs.Members.{stand_at, stand_set, stand_swap}
+use Rattle.vic_group.specs.World.{MemberStands, Shows, Acts, Joins, step_at}
+use Rattle.vic_group.proofs.Members.{stand_at, stand_set, stays_apart, same_member}
 
--- a queue of the members is the scene's
-pub queue_at : (f : Member → Queue) (ms : List Member) (queues : List Queue) (k : ℕ) (m : Member) → map f ms ≡ queues → slice_get ms k ≡ Some m → unwrap_or (slice_get queues k) [] ≡ f m
-queue_at f ms queues k m are at = subst (λ (qs : List Queue). unwrap_or (slice_get qs k) [] ≡ f m) are (here ms k at)
-  where
-    here : (ms : List Member) (k : ℕ) → slice_get ms k ≡ Some m → unwrap_or (slice_get (map f ms) k) [] ≡ f m
-    here [] k at = absurd cc
-    here (n ∷ ms) zero at = let e : n ≡ m = cc in ap f e
-    here (n ∷ ms) (suc k) at = here ms k at
+-- ---- rows
 
--- a queue that stays as it was, with a member exchanged
-pub same_queues : (f : Member → Queue) (ms : List Member) (k : ℕ) (m n : Member) → slice_get ms k ≡ Some m → f n ≡ f m → map f (slice_set ms k n) ≡ map f ms
-same_queues f [] k m n at same = refl
-same_queues f (p ∷ ms) zero m n at same = let e : p ≡ m = cc in ap (λ (q : Queue). q ∷ map f ms) (same ∙ sym (ap f e))
-same_queues f (p ∷ ms) (suc k) m n at same = ap (λ (qs : List Queue). f p ∷ qs) (same_queues f ms k m n at same)
+module _ {A : Type 0} where
+  -- one exchanged, the row is as long
+  pub length_set : (ms : List A) (k : ℕ) (n : A) → length (slice_set ms k n) ≡ length ms
+  length_set [] k n = refl
+  length_set (m ∷ ms) zero n = refl
+  length_set (m ∷ ms) (suc k) n = ap (λ (l : ℕ). suc l) (length_set ms k n)
+
+  pub get_set : (ms : List A) (k : ℕ) (n : A) → k < length ms → slice_get (slice_set ms k n) k ≡ Some n
+  get_set [] k n lt = absurd (omega arith)
+  get_set (m ∷ ms) zero n lt = refl
+  get_set (m ∷ ms) (suc k) n lt = get_set ms k n (omega arith)
+
+  pub set_same : (ms : List A) (k : ℕ) (m : A) → slice_get ms k ≡ Some m → slice_set ms k m ≡ ms
+  set_same [] k m at = refl
+  set_same (p ∷ ms) zero m at = let e : p ≡ m = cc in ap (λ (c : A). c ∷ ms) (sym e)
+  set_same (p ∷ ms) (suc k) m at = ap (λ (rest : List A). p ∷ rest) (set_same ms k m at)
+
+  -- what holds of each holds with one exchanged of which it holds
+  pub all_set : (P : A → Type 0) (ms : List A) (k : ℕ) (n : A) → AllByRecursion P ms → P n → AllByRecursion P (slice_set ms k n)
+  all_set P [] k n all h = tt
+  all_set P (m ∷ ms) zero n all h = (h, all.1)
+  all_set P (m ∷ ms) (suc k) n all h = (all.0, all_set P ms k n all.1 h)
+
+  -- and of the one at a place
+  pub all_at : (P : A → Type 0) (ms : List A) (k : ℕ) (m : A) → AllByRecursion P ms → slice_get ms k ≡ Some m → P m
+  all_at P [] k m all at = absurd cc
+  all_at P (n ∷ ms) zero m all at = let e : n ≡ m = cc in subst P e all.0
+  all_at P (n ∷ ms) (suc k) m all at = all_at P ms k m all.1 at
 
 -- the place of a client whose number is one more
 pub place_is : (i k : ℕ) → i ≡ k + 1 → i - 1 ≡ k
 place_is i k is = omega arith
 
--- one exchanged, the row is as long
-pub length_set : {A : Type 0} (ms : List A) (k : ℕ) (n : A) → length (slice_set ms k n) ≡ length ms
-length_set [] k n = refl
-length_set (m ∷ ms) zero n = refl
-length_set (m ∷ ms) (suc k) n = ap (λ (l : ℕ). suc l) (length_set ms k n)
+module _ {X : Type 0} (f : Member → X) (ms : List Member) (row : List X) (i k : ℕ) (m : Member) (are : map f ms ≡ row) (is : i ≡ k + 1) (at : slice_get ms k ≡ Some m) where
+  -- a member's item in a row
+  pub row_get : slice_get row (i - 1) ≡ Some (f m)
+  row_get = ap (λ (xs : List X). slice_get xs (i - 1)) (sym are) ∙ ap (λ (j : ℕ). slice_get (map f ms) j) (place_is i k is) ∙ slice_get-map f ms k ∙ ap (λ (o : Option Member). option_map f o) at
 
-pub get_set : {A : Type 0} (ms : List A) (k : ℕ) (n : A) → k < length ms → slice_get (slice_set ms k n) k ≡ Some n
-get_set [] k n lt = absurd (omega arith)
-get_set (m ∷ ms) zero n lt = refl
-get_set (m ∷ ms) (suc k) n lt = get_set ms k n (omega arith)
+  -- a row in which the member's item is set again
+  pub row_same : slice_set row (i - 1) (f m) ≡ row
+  row_same = set_same row (i - 1) (f m) row_get
 
-pub set_twice : {A : Type 0} (ms : List A) (k : ℕ) (m n : A) → slice_set (slice_set ms k m) k n ≡ slice_set ms k n
-set_twice [] k m n = refl
-set_twice (p ∷ ms) zero m n = refl
-set_twice {A = A} (p ∷ ms) (suc k) m n = ap (λ (rest : List A). p ∷ rest) (set_twice ms k m n)
+  -- a row after the member was exchanged
+  pub row_set : (n : Member) → map f (slice_set ms k n) ≡ slice_set row (i - 1) (f n)
+  row_set n = map-set f ms k n ∙ ap (λ (xs : List X). slice_set xs k (f n)) are ∙ ap (λ (j : ℕ). slice_set row j (f n)) (sym (place_is i k is))
 
-pub set_same : {A : Type 0} (ms : List A) (k : ℕ) (m : A) → slice_get ms k ≡ Some m → slice_set ms k m ≡ ms
-set_same [] k m at = refl
-set_same {A = A} (p ∷ ms) zero m at = let e : p ≡ m = cc in ap (λ (c : A). c ∷ ms) (sym e)
-set_same {A = A} (p ∷ ms) (suc k) m at = ap (λ (rest : List A). p ∷ rest) (set_same ms k m at)
+-- ---- scenes
 
-module _ (t : Transcript) (ms : List Member) (server : Server) (s : Scene) (i k : ℕ) (m : Member) (shows : Shows t ms server s) (is : i ≡ k + 1) (at : slice_get ms k ≡ Some m) where
+module _ {V : Type 0} where
+  abbrev scene : Group → List TraceStep → List Queue → List Queue → List ℕ → List (Option V) → SceneOf V
+  scene g h up down by servers = record { group = g; history = h; up = up; down = down; served_by = by; servers = servers }
+
+  -- a scene is what stands in it
+  pub same_scene : (s r : SceneOf V) → s.group ≡ r.group → s.history ≡ r.history → s.up ≡ r.up → s.down ≡ r.down → s.served_by ≡ r.served_by → s.servers ≡ r.servers → s ≡ r
+  same_scene s r a b c d e f =
+      ap (λ (x : Group). scene x s.history s.up s.down s.served_by s.servers) a
+      ∙ ap (λ (x : List TraceStep). scene r.group x s.up s.down s.served_by s.servers) b
+      ∙ ap (λ (x : List Queue). scene r.group r.history x s.down s.served_by s.servers) c
+      ∙ ap (λ (x : List Queue). scene r.group r.history r.up x s.served_by s.servers) d
+      ∙ ap (λ (x : List ℕ). scene r.group r.history r.up r.down x s.servers) e
+      ∙ ap (λ (x : List (Option V)). scene r.group r.history r.up r.down r.served_by x) f
+
+module _ {V : Type 0} (t : Transcript) (ms : List Member) (vs : List (Option V)) (s : SceneOf V) (i k : ℕ) (m : Member) (shows : Shows t ms vs s) (is : i ≡ k + 1) (at : slice_get ms k ≡ Some m) where
   -- client i stands where the history leaves it
-  pub stands_at : MemberStands s.group m i (stands s i)
-  stands_at = let same : 1 + k ≡ i = omega arith in
-      subst (λ (j : ℕ). MemberStands s.group m j (standing s.group j s.history)) same (stand_at (MemberStands s.group) s.group s.history 1 k ms m shows.clients at)
+  pub stands_here : MemberStands s.group s.history m i
+  stands_here = let same : 1 + k ≡ i = omega arith in
+      subst (λ (j : ℕ). MemberStands s.group s.history m j) same (stand_at (MemberStands s.group s.history) 1 k ms m shows.clients at)
 
-  -- the queues of client i are its member's
-  pub up_at : queue_of s.up i ≡ m.up
-  up_at = ap (λ (j : ℕ). unwrap_or (slice_get s.up j) []) (place_is i k is) ∙ queue_at (λ (c : Member). c.up) ms s.up k m shows.up at
+  -- its queues and the number of its server are its member's, and the server exists
+  pub up_here : queue_of s.up i ≡ m.up
+  up_here = ap (λ (o : Option Queue). unwrap_or o []) (row_get (λ (c : Member). c.up) ms s.up i k m shows.up is at)
 
-  pub down_at : queue_of s.down i ≡ m.down
-  down_at = ap (λ (j : ℕ). unwrap_or (slice_get s.down j) []) (place_is i k is) ∙ queue_at (λ (c : Member). c.down) ms s.down k m shows.down at
+  pub down_here : queue_of s.down i ≡ m.down
+  down_here = ap (λ (o : Option Queue). unwrap_or o []) (row_get (λ (c : Member). c.down) ms s.down i k m shows.down is at)
 
-  -- the queues, with the member exchanged
-  pub ups_set : (n : Member) → map (λ (c : Member). c.up) (slice_set ms k n) ≡ set_queue s.up i n.up
-  ups_set n = map-set (λ (c : Member). c.up) ms k n
-      ∙ ap (λ (qs : List Queue). slice_set qs k n.up) shows.up
-      ∙ ap (λ (j : ℕ). slice_set s.up j n.up) (sym (place_is i k is))
+  pub server_here : server_of s.served_by i ≡ m.server
+  server_here = ap (λ (o : Option ℕ). unwrap_or o 0) (row_get (λ (c : Member). c.server) ms s.served_by i k m shows.served_by is at)
 
-  pub downs_set : (n : Member) → map (λ (c : Member). c.down) (slice_set ms k n) ≡ set_queue s.down i n.down
-  downs_set n = map-set (λ (c : Member). c.down) ms k n
-      ∙ ap (λ (qs : List Queue). slice_set qs k n.down) shows.down
-      ∙ ap (λ (j : ℕ). slice_set s.down j n.down) (sym (place_is i k is))
+  pub placed_here : is_some (server_at vs m.server) ≡ true
+  placed_here = all_at (λ (c : Member). is_some (server_at vs c.server) ≡ true) ms k m shows.placed at
 
-  -- a client's step
-  pub shows_step : (after : Transcript) (given : Input) (n : Member) (x : TraceStep) → k < length ms → Acts s.group i (stands s i) given m n x
-      → group_of after ≡ group_of t → steps_of after ≡ steps_of t ++ x ∷ [] → Shows after (slice_set ms k n) server (steps s i given)
-  unfolding steps
-  shows_step after given n x lt acts group trans = record {
+  -- the member is exchanged for one with the same client
+  pub shows_swap : (n : Member) → k < length ms → n.client ≡ m.client → n.taken ≡ m.taken → n.sent ≡ m.sent → is_some (server_at vs n.server) ≡ true
+      → Shows t (slice_set ms k n) vs (record s { up = set_queue s.up i n.up; down = set_queue s.down i n.down; served_by = slice_set s.served_by (i - 1) n.server })
+  shows_swap n lt client took sent there = record {
     count = length_set ms k n ∙ shows.count;
     few = shows.few;
-    group = group ∙ shows.group;
-    history = ap (λ (xs : List TraceStep). reverse xs) trans ∙ reverse-append (steps_of t) (x ∷ []) ∙ ap (λ (h : List TraceStep). x ∷ h) shows.history ∙ ap (λ (y : TraceStep). y ∷ s.history) acts.step_is;
-    server = shows.server;
-    up = ups_set n
-        ∙ ap (λ (q : Queue). set_queue s.up i q) (acts.up ∙ ap (λ (q : Queue). queued q (payload_of s.group i (step s.group i (stands s i) given).next (step s.group i (stands s i) given).sends)) (sym up_at));
-    down = same_queues (λ (c : Member). c.down) ms k m n at acts.down ∙ shows.down;
+    group = shows.group;
+    history = shows.history;
+    up = row_set (λ (c : Member). c.up) ms s.up i k m shows.up is at n;
+    down = row_set (λ (c : Member). c.down) ms s.down i k m shows.down is at n;
+    served_by = row_set (λ (c : Member). c.server) ms s.served_by i k m shows.served_by is at n;
+    servers = shows.servers;
+    placed = all_set (λ (c : Member). is_some (server_at vs c.server) ≡ true) ms k n shows.placed there;
     clients =
-        let same : i ≡ 1 + k = omega arith in
-        stand_set (MemberStands s.group) s.group s.history
-        (record { client = i; input = given; sent = payload_of s.group i (step s.group i (stands s i) given).next (step s.group i (stands s i) given).sends; returned = (step s.group i (stands s i) given).returns })
-        1 k ms n same lt shows.clients (subst (λ (j : ℕ). MemberStands s.group n j (step s.group i (stands s i) given).next) same acts.stands);
+        stand_set (MemberStands s.group s.history) (MemberStands s.group s.history) 1 k ms n lt shows.clients (λ c j apart so. so)
+        (same_member s.group s.history m n (1 + k) client took sent (stand_at (MemberStands s.group s.history) 1 k ms m shows.clients at));
+    lawful = shows.lawful;
   }
 
-  -- a client's oldest answer is taken off its queue
-  pub shows_rest : (payload : List ℕ) (rest : Queue) → Shows t (slice_set ms k (record m { down = rest })) server (record s { down = set_queue s.down i rest })
-  shows_rest payload rest = record {
-    count = length_set ms k (record m { down = rest }) ∙ shows.count;
-    few = shows.few;
-    group = shows.group;
-    history = shows.history;
-    server = shows.server;
-    up = same_queues (λ (c : Member). c.up) ms k m (record m { down = rest }) at refl ∙ shows.up;
-    down = downs_set (record m { down = rest });
-    clients = stand_swap (MemberStands s.group) s.group s.history 1 k ms m (record m { down = rest }) shows.clients at (λ (j : ℕ) (c : Standing) (so : MemberStands s.group m j c). record { id = so.id; group = so.group; stands = so.stands });
-  }
-
-  -- the server's turn
-  pub shows_served : (n : Member) (next : Server) (went : Bool) (queue : Queue) → k < length ms → queue_of s.up i ≡ queue → Serves i queue m n server next went → Shows t (slice_set ms k n) next (served s i queue)
-  shows_served n next went [] lt is_queue does =
-      subst (λ (c : Member). Shows t (slice_set ms k c) next s) (sym does.1.0)
-      (subst (λ (ns : List Member). Shows t ns next s) (sym (set_same ms k m at)) (subst (λ (v : Server). Shows t ms v s) (sym does.1.1) shows))
-  shows_served n next went (payload ∷ rest) lt is_queue does = record {
-    count = length_set ms k n ∙ shows.count;
-    few = shows.few;
-    group = shows.group;
-    history = shows.history;
-    server = does.1.1.1.1 ∙ ap (λ (v : Server). (serve v i payload).next) shows.server;
-    up = ups_set n ∙ ap (λ (q : Queue). set_queue s.up i q) does.1.1.0;
-    down = downs_set n ∙ ap (λ (q : Queue). set_queue s.down i q) (does.1.1.1.0
-        ∙ ap (λ (v : Server). m.down ++ answer_text (serve v i payload).answer ∷ []) shows.server
-        ∙ ap (λ (q : Queue). q ++ answer_text (serve s.server i payload).answer ∷ []) (sym down_at));
-    clients = stand_swap (MemberStands s.group) s.group s.history 1 k ms m n shows.clients at (λ (j : ℕ) (c : Standing) (so : MemberStands s.group m j c). same_client j c so does.1.0);
-  }
-    where
-      same_client : (j : ℕ) (c : Standing) → MemberStands s.group m j c → n.client ≡ m.client → MemberStands s.group n j c
-      same_client j c so same = record {
-        id = subst (λ (k : Kept). k.id ≡ j) (sym same) so.id;
-        group = subst (λ (k : Kept). kept_group k ≡ s.group) (sym same) so.group;
-        stands = subst (λ (k : Kept). StandsFor k c) (sym same) so.stands;
+  -- the member made a step
+  pub shows_made : (after : Transcript) (given : Input) (n : Member) → k < length ms → MayStep s.group (stands s i) given → Joins (step_at s.group s.history i given) t after → MemberStands s.group (step_at s.group s.history i given ∷ s.history) n i → n.server ≡ m.server
+      → Shows after (slice_set ms k n) vs (record s { history = step_at s.group s.history i given ∷ s.history; up = set_queue s.up i n.up; down = set_queue s.down i n.down })
+  shows_made after given n lt may joins so server =
+      let x : TraceStep = step_at s.group s.history i given in
+      let same : i ≡ 1 + k = omega arith in
+      record {
+        count = length_set ms k n ∙ shows.count;
+        few = shows.few;
+        group = joins.group ∙ shows.group;
+        history = ap (λ (xs : List TraceStep). reverse xs) joins.steps ∙ reverse-append (steps_of t) (x ∷ []) ∙ ap (λ (h : List TraceStep). x ∷ h) shows.history;
+        up = row_set (λ (c : Member). c.up) ms s.up i k m shows.up is at n;
+        down = row_set (λ (c : Member). c.down) ms s.down i k m shows.down is at n;
+        served_by = row_set (λ (c : Member). c.server) ms s.served_by i k m shows.served_by is at n ∙ ap (λ (b : ℕ). slice_set s.served_by (i - 1) b) server ∙ row_same (λ (c : Member). c.server) ms s.served_by i k m shows.served_by is at;
+        servers = shows.servers;
+        placed = all_set (λ (c : Member). is_some (server_at vs c.server) ≡ true) ms k n shows.placed (ap (λ (b : ℕ). is_some (server_at vs b)) server ∙ placed_here);
+        clients =
+            stand_set (MemberStands s.group s.history) (MemberStands s.group (x ∷ s.history)) 1 k ms n lt shows.clients
+            (λ c j apart already. stays_apart s.group s.history x c j (λ e. apart (sym e ∙ same)) already)
+            (subst (λ (j : ℕ). MemberStands s.group (x ∷ s.history) n j) same so);
+        lawful = record {
+          group = shows.lawful.group;
+          steps = (shows.lawful.steps, record { member = (omega (arith, is), omega (arith, is, lt, shows.count)); may = may; sent = refl; returned = refl });
+        };
       }
 
--- what was taken off a queue, and what the client made of it
-pub shows_taken : (t after : Transcript) (ms : List Member) (server : Server) (s : Scene) (i k : ℕ) (m n : Member) (payload : List ℕ) (rest : Queue) (x : TraceStep) → Shows t ms server s → i ≡ k + 1 → slice_get ms k ≡ Some m → k < length ms
-    → queue_of s.down i ≡ payload ∷ rest → Takes s.group i (stands s i) (payload ∷ rest) m n (Some x)
-    → group_of after ≡ group_of t → steps_of after ≡ steps_of t ++ x ∷ [] → Shows after (slice_set ms k n) server (takes s i)
-unfolding takes
-shows_taken t after ms server s i k m n payload rest x shows is at lt waits does group trans =
-    subst (λ (q : Queue). Shows after (slice_set ms k n) server (taken s i q)) (sym waits)
-    (subst (λ (ns : List Member). Shows after ns server (taken s i (payload ∷ rest))) (set_twice ms k (record m { down = rest }) n)
-    (shows_step t (slice_set ms k (record m { down = rest })) server (record s { down = set_queue s.down i rest }) i k (record m { down = rest })
-    (shows_rest t ms server s i k m shows is at payload rest) is (get_set ms k (record m { down = rest }) lt) after (input.Payload payload) n x
-    (subst (λ (l : ℕ). k < l) (sym (length_set ms k (record m { down = rest }))) lt) does group trans))
+  -- a client's step
+  pub shows_step : (after : Transcript) (given : Input) (n : Member) → k < length ms → Acts s.group s.history i given m n → Joins (step_at s.group s.history i given) t after
+      → Shows after (slice_set ms k n) vs (steps s i given)
+  unfolding steps
+  shows_step after given n lt acts joins =
+      let x : TraceStep = step_at s.group s.history i given in
+      let made = record s { history = x ∷ s.history; up = set_queue s.up i n.up; down = set_queue s.down i n.down } in
+      let up : n.up ≡ queued (queue_of s.up i) x.sent = acts.up ∙ ap (λ (q : Queue). queued q x.sent) (sym up_here) in
+      let down : set_queue s.down i n.down ≡ s.down = ap (λ (q : Queue). set_queue s.down i q) acts.down ∙ row_same (λ (c : Member). c.down) ms s.down i k m shows.down is at in
+      subst (λ (r : SceneOf V). Shows after (slice_set ms k n) vs r)
+      (same_scene made (steps s i given) refl refl (ap (λ (q : Queue). set_queue s.up i q) up) down refl refl)
+      (shows_made after given n lt acts.may joins acts.stands acts.server)
 
--- the server's turn, from the queue that it serves
-pub shows_serves : (t : Transcript) (ms : List Member) (server next : Server) (s : Scene) (i k : ℕ) (m n : Member) (went : Bool) → Shows t ms server s → i ≡ k + 1 → slice_get ms k ≡ Some m → k < length ms
-    → Serves i m.up m n server next went → Shows t (slice_set ms k n) next (serves s i)
+  -- a client takes its oldest answer as it comes through a change
+  pub shows_taken : (after : Transcript) (change : List ℕ → List ℕ) (payload first : List ℕ) (rest : Queue) (n : Member) → k < length ms → m.down ≡ first ∷ rest → payload ≡ change first
+      → Acts s.group s.history i (input.Payload payload) (record m { down = rest }) n → Joins (step_at s.group s.history i (input.Payload payload)) t after
+      → Shows after (slice_set ms k n) vs (takes change s i)
+  unfolding takes steps
+  shows_taken after change payload first rest n lt waits changed acts joins =
+      let x : TraceStep = step_at s.group s.history i (input.Payload payload) in
+      let made = record s { history = x ∷ s.history; up = set_queue s.up i n.up; down = set_queue s.down i n.down } in
+      let up : n.up ≡ queued (queue_of s.up i) x.sent = acts.up ∙ ap (λ (q : Queue). queued q x.sent) (sym up_here) in
+      let next : SceneOf V = steps (record s { down = set_queue s.down i rest }) i (input.Payload payload) in
+      let shown : Shows after (slice_set ms k n) vs next =
+      subst (λ (r : SceneOf V). Shows after (slice_set ms k n) vs r)
+      (same_scene made next refl refl (ap (λ (q : Queue). set_queue s.up i q) up) (ap (λ (q : Queue). set_queue s.down i q) acts.down) refl refl)
+      (shows_made after (input.Payload payload) n lt acts.may joins acts.stands acts.server) in
+      subst (λ (q : Queue). Shows after (slice_set ms k n) vs (taken change s i q)) (sym (down_here ∙ waits))
+      (subst (λ (p : List ℕ). Shows after (slice_set ms k n) vs (steps (record s { down = set_queue s.down i rest }) i (input.Payload p))) changed shown)
+
+  -- a client's last payload joins its requests again
+  pub shows_resent : (n : Member) → k < length ms → n ≡ record m { up = queued m.up m.sent } → Shows t (slice_set ms k n) vs (resends s i)
+  shows_resent n lt e =
+      let sent : m.sent ≡ last_sent i s.history = stands_here.sent in
+      let up : n.up ≡ queued (queue_of s.up i) (last_sent i s.history) =
+      ap (λ (c : Member). c.up) e ∙ ap (λ (q : Queue). queued q m.sent) (sym up_here) ∙ ap (λ (o : Option (List ℕ)). queued (queue_of s.up i) o) sent in
+      let down : set_queue s.down i n.down ≡ s.down = ap (λ (c : Member). set_queue s.down i c.down) e ∙ row_same (λ (c : Member). c.down) ms s.down i k m shows.down is at in
+      let server : slice_set s.served_by (i - 1) n.server ≡ s.served_by = ap (λ (c : Member). slice_set s.served_by (i - 1) c.server) e ∙ row_same (λ (c : Member). c.server) ms s.served_by i k m shows.served_by is at in
+      subst (λ (r : SceneOf V). Shows t (slice_set ms k n) vs r)
+      (same_scene (record s { up = set_queue s.up i n.up; down = set_queue s.down i n.down; served_by = slice_set s.served_by (i - 1) n.server }) (resends s i) refl refl (ap (λ (q : Queue). set_queue s.up i q) up) down server refl)
+      (shows_swap n lt (ap (λ (c : Member). c.client) e) (ap (λ (c : Member). c.taken) e) (ap (λ (c : Member). c.sent) e) (ap (λ (c : Member). is_some (server_at vs c.server)) e ∙ placed_here))
+
+  -- a client joins another server
+  pub shows_joined : (n : Member) (number : ℕ) → k < length ms → n ≡ record m { server = number } → is_some (server_at vs number) ≡ true → Shows t (slice_set ms k n) vs (joins s i number)
+  shows_joined n number lt e there =
+      let up : set_queue s.up i n.up ≡ s.up = ap (λ (c : Member). set_queue s.up i c.up) e ∙ row_same (λ (c : Member). c.up) ms s.up i k m shows.up is at in
+      let down : set_queue s.down i n.down ≡ s.down = ap (λ (c : Member). set_queue s.down i c.down) e ∙ row_same (λ (c : Member). c.down) ms s.down i k m shows.down is at in
+      subst (λ (r : SceneOf V). Shows t (slice_set ms k n) vs r)
+      (same_scene (record s { up = set_queue s.up i n.up; down = set_queue s.down i n.down; served_by = slice_set s.served_by (i - 1) n.server }) (joins s i number) refl refl up down (ap (λ (c : Member). slice_set s.served_by (i - 1) c.server) e) refl)
+      (shows_swap n lt (ap (λ (c : Member). c.client) e) (ap (λ (c : Member). c.taken) e) (ap (λ (c : Member). c.sent) e) (ap (λ (c : Member). is_some (server_at vs c.server)) e ∙ there))
+
+-- servers that change, of which those that exist still do
+pub shows_servers : {V : Type 0} (t : Transcript) (ms : List Member) (vs ws : List (Option V)) (s : SceneOf V) → Shows t ms vs s → ((n : ℕ) → is_some (server_at vs n) ≡ true → is_some (server_at ws n) ≡ true)
+    → Shows t ms ws (record s { servers = ws })
+shows_servers t ms vs ws s shows still = record {
+  count = shows.count;
+  few = shows.few;
+  group = shows.group;
+  history = shows.history;
+  up = shows.up;
+  down = shows.down;
+  served_by = shows.served_by;
+  servers = refl;
+  placed = all_weaker (λ (c : Member). is_some (server_at vs c.server) ≡ true) (λ (c : Member). is_some (server_at ws c.server) ≡ true) (λ (c : Member) there. still c.server there) ms shows.placed;
+  clients = shows.clients;
+  lawful = shows.lawful;
+}
+
+-- a server becomes a copy of another
+pub shows_copied : {V : Type 0} (t : Transcript) (ms : List Member) (vs ws : List (Option V)) (s : SceneOf V) (n to : ℕ) (v : V) → Shows t ms vs s → server_at vs n ≡ Some v → ws ≡ set_server vs to (Some v)
+    → Shows t ms ws (copies s n to)
+shows_copied {V = V} t ms vs ws s n to v shows from set =
+    let copied : ws ≡ set_server s.servers to (server_at s.servers n) =
+    set ∙ ap (λ (o : Option V). set_server vs to o) (sym from) ∙ ap (λ (us : List (Option V)). set_server us to (server_at us n)) shows.servers in
+    subst (λ (us : List (Option V)). Shows t ms ws (record s { servers = us })) copied
+    (shows_servers t ms vs ws s shows (λ j there. subst (λ (us : List (Option V)). is_some (server_at us j) ≡ true) (sym set) (is_server-set vs to j (Some v) refl there)))
+
+-- a client's server serves its oldest request
+pub shows_served : {V : Type 0} (rule : Serving V) (t : Transcript) (ms : List Member) (vs ws : List (Option V)) (s : SceneOf V) (i k : ℕ) (m n : Member) (v : V) (payload : List ℕ) (rest : Queue) → Shows t ms vs s → i ≡ k + 1
+    → slice_get ms k ≡ Some m → k < length ms → server_at vs m.server ≡ Some v → m.up ≡ payload ∷ rest → n ≡ record m { up = rest; down = m.down ++ (rule v i i payload).0 ∷ [] }
+    → ws ≡ set_server vs m.server (Some (rule v i i payload).1) → Shows t (slice_set ms k n) ws (serves rule s i)
 unfolding serves
-shows_serves t ms server next s i k m n went shows is at lt does =
-    let queue : queue_of s.up i ≡ m.up = up_at t ms server s i k m shows is at in
-    subst (λ (q : Queue). Shows t (slice_set ms k n) next (served s i q)) (sym queue) (shows_served t ms server s i k m shows is at n next went m.up lt queue does)
+shows_served {V = V} rule t ms vs ws s i k m n v payload rest shows is at lt here waits e set =
+    let answer : List ℕ × V = rule v i i payload in
+    let number : server_of s.served_by i ≡ m.server = server_here t ms vs s i k m shows is at in
+    let up : queue_of s.up i ≡ payload ∷ rest = up_here t ms vs s i k m shows is at ∙ waits in
+    let found : server_at s.servers (server_of s.served_by i) ≡ Some v =
+    ap (λ (j : ℕ). server_at s.servers j) number ∙ ap (λ (us : List (Option V)). server_at us m.server) (sym shows.servers) ∙ here in
+    let swapped = record s { up = set_queue s.up i n.up; down = set_queue s.down i n.down; served_by = slice_set s.served_by (i - 1) n.server } in
+    let shown : Shows t (slice_set ms k n) vs swapped =
+    shows_swap t ms vs s i k m shows is at n lt (ap (λ (c : Member). c.client) e) (ap (λ (c : Member). c.taken) e) (ap (λ (c : Member). c.sent) e)
+    (ap (λ (c : Member). is_some (server_at vs c.server)) e ∙ placed_here t ms vs s i k m shows is at) in
+    let after : Shows t (slice_set ms k n) ws (record swapped { servers = ws }) =
+    shows_servers t (slice_set ms k n) vs ws swapped shown (λ j there. subst (λ (us : List (Option V)). is_some (server_at us j) ≡ true) (sym set) (is_server-set vs m.server j (Some answer.1) refl there)) in
+    let servers : ws ≡ set_server s.servers (server_of s.served_by i) (Some answer.1) =
+    set ∙ ap (λ (us : List (Option V)). set_server us m.server (Some answer.1)) shows.servers ∙ ap (λ (j : ℕ). set_server s.servers j (Some answer.1)) (sym number) in
+    let down : n.down ≡ queue_of s.down i ++ answer.0 ∷ [] = ap (λ (c : Member). c.down) e ∙ ap (λ (q : Queue). q ++ answer.0 ∷ []) (sym (down_here t ms vs s i k m shows is at)) in
+    let by : slice_set s.served_by (i - 1) n.server ≡ s.served_by = ap (λ (c : Member). slice_set s.served_by (i - 1) c.server) e ∙ row_same (λ (c : Member). c.server) ms s.served_by i k m shows.served_by is at in
+    subst (λ (q : Queue). Shows t (slice_set ms k n) ws (served rule s i q (server_at s.servers (server_of s.served_by i)))) (sym up)
+    (subst (λ (o : Option V). Shows t (slice_set ms k n) ws (served rule s i (payload ∷ rest) o)) (sym found)
+    (subst (λ (r : SceneOf V). Shows t (slice_set ms k n) ws r)
+    (same_scene (record swapped { servers = ws }) (served_with s i rest answer) refl refl (ap (λ (c : Member). set_queue s.up i c.up) e) (ap (λ (q : Queue). set_queue s.down i q) down) by servers)
+    after))

@@ -1,23 +1,25 @@
 -- Serving and taking in turn.
-use Rattle.std.proofs.Common.{◌≡◌, ℕ, zero, suc, ◌+◌, ◌-◌, ◌<◌, Bool, true, false, List, [], ◌∷◌, ◌++◌, length, Option, Result, Ok, Err, OnOk, nat_eq, nat_lt, if◌then◌else◌, refl, sym, ap, subst, ◌∙◌, arith}
-use Rattle.std.specs.Prelude.{unwrap_or}
+use Rattle.std.proofs.Common.{◌≡◌, ℕ, zero, suc, ◌+◌, ◌-◌, ◌<◌, Bool, true, false, List, [], ◌∷◌, ◌++◌, length, Option, Some, None, is_some, Result, Ok, Err, OnOk, OnErr, nat_eq, nat_lt, if◌then◌else◌, inl, inr, refl, sym, ap, subst, ◌∙◌, arith, slice_get}
+use Rattle.std.specs.Prelude.{unwrap_or, ◌⊎◌}
 use Rattle.std.proofs.Math.Dec.{eqb-suc-zero}
 use Rattle.std.proofs.lemmas.Bool.{lt-ltb}
 use Rattle.std.proofs.lemmas.List.{append-nil, append_assoc, length-append, length-map}
 use Rattle.vic_dict.specs.declared.bytes.NoMemory.{NoMemory}
-use Rattle.vic_wire.specs.Messages.{answer_text}
-use Rattle.vic_order.specs.Order.{Server, serve}
+use Rattle.vic_order.specs.Serving.{Serving}
 use Rattle.vic_view.specs.declared.transcript.Transcript.{Transcript}
-use Rattle.vic_script.specs.Scenes.{Scene, Queue, Shown, queue_of, quietly, behind, served, serves, takes_aloud, turns, waits_in}
+use Rattle.vic_script.specs.Scenes.{SceneOf, ShownOf, Queue, queue_of, server_at, server_of, quietly, behind, unchanged, served, serves, takes_aloud, turns, waits_in}
 use Rattle.vic_group.specs.declared.member.Member.{Member}
 use Rattle.vic_group.specs.declared.world.World.{World}
-use Rattle.vic_group.specs.World.{Shows, ShowsScene, TakesAloud}
-use Rattle.vic_group.proofs.Scenes.{get_set}
+use Rattle.vic_group.specs.World.{Shows, ShowsScene, TakesAloud, IsLeftOf, states}
+use Rattle.vic_group.proofs.Scenes.{get_set, server_here, placed_here}
 
 -- whether a queue holds something
 pub none_in : (q : Queue) → nat_lt 0 (length q) ≡ false → q ≡ []
 none_in [] none = refl
 none_in (p ∷ q) none = let some : nat_lt 0 (suc (length q)) ≡ true = lt-ltb 0 (suc (length q)) (omega arith) in absurd cc
+
+pub some_in : (q : Queue) (p : List ℕ) (rest : Queue) → q ≡ p ∷ rest → nat_lt 0 (length q) ≡ true
+some_in q p rest e = ap (λ (r : Queue). nat_lt 0 (length r)) e ∙ lt-ltb 0 (suc (length rest)) (omega arith)
 
 pub is_empty : (q : Queue) → nat_lt 0 (length q) ≡ false → nat_eq (length q) 0 ≡ true
 is_empty q none = ap (λ (p : Queue). nat_eq (length p) 0) (none_in q none)
@@ -26,69 +28,128 @@ pub not_empty : (q : Queue) → nat_lt 0 (length q) ≡ true → nat_eq (length 
 not_empty [] some = absurd cc
 not_empty (p ∷ q) some = eqb-suc-zero (length q)
 
--- nothing is served where no request waits
-pub serves_rest : (s : Scene) (i : ℕ) → waits_in s.up i ≡ false → serves s i ≡ s
-unfolding serves
-serves_rest s i none = ap (λ (q : Queue). served s i q) (none_in (queue_of s.up i) none)
+module _ {V : Type 0} (rule : Serving V) where
+  -- nothing is served where no request waits
+  pub serves_rest : (s : SceneOf V) (i : ℕ) → waits_in s.up i ≡ false → serves rule s i ≡ s
+  unfolding serves
+  serves_rest s i none = ap (λ (q : Queue). served rule s i q (server_at s.servers (server_of s.served_by i))) (none_in (queue_of s.up i) none)
 
--- no turn where none is left, nor where no request waits
-pub turns_end : (n : ℕ) (s : Scene) (i : ℕ) → n ≡ 0 → turns n s i ≡ quietly s
-unfolding turns
-turns_end zero s i is = refl
-turns_end (suc n) s i is = absurd (omega arith)
+  -- no turn where none is left, nor where no request waits
+  pub turns_end : (n : ℕ) (s : SceneOf V) (i : ℕ) → n ≡ 0 → turns rule n s i ≡ quietly s
+  unfolding turns
+  turns_end zero s i is = refl
+  turns_end (suc n) s i is = absurd (omega arith)
 
-pub turns_rest : (n : ℕ) (s : Scene) (i : ℕ) → waits_in s.up i ≡ false → turns n s i ≡ quietly s
-unfolding turns
-turns_rest zero s i none = refl
-turns_rest (suc n) s i none =
-    ap (λ (b : Bool). if b then quietly s else (let t = takes_aloud (serves s i) i in behind t.text (turns n t.scene i))) (is_empty (queue_of s.up i) none)
+  pub turns_rest : (n : ℕ) (s : SceneOf V) (i : ℕ) → waits_in s.up i ≡ false → turns rule n s i ≡ quietly s
+  unfolding turns
+  turns_rest zero s i none = refl
+  turns_rest (suc n) s i none =
+      ap (λ (b : Bool). if b then quietly s else (let t = takes_aloud unchanged (serves rule s i) i in behind t.text (turns rule n t.scene i))) (is_empty (queue_of s.up i) none)
 
--- one turn, and those behind it
-pub turns_on : (n m : ℕ) (s : Scene) (i : ℕ) → n ≡ m + 1 → waits_in s.up i ≡ true
-    → turns n s i ≡ behind (takes_aloud (serves s i) i).text (turns m (takes_aloud (serves s i) i).scene i)
-unfolding turns
-turns_on zero m s i is some = absurd (omega arith)
-turns_on (suc n) m s i is some =
-    let same : n ≡ m = omega arith in
-    ap (λ (b : Bool). if b then quietly s else (let t = takes_aloud (serves s i) i in behind t.text (turns n t.scene i))) (not_empty (queue_of s.up i) some)
-    ∙ ap (λ (k : ℕ). behind (takes_aloud (serves s i) i).text (turns k (takes_aloud (serves s i) i).scene i)) same
+  -- one turn, and those behind it
+  pub turns_on : (n m : ℕ) (s : SceneOf V) (i : ℕ) → n ≡ m + 1 → waits_in s.up i ≡ true
+      → turns rule n s i ≡ behind (takes_aloud unchanged (serves rule s i) i).text (turns rule m (takes_aloud unchanged (serves rule s i) i).scene i)
+  unfolding turns
+  turns_on zero m s i is some = absurd (omega arith)
+  turns_on (suc n) m s i is some =
+      let same : n ≡ m = omega arith in
+      ap (λ (b : Bool). if b then quietly s else (let t = takes_aloud unchanged (serves rule s i) i in behind t.text (turns rule n t.scene i))) (not_empty (queue_of s.up i) some)
+      ∙ ap (λ (k : ℕ). behind (takes_aloud unchanged (serves rule s i) i).text (turns rule k (takes_aloud unchanged (serves rule s i) i).scene i)) same
+
+  -- where a request was served, an answer waits
+  pub answer_waits : (s : SceneOf V) (i : ℕ) → i - 1 < length s.down → is_some (server_at s.servers (server_of s.served_by i)) ≡ true → waits_in s.up i ≡ true → waits_in (serves rule s i).down i ≡ true
+  unfolding serves
+  answer_waits s i lt there some = by_both (queue_of s.up i) (server_at s.servers (server_of s.served_by i)) some there
+    where
+      by_both : (q : Queue) (o : Option V) → nat_lt 0 (length q) ≡ true → is_some o ≡ true → waits_in (served rule s i q o).down i ≡ true
+      by_both [] o waits is = absurd cc
+      by_both (p ∷ q) None waits is = absurd cc
+      by_both (p ∷ q) (Some v) waits is =
+          let own : Queue = queue_of s.down i ++ (rule v i i p).0 ∷ [] in
+          let long : length own ≡ length (queue_of s.down i) + 1 = length-append (queue_of s.down i) ((rule v i i p).0 ∷ []) in
+          ap (λ (o : Option Queue). nat_lt 0 (length (unwrap_or o []))) (get_set s.down (i - 1) own lt) ∙ lt-ltb 0 (length own) (omega arith)
+
+-- the member at a place
+pub member_in : (ms : List Member) (k : ℕ) → k < length ms → (m : Member) × (slice_get ms k ≡ Some m)
+member_in [] k lt = absurd (omega (arith, lt))
+member_in (m ∷ ms) zero lt = (m, refl)
+member_in (m ∷ ms) (suc k) lt = member_in ms k (omega (arith, lt))
 
 -- a client's queue of answers stands in its row
-pub within_down : (t : Transcript) (ms : List Member) (v : Server) (s : Scene) (i k : ℕ) → Shows t ms v s → i ≡ k + 1 → k < length ms → i - 1 < length s.down
-within_down t ms v s i k shows is lt =
+pub within_down : {V : Type 0} (t : Transcript) (ms : List Member) (vs : List (Option V)) (s : SceneOf V) (i k : ℕ) → Shows t ms vs s → i ≡ k + 1 → k < length ms → i - 1 < length s.down
+within_down t ms vs s i k shows is lt =
     let as_long : length s.down ≡ length ms = ap (λ (qs : List Queue). length qs) (sym shows.down) ∙ length-map ms (λ (m : Member). m.down) in
     omega arith
 
--- where a request was served, an answer waits
-pub answer_waits : (s : Scene) (i : ℕ) → i - 1 < length s.down → waits_in s.up i ≡ true → waits_in (serves s i).down i ≡ true
-unfolding serves
-answer_waits s i lt some = by_queue (queue_of s.up i) some
-  where
-    by_queue : (q : Queue) → nat_lt 0 (length q) ≡ true → waits_in (served s i q).down i ≡ true
-    by_queue [] waits = absurd cc
-    by_queue (p ∷ q) waits =
-        let own : Queue = queue_of s.down i ++ answer_text (serve s.server i p).answer ∷ [] in
-        let long : length own ≡ length (queue_of s.down i) + 1 = length-append (queue_of s.down i) (answer_text (serve s.server i p).answer ∷ []) in
-        ap (λ (o : Option Queue). nat_lt 0 (length (unwrap_or o []))) (get_set s.down (i - 1) own lt) ∙ lt-ltb 0 (length own) (omega arith)
+-- and the server that serves it exists
+pub server_there : {V : Type 0} (t : Transcript) (ms : List Member) (vs : List (Option V)) (s : SceneOf V) (i k : ℕ) (m : Member) → Shows t ms vs s → i ≡ k + 1 → slice_get ms k ≡ Some m
+    → is_some (server_at s.servers (server_of s.served_by i)) ≡ true
+server_there {V = V} t ms vs s i k m shows is at =
+    ap (λ (n : ℕ). is_some (server_at s.servers n)) (server_here t ms vs s i k m shows is at)
+    ∙ ap (λ (us : List (Option V)). is_some (server_at us m.server)) (sym shows.servers) ∙ placed_here t ms vs s i k m shows is at
 
--- a taking where an answer waited
-pub taken_aloud : (s : Scene) (i : ℕ) (w : World) (before after : List ℕ) (went : Bool) → waits_in s.down i ≡ went → waits_in s.down i ≡ true → TakesAloud s i w before after went
-    → (after ≡ before ++ (takes_aloud s i).text) × ShowsScene w (takes_aloud s i).scene
-taken_aloud s i w before after went is some does = subst (λ (g : Bool). TakesAloud s i w before after g) (sym is ∙ some) does
+module _ {S V : Type 0} (state : S → V) (rule : Serving V) where
+  -- a taking where an answer waited
+  pub taken_aloud : (s : SceneOf V) (i : ℕ) (w : World S) (before after : List ℕ) (went : Bool) → waits_in s.down i ≡ went → waits_in s.down i ≡ true → TakesAloud state unchanged s i w before after went
+      → (after ≡ before ++ (takes_aloud unchanged s i).text) × ShowsScene state w (takes_aloud unchanged s i).scene
+  taken_aloud s i w before after went is some does = subst (λ (g : Bool). TakesAloud state unchanged s i w before after g) (sym is ∙ some) does
 
--- what a run prints where it does nothing
-pub runs_quietly : (r : Shown) (s : Scene) (w : World) (before : List ℕ) → r ≡ quietly s → ShowsScene w s → (before ≡ before ++ r.text) × ShowsScene w r.scene
-runs_quietly r s w before is shows = subst (λ (x : Shown). (before ≡ before ++ x.text) × ShowsScene w x.scene) (sym is) (sym (append-nil before), shows)
+  -- what a run prints where it does nothing
+  pub runs_quietly : (r : ShownOf V) (s : SceneOf V) (w : World S) (before : List ℕ) → r ≡ quietly s → ShowsScene state w s → (before ≡ before ++ r.text) × ShowsScene state w r.scene
+  runs_quietly r s w before is shows = subst (λ (x : ShownOf V). (before ≡ before ++ x.text) × ShowsScene state w x.scene) (sym is) (sym (append-nil before), shows)
 
--- and where it goes on behind a turn
-pub runs_on : (r next : Shown) (text before mid : List ℕ) (w : World) (after : List ℕ) → r ≡ behind text next → mid ≡ before ++ text
-    → (after ≡ mid ++ next.text) × ShowsScene w next.scene → (after ≡ before ++ r.text) × ShowsScene w r.scene
-runs_on r next text before mid w after is turn goes =
-    subst (λ (x : Shown). (after ≡ before ++ x.text) × ShowsScene w x.scene) (sym is)
-    (goes.0 ∙ ap (λ (front : List ℕ). front ++ next.text) turn ∙ append_assoc before text next.text, goes.1)
+  -- and where it goes on behind a turn
+  runs_on : (r next : ShownOf V) (text before mid : List ℕ) (w : World S) (after : List ℕ) → r ≡ behind text next → mid ≡ before ++ text
+      → (after ≡ mid ++ next.text) × ShowsScene state w next.scene → (after ≡ before ++ r.text) × ShowsScene state w r.scene
+  runs_on r next text before mid w after is turn goes =
+      subst (λ (x : ShownOf V). (after ≡ before ++ x.text) × ShowsScene state w x.scene) (sym is)
+      (goes.0 ∙ ap (λ (front : List ℕ). front ++ next.text) turn ∙ append_assoc before text next.text, goes.1)
 
--- the same of what may have found no memory
-pub runs_on_if : {T : Type 0} (r : Result T NoMemory) (all next : Shown) (text before mid : List ℕ) (w : World) (after : List ℕ) → all ≡ behind text next → mid ≡ before ++ text
-    → OnOk r ((after ≡ mid ++ next.text) × ShowsScene w next.scene) → OnOk r ((after ≡ before ++ all.text) × ShowsScene w all.scene)
-runs_on_if (Err e) all next text before mid w after is turn goes = tt
-runs_on_if (Ok done) all next text before mid w after is turn goes = runs_on all next text before mid w after is turn goes
+  -- the same of what may have found no memory
+  pub runs_on_if : {T : Type 0} (r : Result T NoMemory) (all next : ShownOf V) (text before mid : List ℕ) (w : World S) (after : List ℕ) → all ≡ behind text next → mid ≡ before ++ text
+      → OnOk r ((after ≡ mid ++ next.text) × ShowsScene state w next.scene) → OnOk r ((after ≡ before ++ all.text) × ShowsScene state w all.scene)
+  runs_on_if (Err e) all next text before mid w after is turn goes = tt
+  runs_on_if (Ok done) all next text before mid w after is turn goes = runs_on all next text before mid w after is turn goes
+
+  -- ---- where memory ran out
+
+  -- as a request was to be served, nothing has changed
+  pub left_unserved : (n : ℕ) (s : SceneOf V) (i : ℕ) (w : World S) → 0 < n → ShowsScene state w s → IsLeftOf state rule n s i w
+  unfolding turns
+  left_unserved n s i w lt shows = (0, (lt, inl shows))
+
+  -- as its answer was to be taken, it was served alone
+  pub left_untaken : (n : ℕ) (s : SceneOf V) (i : ℕ) (w : World S) → 0 < n → ShowsScene state w (serves rule s i) → IsLeftOf state rule n s i w
+  unfolding turns
+  left_untaken n s i w lt shows = (0, (lt, inr shows))
+
+  -- later on, what was left then
+  pub left_later : (n m : ℕ) (s : SceneOf V) (i : ℕ) (w : World S) → n ≡ m + 1 → waits_in s.up i ≡ true → IsLeftOf state rule m (takes_aloud unchanged (serves rule s i) i).scene i w → IsLeftOf state rule n s i w
+  left_later n m s i w is some left =
+      let next : SceneOf V = (takes_aloud unchanged (serves rule s i) i).scene in
+      let on : (turns rule (left.0 + 1) s i).scene ≡ (turns rule left.0 next i).scene = ap (λ (x : ShownOf V). x.scene) (turns_on rule (left.0 + 1) left.0 s i refl some) in (
+        left.0 + 1,
+        (
+          omega (arith, is, left.1.0),
+          subst (λ (x : SceneOf V). ShowsScene state w x ⊎ ShowsScene state w (serves rule x i)) (sym on) left.1.1,
+        ),
+      )
+
+  pub left_later_if : {T : Type 0} (r : Result T NoMemory) (n m : ℕ) (s : SceneOf V) (i : ℕ) (w : World S) → n ≡ m + 1 → waits_in s.up i ≡ true
+      → OnErr r (IsLeftOf state rule m (takes_aloud unchanged (serves rule s i) i).scene i w) → OnErr r (IsLeftOf state rule n s i w)
+  left_later_if (Ok done) n m s i w is some left = tt
+  left_later_if (Err e) n m s i w is some left = left_later n m s i w is some left
+
+  pub left_unserved_if : {T E : Type 0} (r : Result T E) (n : ℕ) (s : SceneOf V) (i : ℕ) (w : World S) → 0 < n → ShowsScene state w s → OnErr r (IsLeftOf state rule n s i w)
+  left_unserved_if (Ok done) n s i w lt shows = tt
+  left_unserved_if (Err e) n s i w lt shows = left_unserved n s i w lt shows
+
+  pub left_untaken_if : {T E : Type 0} (r : Result T E) (n : ℕ) (s : SceneOf V) (i : ℕ) (w : World S) → 0 < n → ShowsScene state w (serves rule s i) → OnErr r (IsLeftOf state rule n s i w)
+  left_untaken_if (Ok done) n s i w lt shows = tt
+  left_untaken_if (Err e) n s i w lt shows = left_untaken n s i w lt shows
+
+  -- where a request of a member was served, an answer waits for it
+  pub answers : (w : World S) (s : SceneOf V) (i k : ℕ) → ShowsScene state w s → i ≡ k + 1 → k < length w.members.items → waits_in s.up i ≡ true → waits_in (serves rule s i).down i ≡ true
+  answers w s i k shows is lt some =
+      let m = member_in w.members.items k lt in
+      answer_waits rule s i (within_down w.transcript w.members.items (states state w.servers) s i k shows is lt) (server_there w.transcript w.members.items (states state w.servers) s i k m.0 shows is m.1) some

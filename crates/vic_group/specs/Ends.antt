@@ -1,13 +1,16 @@
 -- How the command on a script ends: what was read, what was written, and why.
-use Rattle.std.specs.Prelude.{◌≡◌, ℕ, ◌<◌, ◌⊎◌, Bool, true, false, List, ◌++◌, length, reverse, Option, Some, None, IsSome, IfSome}
+use Rattle.std.specs.Prelude.{◌≡◌, ℕ, ◌<◌, ◌⊎◌, ◌↔◌, Bool, true, false, List, ◌++◌, length, reverse, Option, Some, None, IsSome, IfSome}
 use Rattle.std.specs.List.{flat_map}
 use Rattle.vic_dict.specs.Lists.{AreBytes}
 use Rattle.vic_rules.specs.History.{IsLawful}
 use Rattle.vic_rules.specs.Headline.{Headline}
+use Rattle.vic_rules.specs.Trust.{IsForged}
+use Rattle.vic_laws.specs.Claims.{HashesTellPathsIn, SealsHoldIn}
 use Rattle.vic_ports.specs.Causes.{Rose, IsSpent, LeavesBehind}
 use Rattle.vic_ports.specs.Written.{AppendedAll, AppendedFront}
-use Rattle.vic_script.specs.Scenes.{Scene}
-use Rattle.vic_script.specs.Run.{limit, Bad, run_of, group_of, history_of, bad_line_of}
+use Rattle.vic_order.specs.Order.{Server}
+use Rattle.vic_script.specs.Scenes.{Scene, server_at}
+use Rattle.vic_script.specs.Run.{limit, Bad, run_of, is_honest_script, group_of, history_of, bad_line_of}
 use Rattle.vic_script.specs.Print.{print_of_script, is_forged, all_views, all_agreements, tags_line}
 use Rattle.vic_runs.specs.Claims.{IsRunOf, line_of_step}
 use Rattle.vic_runs.specs.Reached.{IsHonestScene}
@@ -50,40 +53,62 @@ abbrev pub IsOutput : Bool → Taken → List ℕ → Type 0
 IsOutput false t text = text ≡ usage_line
 IsOutput true t text = ((text ≡ read_fault_line) × Rose t.before t.now) ⊎ ((text ≡ no_memory_line) ⊎ IfSome t.old (λ script. text ≡ print_of_script script))
 
+-- every line of a script is done, and this tells whether a tag was taken that no client had made before
+abbrev pub IsDone : List ℕ → Bool → Type 0
+IsDone script forged = (bad_line_of script ≡ None) × (is_forged (group_of script) (history_of script) ≡ forged)
+
 -- the command's end, by its status: `right` says whether the words are
 abbrev pub Ends : Bool → Taken → Given → Status → Type 0
-Ends right t k status.Ok = (right ≡ true) × (IsReadWhole t × IfSome t.old (λ script. (bad_line_of script ≡ None) × AppendedAll (print_of_script script) k.old k.new))
-Ends right t k status.TagsNotMade = ⊥
+Ends right t k status.Ok = (right ≡ true) × (IsReadWhole t × IfSome t.old (λ script. IsDone script false × AppendedAll (print_of_script script) k.old k.new))
+Ends right t k status.TagsNotMade = (right ≡ true) × (IsReadWhole t × IfSome t.old (λ script. IsDone script true × AppendedAll (print_of_script script) k.old k.new))
 Ends right t k status.Usage = (right ≡ false) × AppendedAll usage_line k.old k.new
 Ends right t k status.ReadFault = (right ≡ true) × (Rose t.before t.now × AppendedAll read_fault_line k.old k.new)
 Ends right t k status.WriteFault = Rose k.before k.now × ((text : List ℕ) × (IsOutput right t text × AppendedFront text k.old k.new))
 Ends right t k status.BadLine = (right ≡ true) × ((IsReadWhole t ⊎ IsReadPast t) × IfSome t.old (λ script. IsSome (bad_line_of script) × AppendedAll (print_of_script script) k.old k.new))
 Ends right t k status.NoMemory = (text : List ℕ) × (IsOutput right t text × AppendedFront text k.old k.new)
 
+-- the status of a run in which every line is done
+abbrev pub done_status : Bool → Status
+done_status false = status.Ok
+done_status true = status.TagsNotMade
+
 -- where no line is bad, no fault came and the words are right, every line was done, or memory ran out
 abbrev pub IsComplete : Bool → Taken → Given → Status → Type 0
 IsComplete right t k result =
     right ≡ true → (Rose t.before t.now → ⊥) → (Rose k.before k.now → ⊥) → (script : List ℕ) → t.old ≡ Some script → bad_line_of script ≡ None
-    → (result ≡ status.Ok) ⊎ (result ≡ status.NoMemory)
+    → (result ≡ done_status (is_forged (group_of script) (history_of script))) ⊎ (result ≡ status.NoMemory)
 
--- what holds of the run of a script
-pub record IsAsClaimed (script : List ℕ) : Type 0 where
+-- what holds of the run of a script in which no line tampers with what its one server answers
+pub record IsHonest (script : List ℕ) : Type 0 where
   -- it is a run of clients with one honest server, of which the laws of honest runs hold
-  pub honest : IsRunOf script
-  -- its clients step by the rules
-  pub lawful : IsLawful (group_of script) (history_of script)
+  pub run : IsRunOf script
   -- every tag that a client took was made by a client before
   pub tags_made : is_forged (group_of script) (history_of script) ≡ false
-  -- where no line is bad, the print says so last, behind what the lines printed, the views and how far they agree
-  pub says_so : bad_line_of script ≡ None → print_of_script script ≡ (run_of script).text ++ (all_views (group_of script) (history_of script) ++ all_agreements (group_of script) (history_of script) ++ tags_line false)
-  -- the claim on the views of all clients
-  pub views : Headline (group_of script) (history_of script)
-  -- where it ends, each completed call returned what becomes of it in the server's log, and no step returned that a check failed
-  pub scene : (s : Scene) → (run_of script).scene ≡ Some s → IsHonestScene s
+  -- where it ends, what holds of honest runs holds of its clients and its one server: each completed call returned what becomes of it
+  -- in the server's log, no step returned that a check failed, and more
+  pub scene : (s : Scene) → (run_of script).scene ≡ Some s → (server : Server) → server_at s.servers 1 ≡ Some server → IsHonestScene s server
   -- no line is bad for that its client has halted
   pub none_halted : (b : Bad) → bad_line_of script ≡ Some b → b.kind ≡ 3 → ⊥
-  -- what the lines printed is what the steps returned in which clients took answers, the oldest first; with `scene` none is printed as halted
+
+-- what holds of the run of a script, whatever its lines give, change, repeat or send again, and whatever servers they copy and join
+pub record IsAsClaimed (script : List ℕ) : Type 0 where
+  -- its clients step by the rules
+  pub lawful : IsLawful (group_of script) (history_of script)
+  -- two fronts of its clients' paths that have one hash are equal, or two listed texts collide
+  pub paths : HashesTellPathsIn (group_of script) (history_of script)
+  -- each seal that a client took or made holds, unless a tag was forged or two listed texts collide
+  pub seals : SealsHoldIn (group_of script) (history_of script)
+  -- the claim on the views of all clients
+  pub views : Headline (group_of script) (history_of script)
+  -- the test that decides between the statuses 0 and 1, and that the print tells, is true exactly where a tag is forged
+  pub tags : (is_forged (group_of script) (history_of script) ≡ true) ↔ IsForged (group_of script) (history_of script)
+  -- where no line is bad, the print has what the lines printed, the views, how far they agree, and that test's answer
+  pub says_so : bad_line_of script ≡ None → print_of_script script ≡ (run_of script).text
+      ++ (all_views (group_of script) (history_of script) ++ all_agreements (group_of script) (history_of script) ++ tags_line (is_forged (group_of script) (history_of script)))
+  -- what the lines printed is what the steps returned in which clients took payloads, the oldest first
   pub prints : (run_of script).text ≡ flat_map line_of_step (reverse (history_of script))
+  -- where no line tampers, it is as with one honest server
+  pub honest : is_honest_script script ≡ true → IsHonest script
 
 -- and it holds of every script of bytes
 abbrev pub ClaimHolds : List ℕ → Type 0

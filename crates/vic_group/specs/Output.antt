@@ -1,5 +1,5 @@
 -- What is about to be written, and how a writing ends.
-use Rattle.std.specs.Prelude.{◌≡◌, ℕ, ◌⊎◌, Bool, true, false, List, IsSome, IfSome, None}
+use Rattle.std.specs.Prelude.{◌≡◌, ℕ, ◌⊎◌, Bool, true, false, List, IsSome, IfSome}
 use Rattle.vic_ports.specs.Causes.{Rose}
 use Rattle.vic_ports.specs.Written.{AppendedAll, AppendedFront}
 use Rattle.vic_script.specs.Run.{bad_line_of}
@@ -9,7 +9,7 @@ use Rattle.vic_group.specs.declared.output.Text.TheVariants as text
 use Rattle.vic_group.specs.declared.status.Status.{Status}
 use Rattle.vic_group.specs.declared.status.Status.TheVariants as status
 use Rattle.vic_group.specs.Words.{usage_line, read_fault_line, no_memory_line}
-use Rattle.vic_group.specs.Ends.{Taken, Given, IsReadWhole, IsReadPast}
+use Rattle.vic_group.specs.Ends.{Taken, Given, IsReadWhole, IsReadPast, IsDone, done_status}
 
 -- the bytes of a text
 abbrev pub text_bytes : Text → List ℕ
@@ -18,8 +18,8 @@ text_bytes (text.Made bytes) = bytes
 
 -- a status and its text, before it is written
 abbrev pub Composes : Bool → Taken → Status → List ℕ → Type 0
-Composes right t status.Ok line = (right ≡ true) × (IsReadWhole t × IfSome t.old (λ script. (bad_line_of script ≡ None) × (line ≡ print_of_script script)))
-Composes right t status.TagsNotMade line = ⊥
+Composes right t status.Ok line = (right ≡ true) × (IsReadWhole t × IfSome t.old (λ script. IsDone script false × (line ≡ print_of_script script)))
+Composes right t status.TagsNotMade line = (right ≡ true) × (IsReadWhole t × IfSome t.old (λ script. IsDone script true × (line ≡ print_of_script script)))
 Composes right t status.Usage line = (right ≡ false) × (line ≡ usage_line)
 Composes right t status.ReadFault line = (right ≡ true) × (Rose t.before t.now × (line ≡ read_fault_line))
 Composes right t status.WriteFault line = ⊥
@@ -33,7 +33,7 @@ ComposesNone s line = (s ≡ status.NoMemory) × (line ≡ no_memory_line)
 -- a status and its text after the run of a script
 abbrev pub ComposesRun : List ℕ → Status → List ℕ → Type 0
 ComposesRun script s line =
-    ((s ≡ status.Ok) × ((bad_line_of script ≡ None) × (line ≡ print_of_script script)))
+    ((forged : Bool) × ((s ≡ done_status forged) × (IsDone script forged × (line ≡ print_of_script script))))
     ⊎ (((s ≡ status.BadLine) × (IsSome (bad_line_of script) × (line ≡ print_of_script script))) ⊎ ComposesNone s line)
 
 -- a text was written whole, or the sink failed or found no memory

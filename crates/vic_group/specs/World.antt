@@ -1,83 +1,136 @@
--- The scene that a world shows.
-use Rattle.std.specs.Prelude.{◌≡◌, ℕ, ◌+◌, ◌<◌, ◌≤◌, ◌^◌, Bool, true, false, List, [], ◌∷◌, ◌++◌, map, length, Option, Some, None}
+-- The scene that a world shows, and what its parts do.
+use Rattle.std.specs.Prelude.{◌≡◌, ℕ, ◌+◌, ◌<◌, ◌≤◌, ◌^◌, ◌⊎◌, Bool, true, false, List, [], ◌∷◌, ◌++◌, map, length, Option, Some, None, Result, Ok, Err, option_map, is_some, slice_get, ◌-◌}
 use Rattle.std.specs.List.{AllByRecursion}
-use Rattle.vic_dict.specs.Dictionary.{Fits}
+use Rattle.vic_dict.specs.declared.bytes.NoMemory.{NoMemory}
+use Rattle.vic_dict.specs.Dictionary.{Fits, AreBytesIn}
 use Rattle.vic_dict.specs.declared.op.Mode.TheVariants as mode
 use Rattle.vic_wire.specs.Hashes.{Group}
-use Rattle.vic_wire.specs.Messages.{answer_text}
 use Rattle.vic_rules.specs.declared.trace.Input.{Input}
 use Rattle.vic_rules.specs.declared.trace.Input.TheVariants as input
 use Rattle.vic_rules.specs.declared.trace.TraceStep.{TraceStep}
-use Rattle.vic_rules.specs.Client.{Standing, step, payload_of}
-use Rattle.vic_order.specs.Order.{Server, serve}
+use Rattle.vic_rules.specs.Client.{step, payload_of, MayStep}
+use Rattle.vic_rules.specs.History.{standing, IsLawful}
+use Rattle.vic_order.specs.Serving.{Serving, AnswersAs}
+use Rattle.vic_order.specs.Honest.{world_after}
 use Rattle.vic_client.specs.Kept.{StandsFor, group_of}
 use Rattle.vic_view.specs.declared.transcript.Transcript.{Transcript}
-use Rattle.vic_view.specs.Transcripts.{history_of, group_of as transcript_group}
-use Rattle.vic_script.specs.Scenes.{Scene, Queue, Shown, queued, takes_aloud}
+use Rattle.vic_view.specs.Transcripts.{steps_of, history_of, group_of as transcript_group}
+use Rattle.vic_script.specs.declared.line.Line.{Line}
+use Rattle.vic_script.specs.declared.line.Line.TheVariants as line
+use Rattle.vic_script.specs.Scenes.{SceneOf, queued, server_at, last_taken, last_sent, serves, takes_aloud, most_turns, turns, is_client, done_line, bad_kind}
+use Rattle.vic_runs.specs.Reached.{IsHonestlyReached, IsHonestScene}
 use Rattle.vic_group.specs.declared.member.Member.{Member}
+use Rattle.vic_group.specs.declared.servers.Servers.{Servers}
 use Rattle.vic_group.specs.declared.world.World.{World}
 use Rattle.vic_group.specs.Members.{AllStand}
 
--- a client of the group has this number, and stands so
-pub record MemberStands (g : Group) (m : Member) (i : ℕ) (s : Standing) : Type 0 where
+-- ---- what is shown
+
+-- a client of the group has this number, stands where the history leaves it, and has what it took and sent last
+pub record MemberStands (g : Group) (h : List TraceStep) (m : Member) (i : ℕ) : Type 0 where
   pub id : m.client.id ≡ i
   pub group : group_of m.client ≡ g
-  pub stands : StandsFor m.client s
+  pub stands : StandsFor m.client (standing g i h)
+  pub taken : m.taken ≡ last_taken i h
+  pub sent : m.sent ≡ last_sent i h
 
--- the transcript, the server and the queues are the scene's, and each client stands where the history leaves it
-pub record Shows (t : Transcript) (ms : List Member) (v : Server) (s : Scene) : Type 0 where
+-- what each server is, as far as it exists
+abbrev pub states : {S V : Type 0} → (S → V) → Servers S → List (Option V)
+states state v = Some (state v.first) ∷ option_map state v.second ∷ option_map state v.third ∷ option_map state v.fourth ∷ []
+
+-- the transcript, the servers and the queues are the scene's; its clients have stepped by the rules, each stands where the history
+-- leaves it, and is served by a server that exists
+pub record Shows {V : Type 0} (t : Transcript) (ms : List Member) (vs : List (Option V)) (s : SceneOf V) : Type 0 where
   pub count : length ms ≡ s.group.count
   pub few : s.group.count ≤ 64
   pub group : transcript_group t ≡ s.group
   pub history : history_of t ≡ s.history
-  pub server : v ≡ s.server
   pub up : map (λ m. m.up) ms ≡ s.up
   pub down : map (λ m. m.down) ms ≡ s.down
-  pub clients : AllStand (MemberStands s.group) s.group s.history 1 ms
+  pub served_by : map (λ m. m.server) ms ≡ s.served_by
+  pub servers : vs ≡ s.servers
+  pub placed : AllByRecursion (λ m. is_some (server_at vs m.server) ≡ true) ms
+  pub clients : AllStand (MemberStands s.group s.history) 1 ms
+  pub lawful : IsLawful s.group s.history
 
-abbrev pub ShowsScene : World → Scene → Type 0
-ShowsScene w s = Shows w.transcript w.members.items w.server s
+abbrev pub ShowsScene : {S V : Type 0} → (S → V) → World S → SceneOf V → Type 0
+ShowsScene state w s = Shows w.transcript w.members.items (states state w.servers) s
 
 -- a client of a plain group that may call once more
 abbrev pub IsReady : Member → Type 0
 IsReady m = (m.client.mode ≡ mode.Plain) × (m.client.calls + 1 < 2 ^ 32)
 
-abbrev pub AllReady : World → Type 0
-AllReady w = AllByRecursion IsReady w.members.items
+-- the operation of a line that calls one is bytes
+abbrev pub HasBytes : Line → Type 0
+HasBytes (line.Call i o) = AreBytesIn o
+HasBytes l = Unit {0}
 
--- what a client does at a step: the step as the history has it, what joined its queue, and where it then stands
-pub record Acts (g : Group) (i : ℕ) (s : Standing) (given : Input) (old new : Member) (x : TraceStep) : Type 0 where
-  pub step_is : x ≡ record { client = i; input = given; sent = payload_of g i (step g i s given).next (step g i s given).sends; returned = (step g i s given).returns }
-  pub up : new.up ≡ queued old.up (payload_of g i (step g i s given).next (step g i s given).sends)
+-- a client whom a line calls, in a group of mode plain, may call once more
+abbrev pub MayDo : {S : Type 0} → World S → Line → Type 0
+MayDo w (line.Call i o) = w.transcript.mode ≡ mode.Plain → 0 < i → (m : Member) → slice_get w.members.items (i - 1) ≡ Some m → IsReady m
+MayDo w l = Unit {0}
+
+-- ---- what a member does
+
+-- the step that a client makes after a history
+abbrev pub step_at : Group → List TraceStep → ℕ → Input → TraceStep
+step_at g h i given =
+    let v = step g i (standing g i h) given in
+    record { client = i; input = given; sent = payload_of g i v.next v.sends; returned = v.returns }
+
+-- a client made its step, as it may: what it sent joined its queue, and it stands where the history then leaves it
+pub record Acts (g : Group) (h : List TraceStep) (i : ℕ) (given : Input) (old new : Member) : Type 0 where
+  pub may : MayStep g (standing g i h) given
+  pub up : new.up ≡ queued old.up (step_at g h i given).sent
   pub down : new.down ≡ old.down
-  pub stands : MemberStands g new i (step g i s given).next
+  pub server : new.server ≡ old.server
+  pub stands : MemberStands g (step_at g h i given ∷ h) new i
 
--- what the server does with a client's oldest request, and whether there was one
-abbrev pub Serves : ℕ → Queue → Member → Member → Server → Server → Bool → Type 0
-Serves i [] old new before after went = (went ≡ false) × ((new ≡ old) × (after ≡ before))
-Serves i (payload ∷ rest) old new before after went =
-    (went ≡ true) × ((new.client ≡ old.client) × ((new.up ≡ rest) × ((new.down ≡ old.down ++ answer_text (serve before i payload).answer ∷ []) × (after ≡ (serve before i payload).next))))
+-- a step joined a transcript
+pub record Joins (x : TraceStep) (before after : Transcript) : Type 0 where
+  pub group : transcript_group after ≡ transcript_group before
+  pub steps : steps_of after ≡ steps_of before ++ x ∷ []
 
--- what a client does with its oldest answer, if there is one
-abbrev pub Takes : Group → ℕ → Standing → Queue → Member → Member → Option TraceStep → Type 0
-Takes g i s [] old new None = new ≡ old
-Takes g i s [] old new (Some x) = ⊥
-Takes g i s (payload ∷ rest) old new None = ⊥
-Takes g i s (payload ∷ rest) old new (Some x) = Acts g i s (input.Payload payload) (record old { down = rest }) new x
-
--- a line was bad by a kind, and nothing changed; or it was done, and its text was appended
-abbrev pub Goes : Scene → Shown → World → List ℕ → List ℕ → Option ℕ → Type 0
-Goes s shown new before after (Some k) = ShowsScene new s
-Goes s shown new before after None = (after ≡ before ++ shown.text) × ShowsScene new shown.scene
+-- none did
+pub record Stays (before after : Transcript) : Type 0 where
+  pub group : transcript_group after ≡ transcript_group before
+  pub steps : steps_of after ≡ steps_of before
 
 -- what a client may be asked: a call that fits, while it may call once more
 abbrev pub CanAsk : Member → Input → Type 0
-CanAsk m (input.Call op) = IsReady m × Fits op
+CanAsk m (input.Call op) = IsReady m × (Fits op × AreBytesIn op)
 CanAsk m input.Poll = Unit {0}
 CanAsk m input.Sync = Unit {0}
-CanAsk m (input.Payload payload) = Unit {0}
+CanAsk m (input.Payload payload) = ⊥
 
--- a client took its oldest answer, and what became of it was appended; or none waited, and nothing changed
-abbrev pub TakesAloud : Scene → ℕ → World → List ℕ → List ℕ → Bool → Type 0
-TakesAloud s i new before after true = (after ≡ before ++ (takes_aloud s i).text) × ShowsScene new (takes_aloud s i).scene
-TakesAloud s i new before after false = (after ≡ before) × ShowsScene new s
+-- ---- what a line does
+
+-- a client took its oldest answer as it came through a change, and what became of it was appended; or none did, and nothing changed
+abbrev pub TakesAloud : {S V : Type 0} → (S → V) → (List ℕ → List ℕ) → SceneOf V → ℕ → World S → List ℕ → List ℕ → Bool → Type 0
+TakesAloud state change s i w before after true = (after ≡ before ++ (takes_aloud change s i).text) × ShowsScene state w (takes_aloud change s i).scene
+TakesAloud state change s i w before after false = (after ≡ before) × ShowsScene state w s
+
+-- what so many turns leave that found no memory: those that were done, the last of which may have been served alone
+abbrev pub IsLeftOf : {S V : Type 0} → (S → V) → Serving V → ℕ → SceneOf V → ℕ → World S → Type 0
+IsLeftOf state rule n s i w = (k : ℕ) × ((k < n) × (ShowsScene state w (turns rule k s i).scene ⊎ ShowsScene state w (serves rule (turns rule k s i).scene i)))
+
+-- what a line leaves that found no memory: the scene as it was, but for the turns of a client's run that were done
+abbrev pub IsLeft : {S V : Type 0} → (S → V) → Serving V → SceneOf V → Line → World S → Type 0
+IsLeft state rule s (line.Run i) w = (is_client s i ≡ true) × IsLeftOf state rule most_turns s i w
+IsLeft state rule s l w = ShowsScene state w s
+
+-- a line was done, and its text was appended; or it was bad by its first kind, and nothing changed; or it found no memory
+abbrev pub Does : {S V : Type 0} → (S → V) → Serving V → SceneOf V → Line → Result (Option ℕ) NoMemory → World S → List ℕ → List ℕ → Type 0
+Does state rule s l (Ok None) w before after = (bad_kind s l ≡ None) × ((after ≡ before ++ (done_line rule s l).text) × ShowsScene state w (done_line rule s l).scene)
+Does state rule s l (Ok (Some k)) w before after = (bad_kind s l ≡ Some k) × ShowsScene state w s
+Does state rule s l (Err e) w before after = IsLeft state rule s l w
+
+-- ---- honest servers
+
+-- the world shows where clients stand that have one server, which answers as one that follows the rule: an honest run of theirs leads
+-- there, no client was called more than n times, and what holds of such runs holds there
+pub record StandsHonestly {S V : Type 0} (state : S → V) (rule : Serving V) (w : World S) (n : ℕ) : Type 0 where
+  pub scene : SceneOf V
+  pub shows : ShowsScene state w scene
+  pub reached : IsHonestlyReached (AnswersAs rule) scene n
+  pub holds : IsHonestScene scene (world_after scene.group reached.events).server

@@ -1,14 +1,15 @@
 //! The command on a script: it reads the script, runs it and writes what it prints.
 
 ghost use Rattle.std.specs.Prelude.{◌≡◌, ◌≢◌, ◌⊎◌, IfSome, Some, None, true, drop, map, string_bytes};
-ghost use Rattle.vic_script.specs.Run.{bad_line_of};
+ghost use Rattle.vic_script.specs.Run.{bad_line_of, group_of, history_of};
+ghost use Rattle.vic_script.specs.Print.{is_forged};
 ghost use Rattle.vic_group.specs.Words.{is_group};
-ghost use Rattle.vic_group.specs.Ends.{Ends, IsComplete, ClaimHolds, taken_of, given_of};
+ghost use Rattle.vic_group.specs.Ends.{Ends, IsComplete, IsAsClaimed, ClaimHolds, done_status, taken_of, given_of};
 ghost use Rattle.vic_group.specs.Output.{Composes, ComposesRun, ComposesNone, text_bytes};
 
 use crate::finish::finish;
 use crate::output::Text;
-use crate::play::play;
+use crate::play::{End, play};
 use crate::status::Status;
 use std::alloc::Global;
 use vic_ports::{Input, MemorySink, MemorySource, NeverFails, Sink, Source, read_input};
@@ -37,10 +38,10 @@ fn compose_run(alloc: Global, script: &[u8]) -> Composed
 {
     match play(alloc, script) {
         Ok(played) => Composed {
-            status: if played.bad {
-                Status::BadLine
-            } else {
-                Status::Ok
+            status: match played.end {
+                End::Whole => Status::Ok,
+                End::Forged => Status::TagsNotMade,
+                End::Bad => Status::BadLine,
             },
             text: Text::Made(played.text),
         },
@@ -103,10 +104,11 @@ pub fn run_in_memory(
     sink: &mut NeverFails<MemorySink>,
 ) -> Status
     ensures ends { Ends (is_group (map string_bytes words.now)) (taken_of (Some (drop source.old.inner.taken source.old.inner.bytes)) (Some (drop source.new.inner.taken source.new.inner.bytes)) 0 0 source.new.inner.ended) (given_of (Some sink.old.inner.bytes) (Some sink.new.inner.bytes) 0 0) result }
-    ensures claim { ClaimHolds (drop source.old.inner.taken source.old.inner.bytes) }
-    ensures complete { is_group (map string_bytes words.now) ≡ true → bad_line_of (drop source.old.inner.taken source.old.inner.bytes) ≡ None → (result ≡ Status.Ok) ⊎ (result ≡ Status.NoMemory) }
+    ensures claim { IsAsClaimed (drop source.old.inner.taken source.old.inner.bytes) }
+    ensures complete { is_group (map string_bytes words.now) ≡ true → bad_line_of (drop source.old.inner.taken source.old.inner.bytes) ≡ None → (result ≡ done_status (is_forged (group_of (drop source.old.inner.taken source.old.inner.bytes)) (history_of (drop source.old.inner.taken source.old.inner.bytes)))) ⊎ (result ≡ Status.NoMemory) }
     ensures reads { result ≢ Status.ReadFault }
     ensures writes { result ≢ Status.WriteFault }
 {
+    source.inner().are_bytes();
     run_group(alloc, words, source, sink)
 }

@@ -1,119 +1,214 @@
-//! A client of a script, with the payloads that wait for the server and for it.
+//! A client of a script, with the payloads that wait for its server and for it.
 
-ghost use Rattle.std.specs.Prelude.{◌≡◌, ◌<◌, ◌+◌, ◌^◌, ◌∷◌, [], ℕ, IsTrue, IfOk, OnOk, MatchOption, Option, Some, None, is_none};
+ghost use Rattle.std.specs.Prelude.{◌≡◌, ◌<◌, ◌+◌, ◌-◌, ◌^◌, ◌∷◌, [], ◌++◌, ◌⊎◌, ℕ, true, false, Ok, IsTrue, IsSome, IfSome, IfOk, OnOk, OnErr, MatchOption, Option, Some, None, List, drop, length, is_none, is_some, nat_lt};
 ghost use Rattle.vic_dict.specs.Dictionary.{Fits};
 ghost use Rattle.vic_wire.specs.Hashes.{Group};
 ghost use Rattle.vic_rules.specs.declared.trace.Input.TheVariants as input;
-ghost use Rattle.vic_rules.specs.Client.{Standing, awaits_nothing, first_failing};
+ghost use Rattle.vic_rules.specs.declared.trace.TraceStep.{TraceStep as AStep};
+ghost use Rattle.vic_rules.specs.Client.{awaits_nothing, first_failing};
 ghost use Rattle.vic_client.specs.Kept.{is_idle};
-ghost use Rattle.vic_script.specs.Scenes.{queued};
+ghost use Rattle.vic_client.specs.Pending.{IsPendingOf};
+ghost use Rattle.vic_script.specs.Scenes.{queued, or_before, payload_in, oldest, flipped, said, server_at, set_server};
 
 use crate::queue::Queue;
+use crate::said::put_said;
+use crate::servers::Servers;
 use std::alloc::Global;
-use vic_client::Client;
-use vic_dict::{Bytes, NoMemory, Op, Outcome};
-use vic_frames::encode_answer;
-use vic_server::Served;
-use vic_view::{Input, TraceStep};
+use vic_client::{Client, Pending};
+use vic_dict::{Bytes, NoMemory, Outcome};
+use vic_server::Serve;
+use vic_view::{Input, TraceStep, Transcript};
 
-/// A client, its queue of requests and its queue of answers.
+/// A client, the number of the server that serves it, its queue of requests and its queue of answers, and the payloads that it
+/// took and sent last.
 #[derive(Debug, Drop)]
 pub struct Member {
     pub client: Client,
+    pub server: u32,
     pub up: Queue,
     pub down: Queue,
+    pub taken: Option<Bytes>,
+    pub sent: Option<Bytes>,
 }
 
-// What was sent joins the queue of requests, and a copy of it is handed back.
-fn join(alloc: Global, up: &mut Queue, sent: Option<Bytes>) -> Result<Option<Bytes>, NoMemory>
-    ensures queue { OnOk result (up.new ≡ queued up.old sent) }
-    ensures copy { IfOk result (λ made. made ≡ sent) }
+/// A copy of a payload, if there is one.
+fn copied(alloc: Global, payload: &Option<Bytes>) -> Result<Option<Bytes>, NoMemory>
+    ensures { IfOk result (λ made. made ≡ payload.now) }
 {
-    match sent {
+    match payload {
         None => Ok(None),
-        Some(payload) => {
-            let copy = payload.copy(alloc)?;
-            up.push(payload)?;
-            Ok(Some(copy))
-        }
+        Some(bytes) => Ok(Some(bytes.copy(alloc)?)),
+    }
+}
+
+/// A copy of the payload that a client is given, if it is given one.
+fn payload_copy(alloc: Global, input: &Input) -> Result<Option<Bytes>, NoMemory>
+    ensures { IfOk result (λ made. made ≡ payload_in input.now) }
+{
+    match input {
+        Input::Payload(payload) => Ok(Some(payload.copy(alloc)?)),
+        _ => Ok(None),
+    }
+}
+
+/// A copy of a payload with the lowest bit of the byte at a place changed.
+fn flipped_copy(alloc: Global, payload: &[u8], place: usize) -> Result<Bytes, NoMemory>
+    requires { place < length payload.now }
+    ensures { IfOk result (λ made. made ≡ flipped place payload.now) }
+{
+    let mut bytes = Vec::from_slice(alloc, payload)?;
+    bytes[place] ^= 1;
+    Ok(Bytes::from_vec(bytes))
+}
+
+/// What came last: the new one, if there is one.
+fn latest(new: Option<Bytes>, before: Option<Bytes>) -> Option<Bytes>
+    ensures { result ≡ or_before new before }
+{
+    match new {
+        Some(payload) => Some(payload),
+        None => before,
     }
 }
 
 impl Member {
-    ghost use Rattle.vic_group.specs.World.{Acts, MemberStands, IsReady, CanAsk, Takes, Serves};
+    ghost use Rattle.vic_group.specs.World.{Acts, MemberStands, IsReady, CanAsk, Joins, Stays, step_at, states};
 
-    // The step of a client, once it has sent and returned.
-    fn stepped(
+    // What was sent joins the requests, if something was.
+    fn send(&mut self, sent: Option<Bytes>) -> Result<(), NoMemory>
+        ensures ok { OnOk result (self.new ≡ record self.old { up = queued self.old.up sent }) }
+        ensures err { OnErr result (self.new ≡ self.old) }
+    {
+        match sent {
+            None => Ok(()),
+            Some(payload) => self.up.push(payload),
+        }
+    }
+
+    // The client's step joins the transcript, and what it sent joins its requests. The client itself hasn't changed. Where memory
+    // runs out, nothing has.
+    fn make(
         &mut self,
         alloc: Global,
         input: Input,
         sent: Option<Bytes>,
         returned: Option<Outcome>,
-    ) -> Result<TraceStep, NoMemory>
-        ensures client { self.new.client ≡ self.old.client }
-        ensures down { self.new.down ≡ self.old.down }
-        ensures up { OnOk result (self.new.up ≡ queued self.old.up sent) }
-        ensures step_is { IfOk result (λ x. x ≡ record { client = self.old.client.id; input = input; sent = sent; returned = returned }) }
+        transcript: &mut Transcript,
+    ) -> Result<(), NoMemory>
+        ensures ok { OnOk result (self.new ≡ record self.old { up = queued self.old.up sent; taken = or_before (payload_in input) self.old.taken; sent = or_before sent self.old.sent }) }
+        ensures joins { OnOk result (Joins (record { client = self.old.client.id; input = input; sent = sent; returned = returned }) transcript.old transcript.new) }
+        ensures err { OnErr result (self.new ≡ self.old) }
+        ensures stays { OnErr result (Stays transcript.old transcript.new) }
     {
+        let taken = payload_copy(alloc, &input)?;
+        let last = copied(alloc, &sent)?;
+        let told = copied(alloc, &sent)?;
+        let sends = sent.is_some();
+        self.send(sent)?;
         let client = self.client.id();
-        let sent = join(alloc, &mut self.up, sent)?;
-        Ok(TraceStep {
+        let step = TraceStep {
             client,
             input,
-            sent,
+            sent: told,
             returned,
-        })
+        };
+        match transcript.push(step) {
+            Ok(()) => {
+                self.taken = latest(taken, self.taken.take());
+                self.sent = latest(last, self.sent.take());
+                Ok(())
+            }
+            Err(NoMemory) => {
+                if sends {
+                    self.up.withdraw();
+                }
+                Err(NoMemory)
+            }
+        }
     }
 
-    /// The client calls an operation.
-    pub fn call(&mut self, alloc: Global, op: &Op) -> Result<TraceStep, NoMemory>
-        requires idle { IsTrue (is_idle self.old.client) }
-        requires ready { IsReady self.old }
-        requires fits { Fits op.now }
-        ensures { (g : Group) (i : ℕ) (s : Standing) → MemberStands g self.old i s → IfOk result (λ x. Acts g i s (input.Call op.now) self.old self.new x) }
-    {
-        let sent = self.client.invoke(alloc, op)?;
-        let input = Input::Call(op.copy(alloc)?);
-        self.stepped(alloc, input, Some(sent), None)
-    }
-
-    /// The client polls.
-    pub fn poll(&mut self, alloc: Global) -> Result<TraceStep, NoMemory>
-        requires { IsTrue (is_idle self.old.client) }
-        ensures { (g : Group) (i : ℕ) (s : Standing) → MemberStands g self.old i s → IfOk result (λ x. Acts g i s input.Poll self.old self.new x) }
-    {
-        let sent = self.client.poll(alloc)?;
-        self.stepped(alloc, Input::Poll, Some(sent), None)
-    }
-
-    /// The client syncs.
-    pub fn sync(&mut self, alloc: Global) -> Result<TraceStep, NoMemory>
-        requires { IsTrue (is_idle self.old.client) }
-        ensures { (g : Group) (i : ℕ) (s : Standing) → MemberStands g self.old i s → IfOk result (λ x. Acts g i s input.Sync self.old self.new x) }
-    {
-        let sent = self.client.sync(alloc)?;
-        self.stepped(alloc, Input::Sync, Some(sent), None)
-    }
-
-    /// The client takes a payload.
-    pub fn take(&mut self, alloc: Global, payload: Bytes) -> Result<TraceStep, NoMemory>
-        ensures { (g : Group) (i : ℕ) (s : Standing) → MemberStands g self.old i s → IfOk result (λ x. Acts g i s (input.Payload payload) self.old self.new x) }
-    {
-        let step = self.client.take(alloc, payload.as_slice())?;
-        self.stepped(alloc, Input::Payload(payload), step.send, step.returned)
-    }
-
-    /// The client calls, polls or syncs; or it takes a payload.
-    pub fn ask(&mut self, alloc: Global, input: Input) -> Result<TraceStep, NoMemory>
-        requires idle { IsTrue (is_idle self.old.client) }
-        requires can { CanAsk self.old input }
-        ensures { (g : Group) (i : ℕ) (s : Standing) → MemberStands g self.old i s → IfOk result (λ x. Acts g i s input self.old self.new x) }
+    // A step that is planned for what the client is asked.
+    fn plan(&self, alloc: Global, input: &Input) -> Result<Pending, NoMemory>
+        requires idle { IsTrue (is_idle self.now.client) }
+        requires can { CanAsk self.now input.now }
+        ensures { IfOk result (λ p. IsPendingOf self.now.client p self.now.client input.now) }
     {
         match input {
-            Input::Call(op) => self.call(alloc, &op),
-            Input::Poll => self.poll(alloc),
-            Input::Sync => self.sync(alloc),
-            Input::Payload(payload) => self.take(alloc, payload),
+            Input::Call(op) => self.client.plan_call(alloc, op),
+            Input::Poll => self.client.plan_poll(alloc),
+            _ => self.client.plan_sync(alloc),
+        }
+    }
+
+    /// The client calls, polls or syncs. Where memory runs out, nothing has changed.
+    pub fn ask(
+        &mut self,
+        alloc: Global,
+        input: Input,
+        transcript: &mut Transcript,
+    ) -> Result<(), NoMemory>
+        requires idle { IsTrue (is_idle self.old.client) }
+        requires can { CanAsk self.old input }
+        ensures acts { (g : Group) (h : List AStep) (i : ℕ) → MemberStands g h self.old i → OnOk result (Acts g h i input self.old self.new) }
+        ensures joins { (g : Group) (h : List AStep) (i : ℕ) → MemberStands g h self.old i → OnOk result (Joins (step_at g h i input) transcript.old transcript.new) }
+        ensures err { OnErr result (self.new ≡ self.old) }
+        ensures stays { OnErr result (Stays transcript.old transcript.new) }
+    {
+        let mut pending = self.plan(alloc, &input)?;
+        let sent = pending.step.send.take();
+        let returned = pending.step.returned.take();
+        self.make(alloc, input, sent, returned, transcript)?;
+        self.client.keep(pending);
+        Ok(())
+    }
+
+    // What is printed of a client that takes a payload is appended, and its step is made.
+    fn tell(
+        &mut self,
+        alloc: Global,
+        payload: Bytes,
+        sent: Option<Bytes>,
+        returned: Option<Outcome>,
+        transcript: &mut Transcript,
+        out: &mut Bytes,
+    ) -> Result<(), NoMemory>
+        ensures ok { OnOk result (self.new ≡ record self.old { up = queued self.old.up sent; taken = Some payload; sent = or_before sent self.old.sent }) }
+        ensures joins { OnOk result (Joins (record { client = self.old.client.id; input = input.Payload payload; sent = sent; returned = returned }) transcript.old transcript.new) }
+        ensures out { OnOk result (out.new ≡ out.old ++ said self.old.client.id returned) }
+        ensures err { OnErr result (self.new ≡ self.old) }
+        ensures stays { OnErr result (Stays transcript.old transcript.new) }
+    {
+        put_said(out, alloc, self.client.id(), &returned)?;
+        self.make(alloc, Input::Payload(payload), sent, returned, transcript)
+    }
+
+    /// The client takes a payload, and what is printed of that is appended. Where memory runs out, nothing has changed but the text.
+    pub fn take(
+        &mut self,
+        alloc: Global,
+        payload: Bytes,
+        transcript: &mut Transcript,
+        out: &mut Bytes,
+    ) -> Result<(), NoMemory>
+        ensures acts { (g : Group) (h : List AStep) (i : ℕ) → MemberStands g h self.old i → OnOk result (Acts g h i (input.Payload payload) self.old self.new) }
+        ensures joins { (g : Group) (h : List AStep) (i : ℕ) → MemberStands g h self.old i → OnOk result (Joins (step_at g h i (input.Payload payload)) transcript.old transcript.new) }
+        ensures out { (g : Group) (h : List AStep) (i : ℕ) → MemberStands g h self.old i → OnOk result (out.new ≡ out.old ++ said i (step_at g h i (input.Payload payload)).returned) }
+        ensures err { OnErr result (self.new ≡ self.old) }
+        ensures stays { OnErr result (Stays transcript.old transcript.new) }
+    {
+        payload.are_bytes();
+        let mut pending = self.client.hear(alloc, payload.as_slice())?;
+        let sent = pending.step.send.take();
+        let returned = pending.step.returned.take();
+        match self.tell(alloc, payload, sent, returned, transcript, out) {
+            Ok(()) => {
+                self.client.keep(pending);
+                Ok(())
+            }
+            Err(NoMemory) => {
+                self.client.forget(pending);
+                Err(NoMemory)
+            }
         }
     }
 
@@ -130,36 +225,95 @@ impl Member {
         }
     }
 
-    /// The client takes its oldest answer, if one waits.
-    pub fn take_oldest(&mut self, alloc: Global) -> Result<Option<TraceStep>, NoMemory>
-        ensures { (g : Group) (i : ℕ) (s : Standing) → MemberStands g self.old i s → IfOk result (λ x. Takes g i s self.old.down self.old self.new x) }
+    /// A copy of the client's oldest answer, if one waits.
+    pub fn answer(&self, alloc: Global) -> Result<Option<Bytes>, NoMemory>
+        ensures { IfOk result (λ made. MatchOption made (self.now.down ≡ []) (λ payload. self.now.down ≡ payload ∷ drop 1 self.now.down)) }
     {
-        match self.down.take() {
+        match self.down.oldest() {
             None => Ok(None),
-            Some(payload) => {
-                let step = self.take(alloc, payload)?;
-                Ok(Some(step))
+            Some(payload) => Ok(Some(payload.copy(alloc)?)),
+        }
+    }
+
+    /// A copy of the client's oldest answer with the lowest bit of one byte changed, if it has a byte of this number, counted from 0.
+    pub fn flipped_answer(&self, alloc: Global, number: u32) -> Result<Option<Bytes>, NoMemory>
+        ensures { IfOk result (λ made. (is_some made ≡ nat_lt number (length (oldest self.now.down))) × IfSome made (λ payload. payload ≡ flipped number (oldest self.now.down))) }
+    {
+        let Some(payload) = self.down.oldest() else {
+            return Ok(None);
+        };
+        let place = number as usize;
+        if place >= payload.len() {
+            return Ok(None);
+        }
+        Ok(Some(flipped_copy(alloc, payload.as_slice(), place)?))
+    }
+
+    /// The client takes a payload in place of its oldest answer, which waits no more.
+    pub fn take_oldest_as(
+        &mut self,
+        alloc: Global,
+        payload: Bytes,
+        transcript: &mut Transcript,
+        out: &mut Bytes,
+    ) -> Result<(), NoMemory>
+        ensures acts { (g : Group) (h : List AStep) (i : ℕ) → MemberStands g h self.old i → OnOk result (Acts g h i (input.Payload payload) (record self.old { down = drop 1 self.old.down }) self.new) }
+        ensures joins { (g : Group) (h : List AStep) (i : ℕ) → MemberStands g h self.old i → OnOk result (Joins (step_at g h i (input.Payload payload)) transcript.old transcript.new) }
+        ensures out { (g : Group) (h : List AStep) (i : ℕ) → MemberStands g h self.old i → OnOk result (out.new ≡ out.old ++ said i (step_at g h i (input.Payload payload)).returned) }
+        ensures err { OnErr result (self.new ≡ self.old) }
+        ensures stays { OnErr result (Stays transcript.old transcript.new) }
+    {
+        self.take(alloc, payload, transcript, out)?;
+        self.down.drop_oldest();
+        Ok(())
+    }
+
+    /// The client's server serves its oldest request, if one waits and the server exists; whether it did. Where memory runs out,
+    /// nothing has changed.
+    pub fn serve_oldest<S: Serve + Drop>(
+        &mut self,
+        alloc: Global,
+        servers: &mut Servers<S>,
+        who: u8,
+    ) -> Result<bool, NoMemory>
+        ensures rests { result ≡ Ok false → ((self.old.up ≡ []) ⊎ (is_some (server_at (states S.state servers.old) self.old.server) ≡ false)) × ((self.new ≡ self.old) × (states S.state servers.new ≡ states S.state servers.old)) }
+        ensures there { result ≡ Ok true → is_some (server_at (states S.state servers.old) self.old.server) ≡ true }
+        ensures served { result ≡ Ok true → IfSome (server_at (states S.state servers.old) self.old.server) (λ v.
+            (self.old.up ≡ oldest self.old.up ∷ drop 1 self.old.up)
+            × ((self.new ≡ record self.old { up = drop 1 self.old.up; down = self.old.down ++ (S.rule v who who (oldest self.old.up)).0 ∷ [] })
+            × (states S.state servers.new ≡ set_server (states S.state servers.old) self.old.server (Some (S.rule v who who (oldest self.old.up)).1)))) }
+        ensures err { OnErr result ((self.new ≡ self.old) × (states S.state servers.new ≡ states S.state servers.old)) }
+    {
+        let Some(payload) = self.up.oldest() else {
+            return Ok(false);
+        };
+        // The answer's place is taken first, since the server can't take back what it did.
+        self.down.push(Bytes::new(alloc))?;
+        match servers.serve(alloc, self.server, who, payload.as_slice()) {
+            Ok(Some(answer)) => {
+                self.down.fill(answer);
+                self.up.drop_oldest();
+                Ok(true)
+            }
+            Ok(None) => {
+                self.down.withdraw();
+                Ok(false)
+            }
+            Err(NoMemory) => {
+                self.down.withdraw();
+                Err(NoMemory)
             }
         }
     }
 
-    /// The server serves the client's oldest request, if one waits; whether one did.
-    pub fn serve_oldest(
-        &mut self,
-        alloc: Global,
-        server: &mut Served,
-        who: u8,
-    ) -> Result<bool, NoMemory>
-        ensures { IfOk result (λ went. Serves who self.old.up self.old self.new server.old server.new went) }
+    /// The payload that the client sent last joins its requests again, if it sent one; whether it did.
+    pub fn resend(&mut self, alloc: Global) -> Result<bool, NoMemory>
+        ensures ok { IfOk result (λ went. (is_some self.old.sent ≡ went) × (self.new ≡ record self.old { up = queued self.old.up self.old.sent })) }
+        ensures err { OnErr result (self.new ≡ self.old) }
     {
-        match self.up.take() {
-            None => Ok(false),
-            Some(payload) => {
-                let answer = server.step(alloc, 0, who, payload.as_slice())?;
-                let text = encode_answer(alloc, &answer)?;
-                self.down.push(text)?;
-                Ok(true)
-            }
-        }
+        let again = copied(alloc, &self.sent)?;
+        let went = again.is_some();
+        self.send(again)?;
+        Ok(went)
     }
 }

@@ -1,7 +1,6 @@
 //! The clients with which a world opens, and the key of a script that names none.
 
 ghost use Rattle.std.specs.Prelude.{◌≡◌, ◌<◌, ◌≤◌, [], length, map, replicate, IfOk};
-ghost use Rattle.vic_rules.specs.Client.{at_start};
 ghost use Rattle.vic_group.specs.World.{MemberStands};
 ghost use Rattle.vic_group.specs.Members.{AllStand};
 
@@ -25,20 +24,24 @@ pub fn zero_key(alloc: Global) -> Result<GroupKey, NoMemory>
     }
 }
 
-// A client that has just come in.
+// A client that has just come in; server 1 serves it.
 fn entered(alloc: Global, id: u8, count: u8, mode: Mode, key: &GroupKey) -> Result<Member, NoMemory>
     requires some { 0 < id }
     requires member { id ≤ count }
     requires few { count ≤ 64 }
     ensures up { IfOk result (λ m. m.up ≡ []) }
     ensures down { IfOk result (λ m. m.down ≡ []) }
-    ensures stands { IfOk result (λ m. MemberStands (record { mode = mode; count = count; key = key.now }) m id at_start) }
+    ensures server { IfOk result (λ m. m.server ≡ 1) }
+    ensures stands { IfOk result (λ m. MemberStands (record { mode = mode; count = count; key = key.now }) [] m id) }
 {
     let own = key.copy(alloc)?;
     Ok(Member {
         client: Client::new(alloc, id, count, mode, own),
+        server: 1,
         up: Queue::new(alloc),
         down: Queue::new(alloc),
+        taken: None,
+        sent: None,
     })
 }
 
@@ -53,7 +56,8 @@ pub fn entered_all(
     ensures count { IfOk result (λ ms. length ms.items ≡ count) }
     ensures up { IfOk result (λ ms. map (λ m. m.up) ms.items ≡ replicate count []) }
     ensures down { IfOk result (λ ms. map (λ m. m.down) ms.items ≡ replicate count []) }
-    ensures clients { IfOk result (λ ms. AllStand (MemberStands (record { mode = mode; count = count; key = key.now })) (record { mode = mode; count = count; key = key.now }) [] 1 ms.items) }
+    ensures server { IfOk result (λ ms. map (λ m. m.server) ms.items ≡ replicate count 1) }
+    ensures clients { IfOk result (λ ms. AllStand (MemberStands (record { mode = mode; count = count; key = key.now }) []) 1 ms.items) }
 {
     let mut made = Vec::new(alloc);
     for i in 0..count {

@@ -1,28 +1,42 @@
 //! Running a script.
 
-ghost use Rattle.std.specs.Prelude.{◌≡◌, ◌<◌, ◌≤◌, ◌+◌, ◌++◌, ◌^◌, IfOk, is_some, length, take, true, Some, None};
+ghost use Rattle.std.specs.Prelude.{◌≡◌, ◌<◌, ◌≤◌, ◌+◌, ◌++◌, ◌^◌, IfOk, length, take, Some, None};
 ghost use Rattle.vic_dict.specs.declared.op.Mode.TheVariants as mode;
+ghost use Rattle.vic_script.specs.declared.line.Line.{Line};
 ghost use Rattle.vic_script.specs.Lines.{line_of, lines_of};
-ghost use Rattle.vic_script.specs.Scenes.{bad_kind, done_line};
-ghost use Rattle.vic_script.specs.Run.{bad_line_of, limit, run_of, try_line, tried_by, play as play_by};
+ghost use Rattle.vic_order.specs.Serving.{by_rule};
+ghost use Rattle.vic_script.specs.Scenes.{opening, bad_kind, done_line};
+ghost use Rattle.vic_script.specs.Run.{limit, plain_group, run_of, try_line, tried_by, play as play_by};
 ghost use Rattle.vic_script.specs.Print.{print_of_script, kind_text as kind_text_by, bad_line};
-ghost use Rattle.vic_runs.specs.Claims.{FitsLine};
 ghost use Rattle.vic_runs.specs.Reached.{IsReached};
-ghost use Rattle.vic_group.specs.World.{AllReady};
-ghost use Rattle.vic_group.specs.Playing.{scene_of, Shows, Opens, Tries, tried_at, Follows, Prints};
+ghost use Rattle.vic_group.specs.World.{MayDo, ShowsScene};
+ghost use Rattle.vic_group.specs.Playing.{state, scene_of, Shows, Opens, Tries, tried_at, Follows, Prints, ended_by, end_of};
 
+use crate::opening::zero_key;
 use crate::place::{first_line, place_behind};
 use crate::world::{World, WorldFault};
 use std::alloc::Global;
 use vic_dict::{Bytes, Mode, NoMemory};
 use vic_ports::LIMIT;
+use vic_server::Served;
 use vic_text::{Line, LineFault, put_number, read_line};
 
-/// What a script's run prints, and whether one of its lines is bad.
+/// How the run of a script ends.
+#[derive(Clone, Copy, Debug, PartialEq, Eq)]
+pub enum End {
+    /// Every line was done, and every tag that was taken had been made before.
+    Whole,
+    /// Every line was done, and a tag was taken that no client had made before.
+    Forged,
+    /// A line is bad.
+    Bad,
+}
+
+/// What a script's run prints, and how it ends.
 #[derive(Debug, Drop)]
 pub struct Played {
     pub text: Bytes,
-    pub bad: bool,
+    pub end: End,
 }
 
 /// A bad line: its number, from 1 on, and its kind.
@@ -34,7 +48,7 @@ pub struct BadLine {
 
 /// Runs a script. It takes time and memory for its first 16,777,217 bytes at most.
 pub fn play(alloc: Global, script: &[u8]) -> Result<Played, NoMemory>
-    ensures { IfOk result (λ p. (p.text ≡ print_of_script script.now) × (p.bad ≡ is_some (bad_line_of script.now))) }
+    ensures { IfOk result (λ p. (p.text ≡ print_of_script script.now) × (p.end ≡ end_of (run_of script.now))) }
 {
     play_known(alloc, known_of(script))
 }
@@ -68,12 +82,23 @@ fn play_known(alloc: Global, known: &[u8]) -> Result<Played, NoMemory>
     }
 }
 
+/// A world of so many clients, all come in, with the key of a script that names none and one honest server.
+fn opened(alloc: Global, count: u8) -> Result<World<Served>, NoMemory>
+    requires some { 0 < count }
+    requires few { count ≤ 64 }
+    ensures { IfOk result (λ w. ShowsScene state w (opening (plain_group count))) }
+{
+    let key = zero_key(alloc)?;
+    let server = Served::gathered(alloc, Mode::Plain, count)?;
+    World::new(alloc, count, Mode::Plain, key, server)
+}
+
 /// The world that the first line opens, if it opens one.
-fn opened_by(alloc: Global, text: &[u8]) -> Result<Option<World>, NoMemory>
+fn opened_by(alloc: Global, text: &[u8]) -> Result<Option<World<Served>>, NoMemory>
     ensures { IfOk result (λ w. Opens (try_line None (line_of None text.now)) w) }
 {
     match read_line(alloc, text, None) {
-        Ok(Line::Clients(count)) => Ok(Some(World::opened(alloc, count)?)),
+        Ok(Line::Clients(count)) => Ok(Some(opened(alloc, count)?)),
         Ok(_) | Err(LineFault::Grammar) => Ok(None),
         Err(LineFault::NoMemory) => Err(NoMemory),
     }
@@ -82,7 +107,7 @@ fn opened_by(alloc: Global, text: &[u8]) -> Result<Option<World>, NoMemory>
 /// Does the lines behind the first one, and answers the print.
 fn play_on(
     alloc: Global,
-    opened: World,
+    opened: World<Served>,
     total: usize,
     place: usize,
     lines: &[u8],
@@ -112,17 +137,24 @@ fn play_on(
         }
     }
     let views = world.views(alloc)?;
-    out.append(views.as_slice())?;
+    out.append(views.text.as_slice())?;
     Ok(Played {
         text: out,
-        bad: false,
+        end: whole_end(views.forged),
     })
+}
+
+/// How a run ends whose every line was done.
+fn whole_end(forged: bool) -> End
+    ensures { result ≡ ended_by None forged }
+{
+    if forged { End::Forged } else { End::Whole }
 }
 
 /// Does the line of a number, which ends so far in the script; where it is bad, it answers how.
 fn do_line(
     alloc: Global,
-    world: &mut World,
+    world: &mut World<Served>,
     number: u32,
     behind: usize,
     text: &[u8],
@@ -145,12 +177,12 @@ fn do_line(
 /// Does the line that a text spells, and answers the kind by which it is bad.
 fn try_text(
     alloc: Global,
-    world: &mut World,
+    world: &mut World<Served>,
     text: &[u8],
     out: &mut Bytes,
 ) -> Result<Option<u8>, NoMemory>
     requires shows { Shows world.old }
-    requires ready { AllReady world.old }
+    requires may { (l : Line) → line_of (Some mode.Plain) text.now ≡ Some l → MayDo world.old l }
     ensures { IfOk result (λ bad. Tries (try_line (Some (scene_of world.old)) (line_of (Some mode.Plain) text.now)) world.new out.old out.new bad) }
 {
     match read_line(alloc, text, Some(Mode::Plain)) {
@@ -162,14 +194,13 @@ fn try_text(
 
 fn try_line_on(
     alloc: Global,
-    world: &mut World,
+    world: &mut World<Served>,
     line: &Line,
     out: &mut Bytes,
 ) -> Result<Option<u8>, NoMemory>
     requires shows { Shows world.old }
-    requires ready { AllReady world.old }
-    requires fits { FitsLine line.now }
-    ensures { IfOk result (λ bad. Tries (tried_by (bad_kind (scene_of world.old) line.now) (done_line (scene_of world.old) line.now)) world.new out.old out.new bad) }
+    requires may { MayDo world.old line.now }
+    ensures { IfOk result (λ bad. Tries (tried_by (bad_kind (scene_of world.old) line.now) (done_line by_rule (scene_of world.old) line.now)) world.new out.old out.new bad) }
 {
     match world.apply(alloc, line) {
         Ok(text) => {
@@ -183,7 +214,7 @@ fn try_line_on(
 
 /// What was printed, and then the bad line.
 fn stopped(alloc: Global, out: Bytes, bad: BadLine) -> Result<Played, NoMemory>
-    ensures { IfOk result (λ p. (p.text ≡ out ++ bad_line (record { number = bad.number; kind = bad.kind })) × (p.bad ≡ true)) }
+    ensures { IfOk result (λ p. (p.text ≡ out ++ bad_line (record { number = bad.number; kind = bad.kind })) × (p.end ≡ End.Bad)) }
 {
     let mut text = out;
     text.append(b"line ")?;
@@ -191,7 +222,10 @@ fn stopped(alloc: Global, out: Bytes, bad: BadLine) -> Result<Played, NoMemory>
     text.append(b": ")?;
     text.append(kind_text(bad.kind))?;
     text.append(b"\n")?;
-    Ok(Played { text, bad: true })
+    Ok(Played {
+        text,
+        end: End::Bad,
+    })
 }
 
 fn kind_text(kind: u8) -> &'static [u8]

@@ -1,6 +1,6 @@
 //! Payloads that wait, the oldest first.
 
-ghost use Rattle.std.specs.Prelude.{◌≡◌, ◌↔◌, [], ◌∷◌, ◌++◌, length, MatchOption, IsTrue, OnOk, OnErr};
+ghost use Rattle.std.specs.Prelude.{◌≡◌, ◌<◌, ◌-◌, [], ◌∷◌, ◌++◌, length, take, drop, MatchOption, OnOk, OnErr};
 
 use std::alloc::Global;
 use std::collections::VecDeque;
@@ -31,10 +31,18 @@ impl Queue {
         }
     }
 
-    pub fn is_empty(&self) -> bool
-        ensures { IsTrue result ↔ (self.now ≡ []) }
+    /// The oldest payload.
+    pub fn oldest(&self) -> Option<&Bytes>
+        ensures { MatchOption result (self.now ≡ []) (λ payload. self.now ≡ payload.now ∷ drop 1 self.now) }
     {
-        self.items.is_empty()
+        self.items.front()
+    }
+
+    /// Takes the oldest payload away, if one waits.
+    pub fn drop_oldest(&mut self)
+        ensures { self.new ≡ drop 1 self.old }
+    {
+        let _oldest = self.items.pop_front();
     }
 
     /// Puts a payload last.
@@ -46,10 +54,19 @@ impl Queue {
         Ok(())
     }
 
-    /// Takes the oldest payload.
-    pub fn take(&mut self) -> Option<Bytes>
-        ensures { MatchOption result ((self.old ≡ []) × (self.new ≡ [])) (λ payload. self.old ≡ payload ∷ self.new) }
+    /// Takes the newest payload away again.
+    pub fn withdraw(&mut self)
+        ensures { self.new ≡ take (length self.old - 1) self.old }
     {
-        self.items.pop_front()
+        let _newest = self.items.pop_back();
+    }
+
+    /// Puts a payload in the place of the newest; it takes no memory.
+    pub fn fill(&mut self, payload: Bytes)
+        requires { 0 < length self.old }
+        ensures { self.new ≡ take (length self.old - 1) self.old ++ payload ∷ [] }
+    {
+        let _newest = self.items.pop_back();
+        self.items.push_back_reserved(payload);
     }
 }

@@ -4,16 +4,20 @@ ghost use Rattle.std.specs.Prelude.{◌≡◌, ◌++◌, OnOk};
 ghost use Rattle.vic_script.specs.Scenes.{said};
 
 use std::alloc::Global;
-use vic_dict::{Bytes, NoMemory};
+use vic_dict::{Bytes, NoMemory, Outcome};
 use vic_text::{put_number, put_outcome};
-use vic_view::TraceStep;
 
 /// Appends a client's outcome, or that it took an answer.
-pub fn put_said(out: &mut Bytes, alloc: Global, who: u8, step: &TraceStep) -> Result<(), NoMemory>
-    ensures { OnOk result (out.new ≡ out.old ++ said who step.now.returned) }
+pub fn put_said(
+    out: &mut Bytes,
+    alloc: Global,
+    who: u8,
+    returned: &Option<Outcome>,
+) -> Result<(), NoMemory>
+    ensures { OnOk result (out.new ≡ out.old ++ said who returned.now) }
 {
     put_number(out, alloc, who as u32)?;
-    match &step.returned {
+    match returned {
         None => out.append(b" took")?,
         Some(outcome) => {
             out.append(b" ")?;

@@ -1,5 +1,6 @@
 //! Rows of the command on a script, over a source and a sink in memory. What each prints was worked out by hand from the rules.
 
+use crate::opening::zero_key;
 use crate::{run_group, run_in_memory};
 use std::alloc::Global;
 use std::test::Fail;
@@ -9,7 +10,7 @@ use vic_ports::{Calls, MemorySink, MemorySource, NeverFails};
 /// A script and what it prints, each with ` / ` between its lines, and the status.
 type Row = (&'static str, &'static str, u8);
 
-const ROWS: [Row; 16] = [
+const ROWS: [Row; 39] = [
     // A put and a get by one client, which memory suffices for.
     (
         "clients 1 / call 1 put a x / run 1 / call 1 get a / run 1",
@@ -65,6 +66,107 @@ const ROWS: [Row; 16] = [
         "clients 2 / call 2 put b z / serve 2 / call 1 put a x / run 1 / take 2 / run 2 / poll 1 / run 1",
         "1 done stored / 1 took / 2 done stored / 2 took / 2 took / 1 took / 1 took / view 1 / 2.1 put b z = done stored / 1.1 put a x = done stored / view 2 / 2.1 put b z = done stored / agree 1 2 1 / tags made",
         0,
+    ),
+    // A server that forgets a seal which its client has learned of.
+    (
+        "clients 1 / call 1 put a x / run 1 / call 1 put a y / serve 1 / take 1 / serve 1 / copy 1 2 / take 1 / serve 1 / take 1 / move 1 2 / call 1 get a / run 1",
+        "1 done stored / 1 took / 1 took / 1 done stored / 1 took / 1 took / 1 halted 4 / view 1 / 1.1 put a x = done stored / 1.2 put a y = done stored / tags made",
+        0,
+    ),
+    // A server that forgets an entry which its client has learned of.
+    (
+        "clients 1 / call 1 put a x / run 1 / copy 1 2 / call 1 put a y / run 1 / move 1 2 / call 1 get a / run 1",
+        "1 done stored / 1 took / 1 took / 1 done stored / 1 took / 1 took / 1 refused 5 / view 1 / 1.1 put a x = done stored / 1.2 put a y = done stored / tags made",
+        0,
+    ),
+    // An answer that comes a second time, and a call after the halt that it leads to.
+    (
+        "clients 1 / call 1 put a x / serve 1 / take 1 / again 1",
+        "1 done stored / 1 halted 1 / view 1 / 1.1 put a x = done stored / tags made",
+        0,
+    ),
+    (
+        "clients 1 / call 1 put a x / serve 1 / take 1 / again 1 / call 1 get a",
+        "1 done stored / 1 halted 1 / line 6: client has halted",
+        5,
+    ),
+    // An answer with another first byte of its first entry's tag.
+    (
+        "clients 2 / call 2 put b z / serve 2 / call 1 put a x / serve 1 / flip 1 17",
+        "1 halted 3 / view 1 / view 2 / agree 1 2 0 / tags made",
+        0,
+    ),
+    // The answer has 54 bytes: behind its last one there is none to change.
+    (
+        "clients 1 / call 1 put a x / serve 1 / flip 1 54",
+        "line 4: nothing waiting",
+        5,
+    ),
+    (
+        "clients 1 / call 1 put a x / serve 1 / flip 1 53",
+        "1 halted 1 / view 1 / tags made",
+        0,
+    ),
+    // A server and its copy go separate ways.
+    (
+        "clients 2 / copy 1 2 / move 2 2 / call 1 put a x / run 1 / call 2 get a / run 2",
+        "1 done stored / 1 took / 1 took / 2 done none / 2 took / 2 took / view 1 / 1.1 put a x = done stored / view 2 / 2.1 get a = done none / agree 1 2 0 / tags made",
+        0,
+    ),
+    // The same, where a copy takes the place of a copy: server 2 is what server 1 was at line 5.
+    (
+        "clients 2 / copy 1 2 / call 1 put a x / run 1 / copy 1 2 / move 2 2 / call 2 get a / run 2 / call 1 get a / run 1",
+        "1 done stored / 1 took / 1 took / 2 done value x / 2 took / 2 took / 1 done value x / 1 took / 1 took / view 1 / 1.1 put a x = done stored / 1.2 get a = done value x / view 2 / 1.1 put a x = done stored / 2.1 get a = done value x / agree 1 2 1 / tags made",
+        0,
+    ),
+    // An entry of the one branch that the other has too.
+    (
+        "clients 2 / copy 1 2 / move 2 2 / call 2 put b y / run 2 / call 1 put a x / resend 1 / serve 1 / move 1 2 / serve 1 / move 1 1 / take 1 / call 2 put a z / run 2",
+        "2 done stored / 2 took / 2 took / 1 done stored / 2 aborted 2 / 2 took / view 1 / 1.1 put a x = done stored / view 2 / 2.1 put b y = done stored / 2.2 put a z = aborted 2 / agree 1 2 0 / tags made",
+        0,
+    ),
+    // A client that is moved from the one branch to the other.
+    (
+        "clients 2 / copy 1 2 / move 2 2 / call 1 put a x / run 1 / call 2 put b y / run 2 / move 2 1 / call 2 get a / run 2",
+        "1 done stored / 1 took / 1 took / 2 done stored / 2 took / 2 took / 2 halted 5 / view 1 / 1.1 put a x = done stored / view 2 / 2.1 put b y = done stored / agree 1 2 0 / tags made",
+        0,
+    ),
+    // Tampering that cannot be.
+    ("clients 1 / again 1", "line 2: nothing waiting", 5),
+    ("clients 1 / resend 1", "line 2: nothing waiting", 5),
+    ("clients 1 / move 1 2", "line 2: no such server", 5),
+    ("clients 1 / copy 2 3", "line 2: no such server", 5),
+    (
+        "clients 1 / copy 1 5",
+        "line 2: not a line of this script",
+        5,
+    ),
+    ("clients 1 / move 2 1", "line 2: no such client", 5),
+    // Two tests fail at once: the first one's kind is told.
+    ("clients 1 / move 9 9", "line 2: no such client", 5),
+    (
+        "clients 1 / copy 9 5",
+        "line 2: not a line of this script",
+        5,
+    ),
+    ("clients 1 / copy 9 1", "line 2: no such server", 5),
+    // A halted client takes what comes, and says each time why it halted.
+    (
+        "clients 1 / call 1 put a x / serve 1 / give 1 % / take 1 / again 1",
+        "1 halted 1 / 1 halted 1 / 1 halted 1 / view 1 / tags made",
+        0,
+    ),
+    // A server copied onto itself; answers that wait while no request does.
+    (
+        "clients 1 / copy 1 1 / call 1 put a x / serve 1 / run 1 / take 1 / serve 1 / copy 1 1 / take 1",
+        "1 done stored / 1 took / view 1 / 1.1 put a x = done stored / tags made",
+        0,
+    ),
+    // Bytes that are no answer.
+    (
+        "clients 1 / give 1 %ff / call 1 get a",
+        "1 halted 1 / line 3: client has halted",
+        5,
     ),
     // Bad lines, one of them behind a line that prints.
     ("", "line 1: not a line of this script", 5),
@@ -298,5 +400,42 @@ fn far_behind(rt: HostRuntime) -> Result<(), Fail> {
     let script = behind_script(rt.alloc())?;
     let text = behind_print(rt.alloc())?;
     assert!(rt; prints(rt.alloc(), "group", script, text.as_slice(), 0)?);
+    Ok(())
+}
+
+/// The bytes of a tag in hexadecimal digits, as they stand in a script.
+fn append_digits(out: &mut Bytes, bytes: &[u8]) -> Result<(), NoMemory> {
+    let digits = b"0123456789abcdef";
+    for byte in bytes.iter() {
+        out.push(digits[(*byte >> 4) as usize])?;
+        out.push(digits[(*byte & 15) as usize])?;
+    }
+    Ok(())
+}
+
+/// Client 1 takes its call's answer, behind an entry that nobody made, with the tags that the key gives.
+fn forged_script(alloc: Global) -> Result<Bytes, NoMemory> {
+    let key = zero_key(alloc)?;
+    let other = key.tag(&[0x11, 2, 0, 0, 0, 1, 1, 1, b'b', 1, b'z']);
+    let own = key.tag(&[0x11, 1, 0, 0, 0, 1, 1, 1, b'a', 1, b'x']);
+    let mut script = Bytes::of(
+        alloc,
+        b"clients 2\ncall 1 put a x\ngive 1 %420000000000020200000001010162017a",
+    )?;
+    append_digits(&mut script, &other.bytes)?;
+    script.append(b"01000000010101610178")?;
+    append_digits(&mut script, &own.bytes)?;
+    script.append(b"0000000000\n")?;
+    Ok(script)
+}
+
+#[test]
+fn forged_tag(rt: HostRuntime) -> Result<(), Fail> {
+    let script = forged_script(rt.alloc())?;
+    let text = lines_of(
+        rt.alloc(),
+        "1 done stored / view 1 / 1.1 put a x = done stored / view 2 / agree 1 2 0 / tags not made",
+    )?;
+    assert!(rt; prints(rt.alloc(), "group", script, text.as_slice(), 1)?);
     Ok(())
 }

@@ -1,26 +1,32 @@
-//! A world of clients and one server, in which a script's lines happen.
+//! A world of clients and servers, in which a script's lines happen.
 
-ghost use Rattle.std.specs.Prelude.{◌≡◌, ◌≢◌, ◌<◌, ◌≤◌, ◌+◌, ◌++◌, ◌&&◌, ℕ, true, false, nat_lt, nat_le, [], length, OnOk, IfOk, Some, None, MatchOption};
-ghost use Rattle.std.specs.List.{AllByRecursion};
-ghost use Rattle.vic_rules.specs.Client.{first_failing};
+ghost use Rattle.std.specs.Prelude.{◌≡◌, ◌≢◌, ◌<◌, ◌≤◌, ◌+◌, ◌++◌, ◌&&◌, ℕ, true, false, nat_lt, nat_le, [], ◌∷◌, length, OnOk, OnErr, IfOk, Ok, Err, Some, None, MatchOption, IsTrue, is_some, slice_get, ◌-◌};
+ghost use Rattle.vic_order.specs.Serving.{AnswersAs};
+ghost use Rattle.vic_rules.specs.declared.trace.Input.TheVariants as input;
 ghost use Rattle.vic_rules.specs.History.{IsLawful};
-ghost use Rattle.vic_order.specs.Order.{fresh_server, ready};
-ghost use Rattle.vic_runs.specs.Claims.{FitsLine};
-ghost use Rattle.vic_runs.specs.Reached.{IsReached, IsHonestScene};
-ghost use Rattle.vic_script.specs.Scenes.{Scene, opening, done_line, bad_kind, asked_tests, quietly, steps, serves, turns, waits_in};
-ghost use Rattle.vic_script.specs.Run.{plain_group};
-ghost use Rattle.vic_script.specs.Print.{end_text};
+ghost use Rattle.vic_rules.specs.Client.{first_failing};
+ghost use Rattle.vic_dict.specs.Dictionary.{AreBytesIn, Fits};
+ghost use Rattle.vic_order.specs.Order.{fresh_server, ready, same_mode};
+ghost use Rattle.vic_group.specs.declared.member.Member.{Member as AMember};
+ghost use Rattle.vic_group.specs.World.{HasBytes};
+ghost use Rattle.vic_script.specs.declared.line.Line.TheVariants as line;
+ghost use Rattle.vic_script.specs.Lines.{is_place as place_test};
+ghost use Rattle.vic_script.specs.Scenes.{SceneOf, opening_with, done_line, bad_kind, steps, serves, turns, waits_in, has_byte, unchanged, flipped, takes_aloud, hears_aloud, asked_tests, fits_op, server_at, is_honest_line};
+ghost use Rattle.vic_script.specs.Print.{end_text, is_forged};
 
 use crate::member::Member;
-use crate::opening::{entered_all, zero_key};
-use crate::said::put_said;
+use crate::opening::entered_all;
+use crate::servers::Servers;
 use std::alloc::Global;
 use thiserror::Error;
-use vic_dict::{Bytes, Mode, NoMemory};
+use vic_dict::{Bytes, Mode, NoMemory, Op};
 use vic_script::Line;
-use vic_server::Served;
+use vic_server::Serve;
 use vic_tag::GroupKey;
-use vic_view::{Input, Transcript, print_views};
+use vic_view::{Input, Transcript, forged, print_with};
+
+/// The most turns of a run.
+const MOST_TURNS: u32 = 2100;
 
 /// Why a line was not done.
 #[derive(Clone, Copy, Debug, PartialEq, Eq, Error)]
@@ -32,54 +38,88 @@ pub enum WorldFault {
     NoMemory,
 }
 
-/// The clients of a group, each with its queues; the server; and what the clients did, step by step. A line for which there was
-/// no memory may have been done in part, and then the world is broken: no further line is done.
+/// The clients of a group, each with its queues; the servers; and what the clients did, step by step. After want of memory it is as
+/// before, but for the turns of a `run` line that were done, the last of which may have been served alone.
 #[derive(Debug, Drop)]
-pub struct World {
+pub struct World<S> {
     transcript: Transcript,
     members: Vec<Member>,
-    server: Served,
-    is_broken: bool,
+    servers: Servers<S>,
 }
 
-impl World {
-    ghost use Rattle.vic_group.specs.World.{ShowsScene, AllReady, CanAsk, Goes, TakesAloud};
+/// What is printed at the end, and whether some tag was taken that no client had made before.
+#[derive(Debug, Drop)]
+pub struct Views {
+    pub text: Bytes,
+    pub forged: bool,
+}
+
+/// Whether a server may stand in a place.
+fn is_place(place: u8) -> bool
+    ensures { result ≡ place_test place }
+{
+    0 < place && place <= 4
+}
+
+/// Whether a call is one of a group without objects, and within its lengths.
+fn is_plain_call(kind: Mode, op: &Op) -> bool
+    ensures is { result ≡ (same_mode kind Mode.Plain && fits_op op.now) }
+    ensures plain { IsTrue result → kind ≡ Mode.Plain }
+    ensures fits { IsTrue result → Fits op.now }
+{
+    match kind {
+        Mode::Plain => op.fits(),
+        Mode::Objects => false,
+    }
+}
+
+// What the type says of a line's texts. It does nothing.
+fn line_bytes(line: &Line)
+    ensures { HasBytes line.now }
+{
+    if let Line::Call(_, op) = line {
+        are_bytes_in(op);
+    }
+}
+
+// What the type says of an operation's texts. It does nothing.
+fn are_bytes_in(op: &Op)
+    ensures { AreBytesIn op.now }
+{
+    match op {
+        Op::Put(key, value) => {
+            key.are_bytes();
+            value.are_bytes();
+        }
+        Op::Get(text) | Op::Del(text) | Op::List(text) => text.are_bytes(),
+    }
+}
+
+impl<S: Serve + Drop> World<S> {
+    ghost use Rattle.vic_group.specs.World.{ShowsScene, MayDo, CanAsk, Does, IsLeft, IsLeftOf, TakesAloud, StandsHonestly};
     ghost use Rattle.vic_view.specs.Transcripts.{history_of, group_of};
 
-    /// A world of so many clients, all come in, served by this server. Where that has all clients Ready and no entries, the world
-    /// shows the opening of its group.
+    /// A world of so many clients, all come in, which this server serves.
     pub fn new(
         alloc: Global,
         count: u8,
         mode: Mode,
         key: GroupKey,
-        server: Served,
-    ) -> Result<World, NoMemory>
+        server: S,
+    ) -> Result<World<S>, NoMemory>
         requires some { 0 < count }
         requires few { count ≤ 64 }
-        ensures group { IfOk result (λ w. group_of w.transcript ≡ record { mode = mode; count = count; key = key }) }
-        ensures whole { IfOk result (λ w. w.is_broken ≡ false) }
-        ensures shows { server ≡ fresh_server mode count ready → IfOk result (λ w. ShowsScene w (opening (record { mode = mode; count = count; key = key }))) }
+        ensures shows { IfOk result (λ w. ShowsScene S.state w (opening_with (record { mode = mode; count = count; key = key }) (S.state server))) }
+        // Where the server answers as one that follows the rule and has them all ready, they are clients with one honest server.
+        ensures honest { mode ≡ Mode.Plain → AnswersAs S.rule (S.state server) (fresh_server mode count ready) → IfOk result (λ w. StandsHonestly S.state S.rule w 0) }
     {
+        let _length = key.len();
         let members = entered_all(alloc, count, mode, &key)?;
         Ok(World {
             transcript: Transcript::new(alloc, mode, count, key),
             members,
-            server,
-            is_broken: false,
+            servers: Servers::new(server),
         })
-    }
-
-    /// A world of so many clients, all come in, with the key of a script that names none and an honest server.
-    pub fn opened(alloc: Global, count: u8) -> Result<World, NoMemory>
-        requires some { 0 < count }
-        requires few { count ≤ 64 }
-        ensures shows { IfOk result (λ w. ShowsScene w (opening (plain_group count))) }
-        ensures reached { IsReached (opening (plain_group count)) 0 }
-    {
-        let key = zero_key(alloc)?;
-        let server = Served::gathered(alloc, Mode::Plain, count)?;
-        World::new(alloc, count, Mode::Plain, key, server)
     }
 
     // The place and the number of a client, if there is such a client.
@@ -99,8 +139,10 @@ impl World {
 
     // A client calls, polls or syncs; or the kind by which that is bad.
     fn ask(&mut self, alloc: Global, who: u32, input: Input) -> Result<Option<u8>, NoMemory>
-        requires { AllByRecursion (λ m. CanAsk m input) self.old.members.items }
-        ensures { (s : Scene) → ShowsScene self.old s → IfOk result (λ bad. (first_failing (asked_tests s who) ≡ bad) × Goes s (quietly (steps s who input)) self.new [] [] bad) }
+        requires { 0 < who → (m : AMember) → slice_get self.old.members.items (who - 1) ≡ Some m → CanAsk m input }
+        ensures ok { (s : SceneOf S.State) → ShowsScene S.state self.old s → IfOk result (λ bad. (first_failing (asked_tests s who) ≡ bad)
+            × MatchOption bad (ShowsScene S.state self.new (steps s who input)) (λ kind. ShowsScene S.state self.new s)) }
+        ensures err { (s : SceneOf S.State) → ShowsScene S.state self.old s → OnErr result (ShowsScene S.state self.new s) }
     {
         let Some((place, _)) = self.place(who) else {
             return Ok(Some(2));
@@ -108,22 +150,22 @@ impl World {
         if let Some(kind) = self.members[place].refusal() {
             return Ok(Some(kind));
         }
-        let step = self.members[place].ask(alloc, input)?;
-        self.transcript.push(step)?;
+        self.members[place].ask(alloc, input, &mut self.transcript)?;
         Ok(None)
     }
 
-    // The server serves a client's oldest request; whether one waited.
+    // A client's server serves its oldest request; whether one waited.
     fn serve(&mut self, alloc: Global, place: usize, who: u8) -> Result<bool, NoMemory>
         requires place { who ≡ place + 1 }
         requires within { place < length self.old.members.items }
         ensures members { length self.new.members.items ≡ length self.old.members.items }
-        ensures shows { (s : Scene) → ShowsScene self.old s → IfOk result (λ went. (waits_in s.up who ≡ went) × ShowsScene self.new (serves s who)) }
+        ensures ok { (s : SceneOf S.State) → ShowsScene S.state self.old s → IfOk result (λ went. (waits_in s.up who ≡ went) × ShowsScene S.state self.new (serves S.rule s who)) }
+        ensures err { (s : SceneOf S.State) → ShowsScene S.state self.old s → OnErr result (ShowsScene S.state self.new s) }
     {
-        self.members[place].serve_oldest(alloc, &mut self.server, who)
+        self.members[place].serve_oldest(alloc, &mut self.servers, who)
     }
 
-    // A client takes its oldest answer, and its outcome is appended; whether one waited.
+    // A client takes its oldest answer; whether one waited.
     fn take(
         &mut self,
         alloc: Global,
@@ -134,14 +176,52 @@ impl World {
         requires place { who ≡ place + 1 }
         requires within { place < length self.old.members.items }
         ensures members { length self.new.members.items ≡ length self.old.members.items }
-        ensures shows { (s : Scene) → ShowsScene self.old s → IfOk result (λ went. (waits_in s.down who ≡ went) × TakesAloud s who self.new out.old out.new went) }
+        ensures ok { (s : SceneOf S.State) → ShowsScene S.state self.old s → IfOk result (λ went. (waits_in s.down who ≡ went) × TakesAloud S.state unchanged s who self.new out.old out.new went) }
+        ensures err { (s : SceneOf S.State) → ShowsScene S.state self.old s → OnErr result (ShowsScene S.state self.new s) }
     {
-        let Some(step) = self.members[place].take_oldest(alloc)? else {
+        let Some(payload) = self.members[place].answer(alloc)? else {
             return Ok(false);
         };
-        put_said(out, alloc, who, &step)?;
-        self.transcript.push(step)?;
+        self.members[place].take_oldest_as(alloc, payload, &mut self.transcript, out)?;
         Ok(true)
+    }
+
+    // A client takes its oldest answer with the lowest bit of one byte changed; whether one waited that has such a byte.
+    fn take_flipped(
+        &mut self,
+        alloc: Global,
+        place: usize,
+        who: u8,
+        number: u32,
+        out: &mut Bytes,
+    ) -> Result<bool, NoMemory>
+        requires place { who ≡ place + 1 }
+        requires within { place < length self.old.members.items }
+        ensures ok { (s : SceneOf S.State) → ShowsScene S.state self.old s → IfOk result (λ went. (has_byte s.down who number ≡ went) × TakesAloud S.state (flipped number) s who self.new out.old out.new went) }
+        ensures err { (s : SceneOf S.State) → ShowsScene S.state self.old s → OnErr result (ShowsScene S.state self.new s) }
+    {
+        let Some(payload) = self.members[place].flipped_answer(alloc, number)? else {
+            return Ok(false);
+        };
+        self.members[place].take_oldest_as(alloc, payload, &mut self.transcript, out)?;
+        Ok(true)
+    }
+
+    // A client takes a payload that comes from elsewhere.
+    fn hear(
+        &mut self,
+        alloc: Global,
+        place: usize,
+        who: u8,
+        payload: Bytes,
+        out: &mut Bytes,
+    ) -> Result<(), NoMemory>
+        requires place { who ≡ place + 1 }
+        requires within { place < length self.old.members.items }
+        ensures ok { (s : SceneOf S.State) → ShowsScene S.state self.old s → OnOk result ((out.new ≡ out.old ++ (hears_aloud s who (Some payload)).text) × ShowsScene S.state self.new (hears_aloud s who (Some payload)).scene) }
+        ensures err { (s : SceneOf S.State) → ShowsScene S.state self.old s → OnErr result (ShowsScene S.state self.new s) }
+    {
+        self.members[place].take(alloc, payload, &mut self.transcript, out)
     }
 
     // Serve and take in turn while requests wait, at most so many times.
@@ -155,7 +235,8 @@ impl World {
     ) -> Result<(), NoMemory>
         requires place { who ≡ place + 1 }
         requires within { place < length self.old.members.items }
-        ensures { (s : Scene) → ShowsScene self.old s → OnOk result ((out.new ≡ out.old ++ (turns left s who).text) × ShowsScene self.new (turns left s who).scene) }
+        ensures ok { (s : SceneOf S.State) → ShowsScene S.state self.old s → OnOk result ((out.new ≡ out.old ++ (turns S.rule left s who).text) × ShowsScene S.state self.new (turns S.rule left s who).scene) }
+        ensures err { (s : SceneOf S.State) → ShowsScene S.state self.old s → OnErr result (IsLeftOf S.state S.rule left s who self.new) }
     {
         if left == 0 {
             return Ok(());
@@ -167,6 +248,144 @@ impl World {
         self.run(alloc, place, who, left - 1, out)
     }
 
+    // ---- the lines
+
+    fn call_line(&mut self, alloc: Global, who: u32, op: &Op) -> Result<Option<u8>, NoMemory>
+        requires { MayDo self.old (line.Call who op.now) }
+        ensures { (s : SceneOf S.State) → ShowsScene S.state self.old s → Does S.state S.rule s (line.Call who op.now) result self.new [] [] }
+    {
+        if !is_plain_call(self.transcript.mode, op) {
+            return Ok(Some(1));
+        }
+        are_bytes_in(op);
+        let input = Input::Call(op.copy(alloc)?);
+        self.ask(alloc, who, input)
+    }
+
+    fn serve_line(&mut self, alloc: Global, who: u32) -> Result<Option<u8>, NoMemory>
+        ensures { (s : SceneOf S.State) → ShowsScene S.state self.old s → Does S.state S.rule s (line.Serve who) result self.new [] [] }
+    {
+        let Some((place, id)) = self.place(who) else {
+            return Ok(Some(2));
+        };
+        let went = self.serve(alloc, place, id)?;
+        Ok(if went { None } else { Some(5) })
+    }
+
+    fn take_line(
+        &mut self,
+        alloc: Global,
+        who: u32,
+        out: &mut Bytes,
+    ) -> Result<Option<u8>, NoMemory>
+        ensures { (s : SceneOf S.State) → ShowsScene S.state self.old s → Does S.state S.rule s (line.Take who) result self.new out.old out.new }
+    {
+        let Some((place, id)) = self.place(who) else {
+            return Ok(Some(2));
+        };
+        let went = self.take(alloc, place, id, out)?;
+        Ok(if went { None } else { Some(5) })
+    }
+
+    fn run_line(&mut self, alloc: Global, who: u32, out: &mut Bytes) -> Result<Option<u8>, NoMemory>
+        ensures { (s : SceneOf S.State) → ShowsScene S.state self.old s → Does S.state S.rule s (line.Run who) result self.new out.old out.new }
+    {
+        let Some((place, id)) = self.place(who) else {
+            return Ok(Some(2));
+        };
+        self.run(alloc, place, id, MOST_TURNS, out)?;
+        Ok(None)
+    }
+
+    fn give_line(
+        &mut self,
+        alloc: Global,
+        who: u32,
+        payload: &Bytes,
+        out: &mut Bytes,
+    ) -> Result<Option<u8>, NoMemory>
+        ensures { (s : SceneOf S.State) → ShowsScene S.state self.old s → Does S.state S.rule s (line.Give who payload.now) result self.new out.old out.new }
+    {
+        let Some((place, id)) = self.place(who) else {
+            return Ok(Some(2));
+        };
+        let payload = payload.copy(alloc)?;
+        self.hear(alloc, place, id, payload, out)?;
+        Ok(None)
+    }
+
+    fn again_line(
+        &mut self,
+        alloc: Global,
+        who: u32,
+        out: &mut Bytes,
+    ) -> Result<Option<u8>, NoMemory>
+        ensures { (s : SceneOf S.State) → ShowsScene S.state self.old s → Does S.state S.rule s (line.Again who) result self.new out.old out.new }
+    {
+        let Some((place, id)) = self.place(who) else {
+            return Ok(Some(2));
+        };
+        let Some(taken) = &self.members[place].taken else {
+            return Ok(Some(5));
+        };
+        let payload = taken.copy(alloc)?;
+        self.hear(alloc, place, id, payload, out)?;
+        Ok(None)
+    }
+
+    fn flip_line(
+        &mut self,
+        alloc: Global,
+        who: u32,
+        number: u32,
+        out: &mut Bytes,
+    ) -> Result<Option<u8>, NoMemory>
+        ensures { (s : SceneOf S.State) → ShowsScene S.state self.old s → Does S.state S.rule s (line.Flip who number) result self.new out.old out.new }
+    {
+        let Some((place, id)) = self.place(who) else {
+            return Ok(Some(2));
+        };
+        let went = self.take_flipped(alloc, place, id, number, out)?;
+        Ok(if went { None } else { Some(5) })
+    }
+
+    fn resend_line(&mut self, alloc: Global, who: u32) -> Result<Option<u8>, NoMemory>
+        ensures { (s : SceneOf S.State) → ShowsScene S.state self.old s → Does S.state S.rule s (line.Resend who) result self.new [] [] }
+    {
+        let Some((place, _)) = self.place(who) else {
+            return Ok(Some(2));
+        };
+        let went = self.members[place].resend(alloc)?;
+        Ok(if went { None } else { Some(5) })
+    }
+
+    fn copy_line(&mut self, alloc: Global, from: u32, to: u8) -> Result<Option<u8>, NoMemory>
+        ensures { (s : SceneOf S.State) → ShowsScene S.state self.old s → Does S.state S.rule s (line.Copy from to) result self.new [] [] }
+    {
+        if !is_place(to) {
+            return Ok(Some(1));
+        }
+        let Some(server) = self.servers.at(from) else {
+            return Ok(Some(6));
+        };
+        let copy = server.copy(alloc)?;
+        self.servers.set(to, copy);
+        Ok(None)
+    }
+
+    fn move_line(&mut self, who: u32, number: u32) -> Option<u8>
+        ensures { (s : SceneOf S.State) → ShowsScene S.state self.old s → Does S.state S.rule s (line.Move who number) (Ok result) self.new [] [] }
+    {
+        let Some((place, _)) = self.place(who) else {
+            return Some(2);
+        };
+        if self.servers.at(number).is_none() {
+            return Some(6);
+        }
+        self.members[place].server = number;
+        None
+    }
+
     // Does a line, and appends its text; or the kind by which it is bad, and then nothing changes.
     fn do_line(
         &mut self,
@@ -174,72 +393,44 @@ impl World {
         line: &Line,
         out: &mut Bytes,
     ) -> Result<Option<u8>, NoMemory>
-        requires fits { FitsLine line.now }
-        requires ready { AllReady self.old }
-        ensures { (s : Scene) → ShowsScene self.old s → IfOk result (λ bad. (bad_kind s line.now ≡ bad) × Goes s (done_line s line.now) self.new out.old out.new bad) }
+        requires { MayDo self.old line.now }
+        ensures { (s : SceneOf S.State) → ShowsScene S.state self.old s → Does S.state S.rule s line.now result self.new out.old out.new }
     {
         match line {
             Line::Clients(_) => Ok(Some(1)),
-            Line::Call(who, op) => {
-                let input = Input::Call(op.copy(alloc)?);
-                self.ask(alloc, *who, input)
-            }
+            Line::Call(who, op) => self.call_line(alloc, *who, op),
             Line::Poll(who) => self.ask(alloc, *who, Input::Poll),
             Line::Sync(who) => self.ask(alloc, *who, Input::Sync),
-            Line::Serve(who) => {
-                let Some((place, id)) = self.place(*who) else {
-                    return Ok(Some(2));
-                };
-                let went = self.serve(alloc, place, id)?;
-                Ok(if went { None } else { Some(5) })
-            }
-            Line::Take(who) => {
-                let Some((place, id)) = self.place(*who) else {
-                    return Ok(Some(2));
-                };
-                let went = self.take(alloc, place, id, out)?;
-                Ok(if went { None } else { Some(5) })
-            }
-            Line::Run(who) => {
-                let Some((place, id)) = self.place(*who) else {
-                    return Ok(Some(2));
-                };
-                self.run(alloc, place, id, 2100, out)?;
-                Ok(None)
-            }
+            Line::Serve(who) => self.serve_line(alloc, *who),
+            Line::Take(who) => self.take_line(alloc, *who, out),
+            Line::Run(who) => self.run_line(alloc, *who, out),
+            Line::Give(who, payload) => self.give_line(alloc, *who, payload, out),
+            Line::Again(who) => self.again_line(alloc, *who, out),
+            Line::Flip(who, number) => self.flip_line(alloc, *who, *number, out),
+            Line::Resend(who) => self.resend_line(alloc, *who),
+            Line::Copy(from, to) => self.copy_line(alloc, *from, *to),
+            Line::Move(who, number) => Ok(self.move_line(*who, *number)),
         }
     }
 
-    /// Does a line, and answers the text that it prints. Where it is bad, nothing changes. Where memory ran out, in this call or an
-    /// earlier one, it answers so.
+    /// Does a line, and answers the text that it prints. Where it is bad, nothing changes. Where memory runs out, nothing has, but
+    /// that the turns of a `run` line that were done stay done, the last of which may have been served alone. A client that a line
+    /// calls has called fewer than 4,294,967,295 times.
     pub fn apply(&mut self, alloc: Global, line: &Line) -> Result<Bytes, WorldFault>
-        requires fits { FitsLine line.now }
-        requires ready { AllReady self.old }
-        ensures breaks { result ≡ Err WorldFault.NoMemory → self.new.is_broken ≡ true }
-        ensures broken { self.old.is_broken ≡ true → result ≡ Err WorldFault.NoMemory }
-        ensures whole { result ≢ Err WorldFault.NoMemory → self.new.is_broken ≡ false }
-        ensures done { (s : Scene) → ShowsScene self.old s → IfOk result (λ text.
-            (bad_kind s line.now ≡ None) × ((text ≡ (done_line s line.now).text) × ShowsScene self.new (done_line s line.now).scene)) }
-        ensures honest { (s : Scene) (n : ℕ) → ShowsScene self.old s → IsReached s n → IfOk result (λ text. IsReached (done_line s line.now).scene (n + 1) × IsHonestScene (done_line s line.now).scene) }
-        ensures bad { (s : Scene) (k : ℕ) → ShowsScene self.old s → result ≡ Err (WorldFault.Bad k) → (bad_kind s line.now ≡ Some k) × ShowsScene self.new s }
+        requires { MayDo self.old line.now }
+        ensures done { (s : SceneOf S.State) → ShowsScene S.state self.old s → IfOk result (λ text.
+            (bad_kind s line.now ≡ None) × ((text ≡ (done_line S.rule s line.now).text) × ShowsScene S.state self.new (done_line S.rule s line.now).scene)) }
+        ensures bad { (s : SceneOf S.State) (k : ℕ) → ShowsScene S.state self.old s → result ≡ Err (WorldFault.Bad k) → (bad_kind s line.now ≡ Some k) × ShowsScene S.state self.new s }
+        ensures memory { (s : SceneOf S.State) → ShowsScene S.state self.old s → result ≡ Err WorldFault.NoMemory → IsLeft S.state S.rule s line.now self.new }
+        // Clients with one honest server are that still after an honest line, whatever it comes to.
+        ensures honest { (n : ℕ) → StandsHonestly S.state S.rule self.old n → is_honest_line line.now ≡ true → StandsHonestly S.state S.rule self.new (n + 1) }
     {
-        if self.is_broken {
-            return Err(WorldFault::NoMemory);
-        }
+        line_bytes(line);
         let mut out = Bytes::new(alloc);
         match self.do_line(alloc, line, &mut out) {
-            Ok(None) => {
-                self.is_broken = false;
-                Ok(out)
-            }
-            Ok(Some(kind)) => {
-                self.is_broken = false;
-                Err(WorldFault::Bad(kind))
-            }
-            Err(NoMemory) => {
-                self.is_broken = true;
-                Err(WorldFault::NoMemory)
-            }
+            Ok(None) => Ok(out),
+            Ok(Some(kind)) => Err(WorldFault::Bad(kind)),
+            Err(NoMemory) => Err(WorldFault::NoMemory),
         }
     }
 
@@ -250,18 +441,24 @@ impl World {
         &self.transcript
     }
 
-    /// Its server, as it stands.
-    pub fn server(&self) -> &Served
-        ensures { result.now ≡ self.now.server }
+    /// Server 1, as it stands.
+    pub fn server(&self) -> &S
+        ensures { (s : SceneOf S.State) → ShowsScene S.state self.now s → server_at s.servers 1 ≡ Some (S.state result.now) }
     {
-        &self.server
+        self.servers.first()
     }
 
     /// The views of all clients, how far each two agree, and whether every tag was made before it was taken.
-    pub fn views(&self, alloc: Global) -> Result<Bytes, NoMemory>
+    pub fn views(&self, alloc: Global) -> Result<Views, NoMemory>
         requires { IsLawful (group_of self.now.transcript) (history_of self.now.transcript) }
-        ensures { IfOk result (λ text. text ≡ end_text (group_of self.now.transcript) (history_of self.now.transcript) None) }
+        ensures text { IfOk result (λ v. v.text ≡ end_text (group_of self.now.transcript) (history_of self.now.transcript) None) }
+        ensures forged { IfOk result (λ v. v.forged ≡ is_forged (group_of self.now.transcript) (history_of self.now.transcript)) }
     {
-        print_views(alloc, &self.transcript)
+        let unmade = forged(alloc, &self.transcript)?;
+        let text = print_with(alloc, &self.transcript, unmade)?;
+        Ok(Views {
+            text,
+            forged: unmade,
+        })
     }
 }

@@ -1,10 +1,10 @@
 use Rattle.std.proofs.Common.{arith, sym}
 use Rattle.vic_group.specs.Playing.{scene_of}
-use Rattle.vic_group.proofs.Playing.{ready_of, follows_none}
+use Rattle.vic_group.proofs.Playing.{may_of, follows_none}
 use Rattle.vic_group.proofs.play.do_line.Goals as goal
 
-pub try_text-requires-clause-ready : goal.try_text-requires-clause-ready
-try_text-requires-clause-ready c = ready_of c.args.world.now c.args.number c.requires.shows c.requires.reached c.requires.few
+pub try_text-requires-clause-may : goal.try_text-requires-clause-may
+try_text-requires-clause-may c = λ l e. may_of c.args.world.now c.args.number l c.requires.shows c.requires.reached c.requires.few
 
 pub returns-in-None : goal.returns-in-None
 returns-in-None c =

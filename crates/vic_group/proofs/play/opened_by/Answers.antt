@@ -19,4 +19,4 @@ pub returns-in-Ok-Clients : goal.returns-in-Ok-Clients
 returns-in-Ok-Clients c =
     let spelled : line_of None c.args.text.now ≡ Some (line.Clients c.in-Ok-Clients.count) = cc (c.in-Ok-Clients.ensures.ok, c.in-Ok-Clients.field-0-is) in
     let fits = line_fits None c.args.text.now (line.Clients c.in-Ok-Clients.count) (λ i. omega (arith, c.type_inv.text i)) spelled in
-    opens_clients (line_of None c.args.text.now) c.in-Ok-Clients.count c.in_ok-opened-in-Ok-Clients.field-0 spelled fits.0 fits.1 c.in_ok-opened-in-Ok-Clients.ensures.shows
+    opens_clients (line_of None c.args.text.now) c.in-Ok-Clients.count c.in_ok-opened-in-Ok-Clients.field-0 spelled fits.0 fits.1 c.in_ok-opened-in-Ok-Clients.ensures

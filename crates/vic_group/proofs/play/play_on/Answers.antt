@@ -1,10 +1,9 @@
-use Rattle.std.proofs.Common.{◌≡◌, ℕ, ◌+◌, List, ◌++◌, length, Some, false, refl, sym, ap, ◌∙◌, arith}
+use Rattle.std.proofs.Common.{◌≡◌, ℕ, ◌+◌, List, ◌++◌, length, Some, None, sym, ap, ◌∙◌, arith}
 use Rattle.std.proofs.lemmas.Bool.{eqb-true}
 use Rattle.vic_script.specs.Lines.{lines_of}
 use Rattle.vic_script.specs.Scenes.{Scene}
 use Rattle.vic_script.specs.Run.{Played as Run, printed_before, play}
-use Rattle.vic_runs.proofs.Reached.{reached-lawful}
-use Rattle.vic_group.specs.Playing.{scene_of, tried_at}
+use Rattle.vic_group.specs.Playing.{scene_of, tried_at, ended_by}
 use Rattle.vic_group.proofs.Playing.{run_line, goes_on, prints_stop, prints_end, lines_none, if_ok-map}
 use Rattle.vic_group.proofs.play.play_on.Goals as goal
 
@@ -43,7 +42,7 @@ loop-rest-preserved c =
     }
 
 pub views-requires : goal.views-requires
-views-requires c = reached-lawful (scene_of c.loop-rest.world) c.loop-rest.number c.loop-rest.invariant.reached
+views-requires c = c.loop-rest.invariant.shows.lawful
 
 pub returns : goal.returns
 returns c =
@@ -52,5 +51,6 @@ returns c =
     let run : Run = play c.args.total c.args.place 2 (Some (scene_of c.args.opened)) (lines_of c.args.lines.now) in
     let none : length c.loop-rest.rest.now ≡ 0 = eqb-true _ 0 (sym c.is_empty.ensures ∙ c.loop-rest-test.false) in
     let end = c.loop-rest.invariant.run ∙ ap (λ (texts : List (List ℕ)). printed_before c.loop-rest.out (play c.args.total c.loop-rest.before n (Some s) texts)) (lines_none c.loop-rest.rest.now none) in
-    prints_end c.args.total c.loop-rest.before n run c.loop-rest.world c.loop-rest.out end (record { text = c.append.new.self; bad = false })
-    (c.in_ok-append.ensures.ok ∙ ap (λ (views : List ℕ). c.loop-rest.out ++ views) (c.as_slice.ensures ∙ c.in_ok-views.ensures)) refl
+    prints_end c.args.total c.loop-rest.before n run c.loop-rest.world c.loop-rest.out end (record { text = c.append.new.self; end = c.whole_end.result })
+    (c.in_ok-append.ensures.ok ∙ ap (λ (views : List ℕ). c.loop-rest.out ++ views) (c.as_slice.ensures ∙ c.in_ok-views.ensures.text))
+    (c.whole_end.ensures ∙ ap (ended_by None) c.in_ok-views.ensures.forged)

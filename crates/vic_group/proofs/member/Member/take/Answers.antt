@@ -1,13 +1,22 @@
-use Rattle.std.proofs.Common.{ℕ, List, refl, subst}
+use Rattle.std.proofs.Common.{List, ℕ, ap, subst, ◌∙◌}
 use Rattle.vic_rules.specs.declared.trace.Input.TheVariants as input
-use Rattle.vic_client.specs.Kept.{move_of}
-use Rattle.vic_client.specs.Shows.{Shows}
-use Rattle.vic_group.proofs.Acting.{acts_if}
+use Rattle.vic_client.specs.Kept.{Kept}
+use Rattle.vic_client.specs.Pending.{IsPendingOf, kept}
+use Rattle.vic_group.specs.declared.member.Member.{Member}
+use Rattle.vic_group.proofs.Acting.{acts}
 use Rattle.vic_group.proofs.member.Member.take.Goals as goal
 
-pub returns : goal.returns
-returns c = λ g i s at.
-    let old = c.args.self.now.client in
-    let shown = subst (λ (p : List ℕ). Shows old c.in_ok-step.step c.take.new.self (move_of old s (input.Payload p))) c.as_slice.ensures (c.in_ok-step.ensures.taken s at.stands) in
-    acts_if g i s (input.Payload c.args.payload) c.args.self.now c.stepped.new.self c.stepped.result c.take.new.self (input.Payload c.args.payload) c.in_ok-step.step.send c.in_ok-step.step.returned
-    at c.in_ok-step.ensures.same shown.send shown.returned shown.stands c.stepped.ensures.client refl c.stepped.ensures.up c.stepped.ensures.step_is c.stepped.ensures.down
+pub returns-in-Ok-clause-acts : goal.returns-in-Ok-clause-acts
+returns-in-Ok-clause-acts c = λ g h i at.
+    let old = c.args.self.now in
+    let made = c.in-Ok.ensures.ok in
+    let pends = subst (λ (p : List ℕ). IsPendingOf old.client c.in_ok-pending.pending c.hear.new.self (input.Payload p)) c.as_slice.ensures c.in_ok-pending.ensures.heard in
+    acts g h i (input.Payload c.args.payload) old _ c.in_ok-pending.pending c.hear.new.self c.take-sent.result at pends c.take-sent.ensures.value c.are_bytes.ensures
+    (record {
+      client = c.keep.ensures.client ∙ ap (λ (k : Kept). kept c.in_ok-pending.pending.effect k) (ap (λ (m : Member). m.client) made);
+      server = ap (λ (m : Member). m.server) made;
+      up = ap (λ (m : Member). m.up) made;
+      down = ap (λ (m : Member). m.down) made;
+      taken = ap (λ (m : Member). m.taken) made;
+      sent = ap (λ (m : Member). m.sent) made;
+    })

@@ -1,4 +1,4 @@
 use Rattle.vic_group.proofs.world.World.+run.Given as goal
 
 abbrev pub decreases-run : goal.decreases-run
-decreases-run l = l.left
+decreases-run g l = l.left

@@ -1,0 +1,17 @@
+use Rattle.vic_laws.proofs.Agreement.{views_show_only_calls}
+use Rattle.vic_laws.proofs.Complete.{views_complete}
+use Rattle.vic_laws.proofs.Decisions.{done_meets_no_conflict}
+use Rattle.vic_laws.proofs.Legality.{views_legal}
+use Rattle.vic_group.proofs.laws.legal.Goals as goal
+
+pub returns-clause-legal : goal.returns-clause-legal
+returns-clause-legal c = views_legal
+
+pub returns-clause-complete : goal.returns-clause-complete
+returns-clause-complete c = views_complete
+
+pub returns-clause-only_calls : goal.returns-clause-only_calls
+returns-clause-only_calls c = views_show_only_calls
+
+pub returns-clause-done : goal.returns-clause-done
+returns-clause-done c = done_meets_no_conflict

@@ -1,0 +1,26 @@
+use Rattle.std.proofs.Common.{[], ◌∷◌, refl, ◌∙◌}
+use Rattle.vic_script.specs.declared.line.Line.TheVariants as line
+use Rattle.vic_script.specs.Scenes.{waits_in}
+use Rattle.vic_group.specs.World.{states}
+use Rattle.vic_group.proofs.Asking.{is_there, not_there}
+use Rattle.vic_group.proofs.Lines.{absent, served_line, unserved_line}
+use Rattle.vic_group.proofs.world.World.serve_line.Goals as goal
+
+pub returns-in_default : goal.returns-in_default
+returns-in_default g c = λ s shows.
+    let w = c.args.self.now in
+    absent g.S.Serve.state g.S.Serve.rule s (line.Serve c.args.who) c.args.who ((5, waits_in s.up c.args.who) ∷ []) w refl (not_there w.transcript w.members.items (states g.S.Serve.state w.servers) s c.args.who shows c.in_default.ensures) shows
+
+pub returns-then-went : goal.returns-then-went
+returns-then-went g c = λ s shows.
+    let w = c.args.self.now in
+    let there = is_there w.transcript w.members.items (states g.S.Serve.state w.servers) s c.in-Some.id shows c.in-Some.place c.in-Some.ensures.1.0 c.in-Some.ensures.1.1 in
+    let served = c.in_ok-went.ensures.ok s shows in
+    served_line g.S.Serve.state g.S.Serve.rule s c.in-Some.id c.args.who c.serve.new.self c.in-Some.ensures.0 there (served.0 ∙ c.if-went.true) served.1
+
+pub returns-else-went : goal.returns-else-went
+returns-else-went g c = λ s shows.
+    let w = c.args.self.now in
+    let there = is_there w.transcript w.members.items (states g.S.Serve.state w.servers) s c.in-Some.id shows c.in-Some.place c.in-Some.ensures.1.0 c.in-Some.ensures.1.1 in
+    let served = c.in_ok-went.ensures.ok s shows in
+    unserved_line g.S.Serve.state g.S.Serve.rule s c.in-Some.id c.args.who c.serve.new.self c.in-Some.ensures.0 there (served.0 ∙ c.if-went.false) served.1

@@ -1,0 +1,32 @@
+//! What holds of every lawful history of a group, whatever the payloads hold that its clients take: the parts of the claim, each of
+//! use alone. They are laws over the definitions; the functions do nothing.
+
+ghost use Rattle.vic_laws.specs.Claims.{HashesTellPaths, SealsHold, ViewsAreLegal};
+ghost use Rattle.vic_laws.specs.OrderClaims.{CompletedOnce, DoneMeetsNoConflict, ViewsAgree, ViewsInRealTime, ViewsComplete, ViewsShowOnlyCalls};
+
+/// One hash tells one path, or two different listed texts have one hash.
+pub fn prefixes()
+    ensures { HashesTellPaths }
+{}
+
+/// Unless a tag was forged or two texts collide: each position up to a seal that a client took or made is confirmed, and the seal's
+/// root is that of the dictionary which they leave.
+pub fn seals()
+    ensures { SealsHold }
+{}
+
+/// Each view keeps real-time order unless a tag was forged, and every two views agree. A call is completed once, so it has one path.
+pub fn order()
+    ensures real_time { ViewsInRealTime }
+    ensures agree { ViewsAgree }
+    ensures once { CompletedOnce }
+{}
+
+/// Unless a tag was forged or two texts collide, each view is legal. It holds all completed calls of its client, and only calls. A call
+/// that returned done meets no conflict: it conflicts with no entry of another client above the seal of its Reply and below the call.
+pub fn legal()
+    ensures legal { ViewsAreLegal }
+    ensures done { DoneMeetsNoConflict }
+    ensures complete { ViewsComplete }
+    ensures only_calls { ViewsShowOnlyCalls }
+{}
