@@ -10,8 +10,7 @@ use Rattle.vic_script.specs.Print.{print_of, print_of_script, is_forged, all_vie
 use Rattle.vic_laws.proofs.Paths.{hashes_tell_paths}
 use Rattle.vic_laws.proofs.SealsHeld.{seals_hold}
 use Rattle.vic_runs.proofs.Forged.{is_forged-Decides}
-use Rattle.vic_runs.proofs.Runs.{all_hold, all_honest, none_forged}
-use Rattle.vic_runs.proofs.Outcomes.{run_is_honest}
+use Rattle.vic_runs.proofs.Runs.{all_hold, run_is_honest, none_forged}
 use Rattle.vic_runs.proofs.Halted.{none_for_halting}
 use Rattle.vic_runs.proofs.Prints.{prints_returns}
 use Rattle.vic_group.specs.declared.play.End.{End}
@@ -185,9 +184,9 @@ said_last p good = ap (λ b. p.text ++ end_text (group_in p.scene) (history_in p
 
 honestly : (script : List ℕ) → AreBytes script → is_honest_script script ≡ true → IsHonest script
 honestly script bytes honest = record {
-  run = all_honest script bytes honest;
+  run = (run_is_honest script bytes honest).run;
   tags_made = (none_forged script bytes honest).0;
-  scene = run_is_honest script bytes honest;
+  scene = (run_is_honest script bytes honest).scene;
   none_halted = none_for_halting script bytes honest;
 }
 

@@ -86,7 +86,7 @@ pub record IsHonest (script : List ℕ) : Type 0 where
   pub tags_made : is_forged (group_of script) (history_of script) ≡ false
   -- where it ends, what holds of honest runs holds of its clients and its one server: each completed call returned what becomes of it
   -- in the server's log, no step returned that a check failed, and more
-  pub scene : (s : Scene) → (run_of script).scene ≡ Some s → (server : Server) → server_at s.servers 1 ≡ Some server → IsHonestScene s server
+  pub scene : (s : Scene) → (run_of script).scene ≡ Some s → (server : Server) → server_at s.servers 1 ≡ Some server → IsHonestScene s run.events server
   -- no line is bad for that its client has halted
   pub none_halted : (b : Bad) → bad_line_of script ≡ Some b → b.kind ≡ 3 → ⊥
 

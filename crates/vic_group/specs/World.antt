@@ -133,4 +133,4 @@ pub record StandsHonestly {S V : Type 0} (state : S → V) (rule : Serving V) (w
   pub scene : SceneOf V
   pub shows : ShowsScene state w scene
   pub reached : IsHonestlyReached (AnswersAs rule) scene n
-  pub holds : IsHonestScene scene (world_after scene.group reached.events).server
+  pub holds : IsHonestScene scene reached.events (world_after scene.group reached.events).server

@@ -1,18 +1,17 @@
 -- What holds of each scene of clients with one honest server.
-use Rattle.std.proofs.Common.{◌≡◌, ℕ, ◌<◌, ◌≤◌, List, [], ◌∷◌, ◌++◌, length, Some, None, sym, ap, subst, ◌∙◌, arith, append_assoc}
+use Rattle.std.proofs.Common.{◌≡◌, ℕ, ◌<◌, ◌≤◌, List, ◌∷◌, ◌++◌, length, Some, None, sym, ap, subst, ◌∙◌, arith}
 use Rattle.vic_dict.specs.Lists.{IsIn, front}
 use Rattle.vic_dict.specs.declared.op.Outcome.TheVariants as outcome
 use Rattle.vic_wire.specs.Hashes.{Group}
 use Rattle.vic_rules.specs.declared.trace.Input.TheVariants as input
 use Rattle.vic_rules.specs.declared.trace.TraceStep.{TraceStep}
 use Rattle.vic_rules.specs.declared.trace.Shown.{Shown}
-use Rattle.vic_rules.specs.Client.{Standing}
 use Rattle.vic_rules.specs.History.{standing, IsLawful, Completion, completions}
 use Rattle.vic_rules.specs.Views.{view_of}
 use Rattle.vic_rules.specs.Trust.{IsForged}
 use Rattle.vic_order.specs.Order.{Server}
 use Rattle.vic_order.specs.Fates.{entries}
-use Rattle.vic_order.specs.Honest.{Event, Serves, World, AreHonest, IsHonestRun, world_after}
+use Rattle.vic_order.specs.Honest.{Event, World, world_after}
 use Rattle.vic_honest.specs.Claims.{IsFrontOf, StandsAsFated, completed_in, IsOneHistory, WasRefused}
 use Rattle.vic_honest.proofs.Words.{front-joined}
 use Rattle.vic_honest.proofs.Owns.{front-all}
@@ -23,36 +22,13 @@ use Rattle.vic_honest.proofs.Replies.{replies_return, refusals_return}
 use Rattle.vic_honest.proofs.Refusals.{refusals_are_limits, limits_are_refused, calls_are_ordered}
 use Rattle.vic_honest.proofs.Told.{refusals_are_told}
 use Rattle.vic_script.specs.Scenes.{Queue, SceneOf, queue_of, stands}
-use Rattle.vic_runs.specs.Reached.{IsHonestlyReached, ReturnsSo, WasOnce, WasAtLimit, IsServedSo, IsHonestScene}
-use Rattle.vic_runs.proofs.Growth.{run-grows}
+use Rattle.vic_runs.specs.Reached.{IsHonestlyReached, ReturnsSo, IsServedSo, IsHonestScene}
 
 -- the oldest entries of a log, as many as a path has
 front_is : (g : Group) (events : List Event) (me : ℕ) → IsFrontOf g events me → (n : ℕ) × ((standing g me (world_after g events).history).path ≡ entries (front n (world_after g events).server.log))
 front_is g events me f =
     let older : front (length f.seen) (f.newer ++ f.seen) ≡ f.seen = front-joined (length f.seen) f.newer f.seen (omega arith) ∙ front-all f.seen in
     (length f.seen, f.path ∙ ap entries (sym (ap (front (length f.seen)) f.log ∙ older)))
-
--- the events before others in a run
-events_before : (g : Group) (later before : List Event) → AreHonest g (later ++ before) → AreHonest g before
-events_before g [] before h = h
-events_before g (e ∷ later) before h = events_before g later before h.0
-
--- a client was refused a call by the server that a run had before
-was_at_limit : (g : Group) (events : List Event) → IsHonestRun g events → (me : ℕ) (t : Standing) (number : ℕ) → WasRefused g events me t number → WasAtLimit (world_after g events).server me t number
-was_at_limit g events run me t number h =
-    let all : List Event = (h.later ++ Serves me ∷ []) ++ h.before in
-    let same : events ≡ all = h.is ∙ sym (append_assoc h.later (Serves me ∷ []) h.before) in
-    let honest : IsHonestRun g h.before = record { group = run.group; steps = events_before g (h.later ++ Serves me ∷ []) h.before (subst (AreHonest g) same run.steps) } in
-    record {
-      before = (world_after g h.before).server;
-      once = subst (λ l. WasOnce (world_after g l).server (world_after g h.before).server) (sym same) (run-grows g (h.later ++ Serves me ∷ []) h.before);
-      sealed = all_sealed g h.before honest;
-      payload = h.payload;
-      answer = h.answer;
-      refused = h.refused;
-      load = h.load;
-      awaited = h.awaited;
-    }
 
 module _ {V : Type 0} (R : V → Server → Type 0) (s : SceneOf V) (n : ℕ) (r : IsHonestlyReached R s n) where
   -- the world that shows the scene
@@ -104,11 +80,10 @@ module _ {V : Type 0} (R : V → Server → Type 0) (s : SceneOf V) (n : ℕ) (r
     refusal = λ number read. refusals_return s.group r.events r.honest newer x past (r.shows.history ∙ is) payload given number read;
   }
 
-  -- a client that was refused a call was so by what the server was
+  -- a client that was refused a call was so when it was served
   pub honest-refused : (newer : List TraceStep) (x : TraceStep) (past : List TraceStep) → s.history ≡ newer ++ x ∷ past
-      → (number : ℕ) → x.returned ≡ Some (outcome.Refused number) → WasAtLimit w.server x.client (standing s.group x.client past) number
-  honest-refused newer x past is number e =
-      was_at_limit s.group r.events r.honest x.client (standing s.group x.client past) number (refusals_are_told s.group r.events r.honest newer x past (r.shows.history ∙ is) number e)
+      → (number : ℕ) → x.returned ≡ Some (outcome.Refused number) → WasRefused s.group r.events x.client (standing s.group x.client past) number
+  honest-refused newer x past is = refusals_are_told s.group r.events r.honest newer x past (r.shows.history ∙ is)
 
   -- how a request that waits is answered
   pub honest-served_so : (i : ℕ) → 0 < i → i ≤ s.group.count → (payload : List ℕ) (rest : Queue) → queue_of s.up i ≡ payload ∷ rest → IsServedSo w.server i payload
@@ -121,7 +96,7 @@ module _ {V : Type 0} (R : V → Server → Type 0) (s : SceneOf V) (n : ℕ) (r
       }
 
 -- so it is an honest scene
-pub honest_is_honest_scene : {V : Type 0} (R : V → Server → Type 0) (s : SceneOf V) (n : ℕ) (r : IsHonestlyReached R s n) → IsHonestScene s (world_after s.group r.events).server
+pub honest_is_honest_scene : {V : Type 0} (R : V → Server → Type 0) (s : SceneOf V) (n : ℕ) (r : IsHonestlyReached R s n) → IsHonestScene s r.events (world_after s.group r.events).server
 honest_is_honest_scene R s n r = record {
   lawful = honest-lawful R s n r;
   unforged = honest-unforged R s n r;

@@ -14,7 +14,6 @@ pub mod Lines
 pub mod Kept
 pub mod Shows
 pub mod Honest
-pub mod Growth
 pub mod HonestScenes
 pub mod Plays
 pub mod Runs

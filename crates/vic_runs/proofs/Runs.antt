@@ -2,6 +2,7 @@
 use Rattle.std.proofs.Common.{◌≡◌, ℕ, ◌+◌, ◌<◌, ◌≤◌, ◌^◌, true, List, [], length, take, Option, Some, None, refl, sym, ap, subst, ◌∙◌, arith}
 use Rattle.std.specs.List.{AllByRecursion}
 use Rattle.std.proofs.lemmas.List.{length-take}
+use Rattle.std.proofs.lemmas.Option.{same_Some}
 use Rattle.vic_dict.specs.Lists.{AreBytes}
 use Rattle.vic_dict.specs.declared.op.Mode.TheVariants as mode
 use Rattle.vic_wire.specs.Hashes.{Group}
@@ -9,7 +10,7 @@ use Rattle.vic_rules.specs.History.{IsLawful}
 use Rattle.vic_rules.specs.Trust.{IsForged}
 use Rattle.vic_laws.proofs.EveryHistory.{every_history_holds}
 use Rattle.vic_laws.proofs.Words.{all_true}
-use Rattle.vic_order.specs.Order.{fresh_server, ready}
+use Rattle.vic_order.specs.Order.{Server, fresh_server, ready}
 use Rattle.vic_order.specs.Serving.{by_rule}
 use Rattle.vic_order.specs.Honest.{Event, IsHonestRun, world_after}
 use Rattle.vic_spellings.proofs.Steps.{bytes-take}
@@ -18,8 +19,8 @@ use Rattle.vic_script.specs.declared.line.Line.TheVariants as line
 use Rattle.vic_script.specs.Lines.{lines_of, line_of}
 use Rattle.vic_script.specs.Scenes.{Scene, Shown, opening, server_at, done_line, bad_kind}
 use Rattle.vic_script.specs.Run.{limit, Played, plain_group, Tried, Fails, Does, tried_by, try_line, mode_in, run_of, is_honest, is_honest_script, group_in, history_in, group_of, history_of}
-use Rattle.vic_runs.specs.Claims.{RunsAreLawful, NothingIsForged, RunsAreHonest, ClaimsHold}
-use Rattle.vic_runs.specs.Reached.{IsReached, IsHonestlyReached, IsSame}
+use Rattle.vic_runs.specs.Claims.{RunsAreLawful, NothingIsForged, IsRunOf, RunsAreHonest, ClaimsHold}
+use Rattle.vic_runs.specs.Reached.{IsReached, IsHonestlyReached, IsHonestScene, IsSame}
 use Rattle.vic_runs.proofs.Forged.{is_forged-none}
 use Rattle.vic_runs.proofs.Lists.{all_both}
 use Rattle.vic_runs.proofs.Words.{FitsIn, text_fits, lines-bytes}
@@ -27,7 +28,7 @@ use Rattle.vic_runs.proofs.Reached.{reached-more, reached-opening, reached-lawfu
 use Rattle.vic_runs.proofs.Lines.{few_calls, reached-line}
 use Rattle.vic_runs.proofs.Kept.{same_is_kept}
 use Rattle.vic_runs.proofs.Honest.{honest-more, honest-opening, honest-line}
-use Rattle.vic_runs.proofs.HonestScenes.{honest-unforged}
+use Rattle.vic_runs.proofs.HonestScenes.{honest-unforged, honest_is_honest_scene}
 use Rattle.vic_runs.proofs.Plays.{GoesSo, EachLine, claimed-run}
 
 -- what is known of a script has at most as many bytes
@@ -213,25 +214,42 @@ none_forged script bytes honest =
     let never : IsForged (group_of script) (history_of script) → ⊥ = unforged-in (run_of script).scene r.0 r.1 in
     (is_forged-none (group_of script) (history_of script) never, never)
 
--- an honest run that has what a scene has
+-- an honest run that has what a scene has, and what holds of that scene
 record IsRunIn (scene : Option Scene) : Type 0 where
   events : List Event
   honest : IsHonestRun (group_in scene) events
   history : (world_after (group_in scene) events).history ≡ history_in scene
   server : (s : Scene) → scene ≡ Some s → server_at s.servers 1 ≡ Some (world_after (group_in scene) events).server
+  holds : (s : Scene) → scene ≡ Some s → (server : Server) → server_at s.servers 1 ≡ Some server → IsHonestScene s events server
+
+-- server 1 is the server of that run
+server_is : (s : Scene) (n : ℕ) (r : IsHonestlyReached IsSame s n) (server : Server) → server_at s.servers 1 ≡ Some server → (world_after s.group r.events).server ≡ server
+server_is s n r server is = sym r.shows.same ∙ same_Some r.shows.server server (sym (ap (λ l. server_at l 1) r.shows.only) ∙ is)
+
+holds_in : (s : Scene) (n : ℕ) (r : IsHonestlyReached IsSame s n) (server : Server) → server_at s.servers 1 ≡ Some server → IsHonestScene s r.events server
+holds_in s n r server is = subst (IsHonestScene s r.events) (server_is s n r server is) (honest_is_honest_scene IsSame s n r)
 
 run-in : (scene : Option Scene) (n : ℕ) → HonestIn scene n → IsRunIn scene
 unfolding world_after
-run-in None n h = record { events = []; honest = record { group = record { count = (omega arith, omega arith); key = (omega arith, omega arith) }; steps = tt }; history = refl; server = λ s e. absurd cc }
+run-in None n h = record { events = []; honest = record { group = record { count = (omega arith, omega arith); key = (omega arith, omega arith) }; steps = tt }; history = refl; server = λ s e. absurd cc; holds = λ s e server is. absurd cc }
 run-in (Some s) n h = record {
   events = h.events;
   honest = h.honest;
   history = h.shows.history;
   server = λ t e. let same : s ≡ t = cc in ap (λ x. server_at x.servers 1) (sym same) ∙ ap (λ l. server_at l 1) h.shows.only ∙ ap (λ v. Some v) h.shows.same;
+  holds = λ t e server is. let same : s ≡ t = cc in subst (λ x. IsHonestScene x h.events server) same (holds_in s n h server (ap (λ x. server_at x.servers 1) same ∙ is));
 }
 
-pub all_honest : RunsAreHonest
-all_honest script bytes honest =
+-- an honest run that has a script's history, and what holds of the scene that the script's run leaves
+pub record RunsHonestly (script : List ℕ) : Type 0 where
+  pub run : IsRunOf script
+  pub scene : (s : Scene) → (run_of script).scene ≡ Some s → (server : Server) → server_at s.servers 1 ≡ Some server → IsHonestScene s run.events server
+
+pub run_is_honest : (script : List ℕ) → AreBytes script → is_honest_script script ≡ true → RunsHonestly script
+run_is_honest script bytes honest =
     let r = honest-run script bytes honest in
     let run = run-in (run_of script).scene r.0 r.1 in
-    record { events = run.events; honest = run.honest; history = run.history; server = run.server }
+    record { run = record { events = run.events; honest = run.honest; history = run.history; server = run.server }; scene = run.holds }
+
+pub all_honest : RunsAreHonest
+all_honest script bytes honest = (run_is_honest script bytes honest).run

@@ -1,5 +1,5 @@
 -- Scenes that lines of a script reach, and what holds of each of them.
-use Rattle.std.specs.Prelude.{◌≡◌, ◌↔◌, ℕ, ◌<◌, ◌≤◌, Bool, true, List, [], ◌∷◌, ◌++◌, length, replicate, Option, Some, None}
+use Rattle.std.specs.Prelude.{◌≡◌, ◌↔◌, ℕ, ◌<◌, ◌≤◌, true, List, [], ◌∷◌, ◌++◌, length, replicate, Option, Some, None}
 use Rattle.std.specs.List.{AllByRecursion}
 use Rattle.vic_dict.specs.Lists.{IsIn, AreBytes, front}
 use Rattle.vic_dict.specs.Dictionary.{IsProper}
@@ -14,18 +14,16 @@ use Rattle.vic_wire.specs.declared.message.ToClient.TheVariants as say
 use Rattle.vic_wire.specs.Hashes.{Group}
 use Rattle.vic_wire.specs.Messages.{IsEntry}
 use Rattle.vic_wire.specs.Reading.{read_request, read_answer}
-use Rattle.vic_rules.specs.declared.state.Awaiting.TheVariants as awaits
 use Rattle.vic_rules.specs.declared.trace.Input.TheVariants as input
 use Rattle.vic_rules.specs.declared.trace.TraceStep.{TraceStep}
 use Rattle.vic_rules.specs.declared.trace.Shown.{Shown}
-use Rattle.vic_rules.specs.Client.{Standing}
 use Rattle.vic_rules.specs.History.{standing, IsLawful, Completion, completions}
 use Rattle.vic_rules.specs.Views.{view_of}
 use Rattle.vic_rules.specs.Trust.{IsForged}
 use Rattle.vic_order.specs.Order.{Ordered, Server, serve}
 use Rattle.vic_order.specs.Fates.{entries, fate}
 use Rattle.vic_order.specs.Honest.{Event, World, IsHonestRun, world_after}
-use Rattle.vic_honest.specs.Claims.{StandsAsFated, ReturnsItsFate, limit, RefusedAtLimit, IsOrderedBy, SealedSo, StandsInTheWay, completed_in, IsOneHistory}
+use Rattle.vic_honest.specs.Claims.{StandsAsFated, ReturnsItsFate, limit, RefusedAtLimit, IsOrderedBy, WasRefused, SealedSo, StandsInTheWay, completed_in, IsOneHistory}
 use Rattle.vic_script.specs.Scenes.{Queue, Scene, SceneOf, queue_of, is_server, stands}
 
 -- ---- scenes that any lines reach
@@ -112,24 +110,6 @@ pub record ReturnsSo (g : Group) (log : List Ordered) (past : List TraceStep) (x
   -- of a refusal: refused, with its number
   pub refusal : (number : ℕ) → read_answer payload ≡ Some (say.Refused number) → x.returned ≡ Some (outcome.Refused number)
 
--- a server as it was at some time before: its log and its seals were older parts of what they are now
-pub record WasOnce (server before : Server) : Type 0 where
-  pub newer : List Ordered
-  pub log : server.log ≡ newer ++ before.log
-  pub over : List Seal
-  pub seals : server.seals ≡ over ++ before.seals
-
--- the call whose Reply a client awaits was refused when it was served, at the limit of this number, by the server as it then was
-pub record WasAtLimit (server : Server) (me : ℕ) (t : Standing) (number : ℕ) : Type 0 where
-  pub before : Server
-  pub once : WasOnce server before
-  pub sealed : SealedSo before
-  pub payload : List ℕ
-  pub answer : (serve before me payload).answer ≡ say.Refused number
-  pub refused : RefusedAtLimit before payload number
-  pub load : Bool
-  pub awaited : t.awaiting ≡ awaits.Reply refused.seq refused.op load
-
 -- how a server answers a client's request
 pub record IsServedSo (server : Server) (me : ℕ) (payload : List ℕ) : Type 0 where
   -- it refuses nothing but calls that would pass one of its limits, with the number of that limit
@@ -141,8 +121,8 @@ pub record IsServedSo (server : Server) (me : ℕ) (payload : List ℕ) : Type 0
   pub ordered : (known seq : ℕ) (o : Op) (tag : Digest32) → read_request payload ≡ Some (ask.Invoke known seq o tag)
       → limit server known o ≡ None → IsOrderedBy server me seq o tag (serve server me payload)
 
--- what holds of every scene that an honest run shows; `server` is the run's, which follows the rule
-pub record IsHonestScene {V : Type 0} (s : SceneOf V) (server : Server) : Type 0 where
+-- what holds of every scene that an honest run shows: `events` are the run's, and `server` is its server, which follows the rule
+pub record IsHonestScene {V : Type 0} (s : SceneOf V) (events : List Event) (server : Server) : Type 0 where
   -- the clients stepped by the rules
   pub lawful : IsLawful s.group s.history
   -- every tag that a client took was made by a client before
@@ -164,9 +144,9 @@ pub record IsHonestScene {V : Type 0} (s : SceneOf V) (server : Server) : Type 0
   -- a step that took a Reply returned what becomes of the call, and one that took a refusal returned refused, with its number
   pub returned : (newer : List TraceStep) (x : TraceStep) (past : List TraceStep) → s.history ≡ newer ++ x ∷ past
       → (payload : List ℕ) → x.input ≡ input.Payload payload → ReturnsSo s.group server.log past x payload
-  -- a call that returned refused was refused when it was served, at the limit whose number it returned
+  -- a call that returned refused was refused when the run's server served it, at the limit whose number it returned
   pub refused : (newer : List TraceStep) (x : TraceStep) (past : List TraceStep) → s.history ≡ newer ++ x ∷ past
-      → (number : ℕ) → x.returned ≡ Some (outcome.Refused number) → WasAtLimit server x.client (standing s.group x.client past) number
+      → (number : ℕ) → x.returned ≡ Some (outcome.Refused number) → WasRefused s.group events x.client (standing s.group x.client past) number
   -- a client's next request is refused exactly where it is a call that would pass a limit; every other call is ordered
   pub served_so : (i : ℕ) → 0 < i → i ≤ s.group.count → (payload : List ℕ) (rest : Queue) → queue_of s.up i ≡ payload ∷ rest → IsServedSo server i payload
 
