@@ -15,7 +15,7 @@ use Rattle.vic_order.specs.Honest.{Event, World, world_after}
 use Rattle.vic_honest.specs.Claims.{IsFrontOf, StandsAsFated, completed_in, IsOneHistory, WasRefused}
 use Rattle.vic_honest.proofs.Words.{front-joined}
 use Rattle.vic_honest.proofs.Owns.{front-all}
-use Rattle.vic_honest.proofs.Runs.{tags_made, all_lawful, all_fronts, all_go_on, all_fated, all_refusals, all_sealed}
+use Rattle.vic_honest.proofs.Runs.{tags_made, all_lawful, all_fronts, all_go_on, all_fated, all_refusals, all_sealed, aborts_leave_nothing}
 use Rattle.vic_honest.proofs.InTheWay.{aborts_are_conflicts}
 use Rattle.vic_honest.proofs.OneHistory.{one_history, views_are_fronts}
 use Rattle.vic_honest.proofs.Replies.{replies_return, refusals_return}
@@ -104,6 +104,7 @@ honest_is_honest_scene R s n r = record {
   goes_on = record { stands_so = honest-going R s n r; returns_so = honest-never_halts R s n r; refuses_so = honest-refusals R s n r };
   paths = honest-paths R s n r;
   aborted = λ newer o below is u. aborts_are_conflicts o below u;
+  left_alone = λ newer o below is aborts. aborts_leave_nothing o below aborts;
   sealed = all_sealed s.group r.events r.honest;
   one_history = honest-one_history R s n r;
   views = honest-views R s n r;

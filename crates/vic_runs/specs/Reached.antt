@@ -1,5 +1,5 @@
 -- Scenes that lines of a script reach, and what holds of each of them.
-use Rattle.std.specs.Prelude.{◌≡◌, ◌↔◌, ℕ, ◌<◌, ◌≤◌, true, List, [], ◌∷◌, ◌++◌, length, replicate, Option, Some, None}
+use Rattle.std.specs.Prelude.{◌≡◌, ◌↔◌, ℕ, ◌<◌, ◌≤◌, true, false, List, [], ◌∷◌, ◌++◌, length, replicate, Option, Some, None}
 use Rattle.std.specs.List.{AllByRecursion}
 use Rattle.vic_dict.specs.Lists.{IsIn, AreBytes, front}
 use Rattle.vic_dict.specs.Dictionary.{IsProper}
@@ -17,11 +17,12 @@ use Rattle.vic_wire.specs.Reading.{read_request, read_answer}
 use Rattle.vic_rules.specs.declared.trace.Input.TheVariants as input
 use Rattle.vic_rules.specs.declared.trace.TraceStep.{TraceStep}
 use Rattle.vic_rules.specs.declared.trace.Shown.{Shown}
+use Rattle.vic_rules.specs.Client.{is_done}
 use Rattle.vic_rules.specs.History.{standing, IsLawful, Completion, completions}
 use Rattle.vic_rules.specs.Views.{view_of}
 use Rattle.vic_rules.specs.Trust.{IsForged}
 use Rattle.vic_order.specs.Order.{Ordered, Server, serve}
-use Rattle.vic_order.specs.Fates.{entries, fate}
+use Rattle.vic_order.specs.Fates.{entries, fate, dictionary_by}
 use Rattle.vic_order.specs.Honest.{Event, World, IsHonestRun, world_after}
 use Rattle.vic_honest.specs.Claims.{StandsAsFated, ReturnsItsFate, limit, RefusedAtLimit, IsOrderedBy, WasRefused, SealedSo, StandsInTheWay, completed_in, IsOneHistory}
 use Rattle.vic_script.specs.Scenes.{Queue, Scene, SceneOf, queue_of, is_server, stands}
@@ -135,6 +136,9 @@ pub record IsHonestScene {V : Type 0} (s : SceneOf V) (events : List Event) (ser
   pub paths : (i : ℕ) → 0 < i → i ≤ s.group.count → (n : ℕ) × ((stands s i).path ≡ entries (front n server.log))
   -- an entry of the log is aborted exactly by the least position of a conflicting entry of another client, unsealed when it was ordered
   pub aborted : (newer : List Ordered) (o : Ordered) (below : List Ordered) → server.log ≡ newer ++ o ∷ below → IsAbortedSo o below
+  -- an aborted entry leaves the dictionary as it was
+  pub left_alone : (newer : List Ordered) (o : Ordered) (below : List Ordered) → server.log ≡ newer ++ o ∷ below
+      → is_done (fate o below) ≡ false → dictionary_by (o ∷ below) ≡ dictionary_by below
   -- the sealed dictionary is what the done entries up to the sealed count leave, and the highest seal has its root
   pub sealed : SealedSo server
   -- the completed calls of all clients, in the order of the log, are one legal history in real-time order
