@@ -1,5 +1,7 @@
 -- Servers of any kind: what one answers to a request, and what it is then.
-use Rattle.std.specs.Prelude.{◌≡◌, ℕ, List, [], ◌∷◌}
+use Rattle.std.specs.Prelude.{◌≡◌, ℕ, ◌<◌, ◌^◌, List, [], ◌∷◌}
+use Rattle.std.specs.List.{AllByRecursion}
+use Rattle.vic_dict.specs.Lists.{AreBytes}
 use Rattle.vic_wire.specs.Messages.{answer_text}
 use Rattle.vic_order.specs.Order.{Server, serve}
 
@@ -18,11 +20,15 @@ pub record Request : Type 0 where
   pub who : ℕ
   pub payload : List ℕ
 
+-- one that a call can make: the numbers are ones of their types and the payload is bytes
+abbrev pub IsAsked : Request → Type 0
+IsAsked r = (r.seat < 2 ^ 32) × ((r.who < 2 ^ 8) × AreBytes r.payload)
+
 -- what a server answers to requests, one after the other
 abbrev pub answers_to : {V : Type 0} → Serving V → V → List Request → List (List ℕ)
 answers_to rule v [] = []
 answers_to rule v (r ∷ later) = (rule v r.seat r.who r.payload).0 ∷ answers_to rule (rule v r.seat r.who r.payload).1 later
 
--- whatever the requests, it answers as a server does that follows the rule
+-- whatever the requests that calls make, it answers as a server does that follows the rule
 abbrev pub AnswersAs : {V : Type 0} → Serving V → V → Server → Type 0
-AnswersAs rule v s = (requests : List Request) → answers_to rule v requests ≡ answers_to by_rule s requests
+AnswersAs rule v s = (requests : List Request) → AllByRecursion IsAsked requests → answers_to rule v requests ≡ answers_to by_rule s requests

@@ -1,12 +1,14 @@
 -- Scenes of clients with one honest server: how one leads to another.
 use Rattle.std.proofs.Common.{◌≡◌, ℕ, zero, suc, ◌+◌, ◌<◌, ◌≤◌, Bool, true, false, [], ◌∷◌, length, Option, Some, None, refl, sym, ap, subst, ◌∙◌, arith}
 use Rattle.std.specs.Prelude.{if◌then◌else◌, nat_eq}
+use Rattle.std.specs.List.{AllByRecursion}
 use Rattle.vic_dict.specs.declared.op.Mode.TheVariants as mode
 use Rattle.vic_wire.specs.Hashes.{Group, IsGroup}
 use Rattle.vic_rules.specs.declared.trace.Input.{Input}
 use Rattle.vic_rules.specs.declared.trace.Input.TheVariants as input
+use Rattle.vic_rules.specs.declared.trace.TraceStep.{TraceStep}
 use Rattle.vic_rules.specs.Client.{MayStep}
-use Rattle.vic_rules.specs.History.{standing, AreSteps}
+use Rattle.vic_rules.specs.History.{standing, AreSteps, IsLawful}
 use Rattle.vic_order.specs.Order.{Server, fresh_server, ready}
 use Rattle.vic_order.specs.Serving.{Serving}
 use Rattle.vic_order.specs.Honest.{Asks, Serves, Takes, World, happens, MayBe, IsHonestRun, world_after}
@@ -15,11 +17,14 @@ use Rattle.vic_script.specs.declared.line.Line.{Line}
 use Rattle.vic_script.specs.declared.line.Line.TheVariants as line
 use Rattle.vic_script.specs.Scenes.{Queue, SceneOf, ShownOf, opening_with, queue_of, server_at, server_of, stands, steps, served, serves, taken, takes, unchanged, takes_aloud, quietly, behind, turns, most_turns, done_line, waits_in, bad_kind, is_honest_line}
 use Rattle.vic_runs.specs.Claims.{FitsLine}
-use Rattle.vic_runs.specs.Reached.{Shows, IsHonestlyReached}
+use Rattle.vic_runs.specs.Reached.{HoldsBytes, Shows, IsHonestlyReached}
 use Rattle.vic_runs.proofs.Counting.{calls-step, calls-payload}
 use Rattle.vic_runs.proofs.Kept.{IsKept}
 use Rattle.vic_runs.proofs.Lines.{HasCallLeft}
+use Rattle.vic_runs.proofs.Lists.{all-set, all-replicate}
+use Rattle.vic_runs.proofs.Queues.{queue-bytes, queued-bytes}
 use Rattle.vic_runs.proofs.Scenes.{step_by, serves-group, takes_aloud-group, turns-group}
+use Rattle.vic_runs.proofs.Sent.{sent-bytes}
 use Rattle.vic_runs.proofs.Shows.{opening-shows, steps-shows, serves-shows, takes-shows}
 use Rattle.vic_runs.proofs.Tests.{client_first, asked_is, called_is}
 
@@ -39,7 +44,7 @@ may-ask g w i (input.Payload payload) asked above upto may = absurd asked
 module _ {V : Type 0} (R : V → Server → Type 0) where
   -- so few calls are at most more
   pub honest-more : (s : SceneOf V) (n m : ℕ) → n ≤ m → IsHonestlyReached R s n → IsHonestlyReached R s m
-  honest-more s n m more r = record { plain = r.plain; events = r.events; honest = r.honest; shows = r.shows; calls = λ i. omega (arith, more, r.calls i) }
+  honest-more s n m more r = record { plain = r.plain; events = r.events; honest = r.honest; shows = r.shows; calls = λ i. omega (arith, more, r.calls i); up_bytes = r.up_bytes }
 
   -- a group without objects opens with a server that is a fresh one, as far as R says
   pub honest-opening : (g : Group) (server : V) → IsGroup g → g.mode ≡ mode.Plain → R server (fresh_server g.mode g.count ready) → IsHonestlyReached R (opening_with g server) 0
@@ -50,9 +55,17 @@ module _ {V : Type 0} (R : V → Server → Type 0) where
     honest = record { group = group; steps = tt };
     shows = opening-shows R g server same;
     calls = λ i. omega arith;
+    up_bytes = all-replicate HoldsBytes g.count [] tt;
   }
 
   -- ---- a client is asked
+
+  -- what a client sends joins its requests
+  sent_joins : (s : SceneOf V) → AllByRecursion HoldsBytes s.up → (i : ℕ) (given : Input) → IsLawful s.group (step_by s.group i given s.history ∷ s.history) → AllByRecursion HoldsBytes (steps s i given).up
+  unfolding steps
+  sent_joins s bytes i given lawful =
+      let x : TraceStep = step_by s.group i given s.history in
+      all-set HoldsBytes s.up _ _ bytes (queued-bytes (queue_of s.up i) x.sent (queue-bytes s.up i bytes) (sent-bytes s.group x s.history lawful))
 
   pub honest-asked : (s : SceneOf V) (n : ℕ) → IsHonestlyReached R s n → (i : ℕ) → 0 < i → i ≤ s.group.count → (given : Input) → IsAsked given → MayStep s.group (stands s i) given → IsHonestlyReached R (steps s i given) (n + 1)
   unfolding world_after happens steps
@@ -69,6 +82,7 @@ module _ {V : Type 0} (R : V → Server → Type 0) where
         honest = run;
         shows = shows;
         calls = λ j. omega (arith, r.calls j, calls-step g s.history (step_by g i given s.history) lawful j);
+        up_bytes = sent_joins s r.up_bytes i given (record { group = r.honest.group; steps = lawful });
       }
 
   -- ---- the server serves, and a client takes
@@ -82,12 +96,15 @@ module _ {V : Type 0} (R : V → Server → Type 0) where
       let g : Group = s.group in
       let w : World = world_after g r.events in
       let full : w.up i ≡ [] → ⊥ = λ e. let none = sym is ∙ sym (r.shows.up i above upto) ∙ e in absurd cc in
+      let bytes : HoldsBytes (payload ∷ rest) = subst HoldsBytes is (queue-bytes s.up i r.up_bytes) in
+      let few : g.count ≤ 64 = r.honest.group.count.1 in
       record {
         plain = r.plain;
         events = Serves i ∷ r.events;
         honest = record { group = r.honest.group; steps = (r.honest.steps, (above, upto, full)) };
-        shows = serves-shows R rule kept s w r.shows i above upto payload rest is server there;
+        shows = serves-shows R rule kept s w r.shows i above upto payload rest is (omega (arith, upto, few), (omega (arith, upto, few), bytes.0)) server there;
         calls = r.calls;
+        up_bytes = all-set HoldsBytes s.up _ rest r.up_bytes bytes.1;
       }
 
   pub honest-serves : (rule : Serving V) → IsKept rule R → (s : SceneOf V) (n : ℕ) → IsHonestlyReached R s n → (i : ℕ) → 0 < i → i ≤ s.group.count → IsHonestlyReached R (serves rule s i) n
@@ -110,6 +127,7 @@ module _ {V : Type 0} (R : V → Server → Type 0) where
         honest = run;
         shows = shows;
         calls = λ j. omega (arith, r.calls j, calls-payload g s.history (step_by g i (input.Payload payload) s.history) lawful payload refl j);
+        up_bytes = sent_joins s r.up_bytes i (input.Payload payload) (record { group = r.honest.group; steps = lawful });
       }
 
   pub honest-takes : (s : SceneOf V) (n : ℕ) → IsHonestlyReached R s n → (i : ℕ) → 0 < i → i ≤ s.group.count → IsHonestlyReached R (takes_aloud unchanged s i).scene n

@@ -7,7 +7,7 @@ use Rattle.vic_wire.specs.Messages.{answer_text}
 use Rattle.vic_rules.specs.declared.trace.Input.{Input}
 use Rattle.vic_rules.specs.declared.trace.Input.TheVariants as input
 use Rattle.vic_order.specs.Order.{Server, fresh_server, ready, serve}
-use Rattle.vic_order.specs.Serving.{Serving}
+use Rattle.vic_order.specs.Serving.{Serving, IsAsked}
 use Rattle.vic_order.specs.Honest.{World, changed}
 use Rattle.vic_order.specs.Honest as honest
 use Rattle.vic_script.specs.Scenes.{Queue, SceneOf, opening_with, queue_of, set_queue, queued, server_at, set_server, server_of, steps, served_with, taken, unchanged}
@@ -60,11 +60,11 @@ module _ {V : Type 0} (R : V → Server → Type 0) where
   shown-server s w h i above upto = ap (server_at s.servers) (server_of-one s.served_by s.group.count i h.by above upto) ∙ ap (λ l. server_at l 1) h.only
 
   served_with-shows : (rule : Serving V) → IsKept rule R → (s : SceneOf V) (w : World) → Shows R s w → (i : ℕ) → 0 < i → i ≤ s.group.count → (payload : List ℕ) (rest : Queue)
-      (v : V) → server_at s.servers (server_of s.served_by i) ≡ Some v → Shows R (served_with s i rest (rule v i i payload)) (honest.serves w i (payload ∷ rest))
-  served_with-shows rule kept s w h i above upto payload rest v is =
+      → IsAsked (record { seat = i; who = i; payload = payload }) → (v : V) → server_at s.servers (server_of s.served_by i) ≡ Some v → Shows R (served_with s i rest (rule v i i payload)) (honest.serves w i (payload ∷ rest))
+  served_with-shows rule kept s w h i above upto payload rest asked v is =
       let a : List ℕ × V = rule v i i payload in
       let same : R v w.server = subst (λ x. R x w.server) (same_Some h.server v (sym (shown-server s w h i above upto) ∙ is)) h.same in
-      let alike = kept v w.server same i i payload in
+      let alike = kept v w.server same i i payload asked in
       let text : List ℕ = answer_text (serve w.server i payload).answer in
       let joins : w.down i ++ text ∷ [] ≡ queue_of s.down i ++ a.0 ∷ [] = ap (λ q. q ++ text ∷ []) (h.down i above upto) ∙ ap (λ t. queue_of s.down i ++ t ∷ []) (sym alike.0) in
       record {
@@ -81,9 +81,9 @@ module _ {V : Type 0} (R : V → Server → Type 0) where
 
   -- where this is the client's queue and this its server
   pub serves-shows : (rule : Serving V) → IsKept rule R → (s : SceneOf V) (w : World) → Shows R s w → (i : ℕ) → 0 < i → i ≤ s.group.count → (payload : List ℕ) (rest : Queue) → queue_of s.up i ≡ payload ∷ rest
-      → (v : V) → server_at s.servers (server_of s.served_by i) ≡ Some v → Shows R (served_with s i rest (rule v i i payload)) (honest.serves w i (w.up i))
-  serves-shows rule kept s w h i above upto payload rest is v there =
-      subst (λ q. Shows R (served_with s i rest (rule v i i payload)) (honest.serves w i q)) (sym (h.up i above upto ∙ is)) (served_with-shows rule kept s w h i above upto payload rest v there)
+      → IsAsked (record { seat = i; who = i; payload = payload }) → (v : V) → server_at s.servers (server_of s.served_by i) ≡ Some v → Shows R (served_with s i rest (rule v i i payload)) (honest.serves w i (w.up i))
+  serves-shows rule kept s w h i above upto payload rest is asked v there =
+      subst (λ q. Shows R (served_with s i rest (rule v i i payload)) (honest.serves w i q)) (sym (h.up i above upto ∙ is)) (served_with-shows rule kept s w h i above upto payload rest asked v there)
 
   -- ---- a client takes
 

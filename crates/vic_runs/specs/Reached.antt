@@ -86,13 +86,15 @@ pub record Shows {V : Type 0} (R : V → Server → Type 0) (s : SceneOf V) (w :
   pub only : s.servers ≡ Some server ∷ None ∷ None ∷ None ∷ []
   pub same : R server w.server
 
--- an honest run of a group without objects shows the scene, and no client was called more than n times
+-- an honest run of a group without objects shows the scene, no client was called more than n times, and the requests that wait are
+-- bytes
 pub record IsHonestlyReached {V : Type 0} (R : V → Server → Type 0) (s : SceneOf V) (n : ℕ) : Type 0 where
   pub plain : s.group.mode ≡ mode.Plain
   pub events : List Event
   pub honest : IsHonestRun s.group events
   pub shows : Shows R s (world_after s.group events)
   pub calls : (i : ℕ) → (stands s i).calls ≤ n
+  pub up_bytes : AllByRecursion HoldsBytes s.up
 
 -- no client has halted, and no step returned that a check failed; a call that is refused names one of four limits
 pub record GoesOn {V : Type 0} (s : SceneOf V) : Type 0 where
