@@ -9,6 +9,8 @@
 
 ghost use Rattle.vic_runs.specs.Claims.{RunsAreLawful, NothingIsForged, ForgedIs, RunsAreHonest, ClaimsHold, OutcomesAreFates, NobodyHalts, NoLineIsHalted, PrintsAreReturns};
 
+pub mod agreements;
+
 /// The history of a script is one of clients that step by the rules.
 pub fn runs_are_lawful()
     ensures { RunsAreLawful }
