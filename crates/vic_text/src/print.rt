@@ -1,6 +1,6 @@
 //! Printing bytes, operations and outcomes.
 
-ghost use Rattle.std.specs.Prelude.{◌≡◌, ◌<◌, ◌++◌, ◌∷◌, length, OnOk, IfOk, if◌then◌else◌};
+ghost use Rattle.std.specs.Prelude.{◌≡◌, ◌<◌, ◌++◌, ◌∷◌, length, OnOk, OnErr, IfOk, if◌then◌else◌};
 ghost use Rattle.hex.specs.Hex.{encode_lower};
 ghost use Rattle.std.specs.List.{flat_map, list_all};
 ghost use Rattle.std.specs.Fmt.{decimal};
@@ -14,23 +14,42 @@ use vic_dict::{Answer, Bytes, Names, NoMemory, Op, Outcome};
 pub fn op_text(alloc: Global, op: &Op) -> Result<Bytes, NoMemory>
     ensures { IfOk result (λ made. made ≡ op_words op.now) }
 {
-    let mut out = Bytes::new(alloc);
-    put_op(&mut out, alloc, op)?;
-    Ok(out)
+    let mut text = Bytes::new(alloc);
+    match op {
+        Op::Put(key, value) => {
+            put_named(&mut text, alloc, b"put ", key)?;
+            put_named(&mut text, alloc, b" ", value)?;
+        }
+        Op::Get(key) => put_named(&mut text, alloc, b"get ", key)?,
+        Op::Del(key) => put_named(&mut text, alloc, b"del ", key)?,
+        Op::List(prefix) => put_named(&mut text, alloc, b"list ", prefix)?,
+    }
+    Ok(text)
 }
 
 /// The outcome, as it is printed.
 pub fn outcome_text(alloc: Global, outcome: &Outcome) -> Result<Bytes, NoMemory>
     ensures { IfOk result (λ made. made ≡ outcome_words outcome.now) }
 {
-    let mut out = Bytes::new(alloc);
-    put_outcome(&mut out, alloc, outcome)?;
-    Ok(out)
+    let mut text = Bytes::new(alloc);
+    match outcome {
+        Outcome::Done(answer) => {
+            text.append(b"done ")?;
+            put_answer(&mut text, alloc, answer)?;
+        }
+        Outcome::Aborted(position) => put_numbered(&mut text, alloc, b"aborted ", *position)?,
+        Outcome::Refused(reason) => {
+            put_numbered(&mut text, alloc, b"refused ", u32::from(*reason))?
+        }
+        Outcome::Halted(check) => put_numbered(&mut text, alloc, b"halted ", u32::from(*check))?,
+    }
+    Ok(text)
 }
 
 /// Appends a number in decimal.
 pub fn put_number(out: &mut Bytes, alloc: Global, number: u32) -> Result<(), NoMemory>
     ensures ok { OnOk result (out.new ≡ out.old ++ decimal number) }
+    ensures err { OnErr result (out.new ≡ out.old) }
 {
     let text = number.to_string(alloc)?;
     out.append(text.as_bytes())
@@ -39,6 +58,7 @@ pub fn put_number(out: &mut Bytes, alloc: Global, number: u32) -> Result<(), NoM
 /// Appends bytes as a byte word.
 pub fn put_word(out: &mut Bytes, alloc: Global, bytes: &[u8]) -> Result<(), NoMemory>
     ensures ok { OnOk result (out.new ≡ out.old ++ bytes_word bytes.now) }
+    ensures err { OnErr result (out.new ≡ out.old) }
 {
     match bytes {
         [] => out.append(b"%"),
@@ -49,6 +69,7 @@ pub fn put_word(out: &mut Bytes, alloc: Global, bytes: &[u8]) -> Result<(), NoMe
 fn put_some(out: &mut Bytes, alloc: Global, bytes: &[u8]) -> Result<(), NoMemory>
     requires { 0 < length bytes.now }
     ensures ok { OnOk result (out.new ≡ out.old ++ (if list_all plain_test bytes.now then bytes.now else 37 ∷ encode_lower bytes.now)) }
+    ensures err { OnErr result (out.new ≡ out.old) }
 {
     if are_plain(bytes) {
         return out.append(bytes);
@@ -58,47 +79,40 @@ fn put_some(out: &mut Bytes, alloc: Global, bytes: &[u8]) -> Result<(), NoMemory
 
 fn put_hex(out: &mut Bytes, alloc: Global, bytes: &[u8]) -> Result<(), NoMemory>
     ensures ok { OnOk result (out.new ≡ out.old ++ 37 ∷ encode_lower bytes.now) }
+    ensures err { OnErr result (out.new ≡ out.old) }
 {
-    let text = hex::encode(alloc, bytes)?;
-    out.append(b"%")?;
-    out.append(text.as_bytes())
+    let digits = hex::encode(alloc, bytes)?;
+    let mut word = Bytes::new(alloc);
+    word.append(b"%")?;
+    word.append(digits.as_bytes())?;
+    out.append(word.as_slice())
 }
+
+/// Appends an operation, as in a line that calls it.
+pub fn put_op(out: &mut Bytes, alloc: Global, op: &Op) -> Result<(), NoMemory>
+    ensures ok { OnOk result (out.new ≡ out.old ++ op_words op.now) }
+    ensures err { OnErr result (out.new ≡ out.old) }
+{
+    let text = op_text(alloc, op)?;
+    out.append(text.as_slice())
+}
+
+/// Appends an outcome.
+pub fn put_outcome(out: &mut Bytes, alloc: Global, outcome: &Outcome) -> Result<(), NoMemory>
+    ensures ok { OnOk result (out.new ≡ out.old ++ outcome_words outcome.now) }
+    ensures err { OnErr result (out.new ≡ out.old) }
+{
+    let text = outcome_text(alloc, outcome)?;
+    out.append(text.as_slice())
+}
+
+// ---- parts of a text that is being made; where memory runs out, some of the part may stand there
 
 fn put_named(out: &mut Bytes, alloc: Global, name: &[u8], bytes: &Bytes) -> Result<(), NoMemory>
     ensures ok { OnOk result (out.new ≡ out.old ++ name.now ++ bytes_word bytes.now) }
 {
     out.append(name)?;
     put_word(out, alloc, bytes.as_slice())
-}
-
-/// Appends an operation, as in a line that calls it.
-pub fn put_op(out: &mut Bytes, alloc: Global, op: &Op) -> Result<(), NoMemory>
-    ensures ok { OnOk result (out.new ≡ out.old ++ op_words op.now) }
-{
-    match op {
-        Op::Put(key, value) => {
-            put_named(out, alloc, b"put ", key)?;
-            put_named(out, alloc, b" ", value)
-        }
-        Op::Get(key) => put_named(out, alloc, b"get ", key),
-        Op::Del(key) => put_named(out, alloc, b"del ", key),
-        Op::List(prefix) => put_named(out, alloc, b"list ", prefix),
-    }
-}
-
-/// Appends an outcome.
-pub fn put_outcome(out: &mut Bytes, alloc: Global, outcome: &Outcome) -> Result<(), NoMemory>
-    ensures ok { OnOk result (out.new ≡ out.old ++ outcome_words outcome.now) }
-{
-    match outcome {
-        Outcome::Done(answer) => {
-            out.append(b"done ")?;
-            put_answer(out, alloc, answer)
-        }
-        Outcome::Aborted(position) => put_numbered(out, alloc, b"aborted ", *position),
-        Outcome::Refused(reason) => put_numbered(out, alloc, b"refused ", u32::from(*reason)),
-        Outcome::Halted(check) => put_numbered(out, alloc, b"halted ", u32::from(*check)),
-    }
 }
 
 fn put_numbered(out: &mut Bytes, alloc: Global, name: &[u8], number: u32) -> Result<(), NoMemory>
