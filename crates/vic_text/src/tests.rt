@@ -1,9 +1,92 @@
-use crate::read_line;
+use crate::{op_text, outcome_text, read_line};
 use std::alloc::Global;
 use std::test::Fail;
-use vic_dict::Mode;
+use vic_dict::{Answer, Bytes, Mode, Names, Op, Outcome};
 
 const NONE: &str = "Err(Grammar)";
+
+/// A text, and what it reads as.
+type Row = (&'static str, &'static str);
+
+/// Lines of both modes, once the mode is known.
+const LINES: [Row; 36] = [
+    ("poll 1", "Ok(Poll(1))"),
+    ("sync 2", "Ok(Sync(2))"),
+    ("serve 3", "Ok(Serve(3))"),
+    ("take 4", "Ok(Take(4))"),
+    ("run 5", "Ok(Run(5))"),
+    ("give 1 %", "Ok(Give(1, Bytes { items: [] }))"),
+    ("give 1 %4243", "Ok(Give(1, Bytes { items: [66, 67] }))"),
+    ("give 1 BC", "Ok(Give(1, Bytes { items: [66, 67] }))"),
+    ("give 1 %4", NONE),
+    ("give 1 %AB", NONE),
+    ("give 1", NONE),
+    ("give 1 a b", NONE),
+    ("again 1", "Ok(Again(1))"),
+    ("again 01", NONE),
+    ("again 1 2", NONE),
+    ("flip 1 0", "Ok(Flip(1, 0))"),
+    ("flip 2 7", "Ok(Flip(2, 7))"),
+    ("flip 1 00", NONE),
+    ("flip 1 99999999999", "Ok(Flip(1, 4294967295))"),
+    ("resend 3", "Ok(Resend(3))"),
+    ("resend 4294967296", "Ok(Resend(4294967295))"),
+    ("copy 9 1", "Ok(Copy(9, 1))"),
+    ("copy 1 4", "Ok(Copy(1, 4))"),
+    ("copy 99999999999 2", "Ok(Copy(4294967295, 2))"),
+    ("copy 1 0", NONE),
+    ("copy 1 5", NONE),
+    ("copy 1 4294967297", NONE),
+    ("copy 1 2 ", NONE),
+    ("move 1 0", "Ok(Move(1, 0))"),
+    ("move 99999999999 9", "Ok(Move(4294967295, 9))"),
+    ("move 1  2", NONE),
+    (" poll 1", NONE),
+    ("poll 1 ", NONE),
+    ("poll\t1", NONE),
+    ("poll", NONE),
+    ("", NONE),
+];
+
+/// Lines of mode plain alone.
+const CALLS: [Row; 14] = [
+    (
+        "call 1 put a %20",
+        "Ok(Call(1, Put(Bytes { items: [97] }, Bytes { items: [32] })))",
+    ),
+    (
+        "call 2 put %ab %",
+        "Ok(Call(2, Put(Bytes { items: [171] }, Bytes { items: [] })))",
+    ),
+    (
+        "call 3 get a/",
+        "Ok(Call(3, Get(Bytes { items: [97, 47] })))",
+    ),
+    (
+        "call 4294967296 del B",
+        "Ok(Call(4294967295, Del(Bytes { items: [66] })))",
+    ),
+    ("call 5 list %", "Ok(Call(5, List(Bytes { items: [] })))"),
+    ("call 01 get a", NONE),
+    ("call 1 get", NONE),
+    ("call 1 get %", NONE),
+    ("call 1 get %AB", NONE),
+    ("call 1 get %a", NONE),
+    ("call 1 get a b", NONE),
+    ("call 1 put a", NONE),
+    ("call 1 put a b c", NONE),
+    ("call 1  get a", NONE),
+];
+
+/// Lines that are read before the mode is known, too.
+const HEADERS: [Row; 6] = [
+    ("clients 1", "Ok(Clients(1))"),
+    ("clients 64", "Ok(Clients(64))"),
+    ("clients 0", NONE),
+    ("clients 65", NONE),
+    ("clients 01", NONE),
+    ("clients 4294967297", NONE),
+];
 
 /// What a text reads as.
 fn shown(alloc: Global, text: &str, mode: Option<Mode>) -> Result<String, Fail> {
@@ -11,44 +94,87 @@ fn shown(alloc: Global, text: &str, mode: Option<Mode>) -> Result<String, Fail> 
     Ok(format!(in alloc; "{read:?}")?)
 }
 
-// What the lines of the two modes read as; before the mode is known, none of them is a line.
+// What lines read as in a group of mode plain, in one of mode objects, and before the mode is known.
 #[test]
 fn lines(rt: HostRuntime) -> Result<(), Fail> {
-    let rows = [
-        ("give 1 %", "Ok(Give(1, Bytes { items: [] }))"),
-        ("give 1 %4243", "Ok(Give(1, Bytes { items: [66, 67] }))"),
-        ("give 1 BC", "Ok(Give(1, Bytes { items: [66, 67] }))"),
-        ("give 1 %4", NONE),
-        ("give 1", NONE),
-        ("give 1 a b", NONE),
-        ("again 1", "Ok(Again(1))"),
-        ("again 01", NONE),
-        ("again 1 2", NONE),
-        ("flip 1 0", "Ok(Flip(1, 0))"),
-        ("flip 2 7", "Ok(Flip(2, 7))"),
-        ("flip 1 00", NONE),
-        ("flip 1 99999999999", "Ok(Flip(1, 4294967295))"),
-        ("resend 3", "Ok(Resend(3))"),
-        ("resend 4294967296", "Ok(Resend(4294967295))"),
-        ("copy 9 1", "Ok(Copy(9, 1))"),
-        ("copy 1 4", "Ok(Copy(1, 4))"),
-        ("copy 99999999999 2", "Ok(Copy(4294967295, 2))"),
-        ("copy 1 0", NONE),
-        ("copy 1 5", NONE),
-        ("copy 1 4294967297", NONE),
-        ("copy 1 2 ", NONE),
-        ("move 1 0", "Ok(Move(1, 0))"),
-        ("move 99999999999 9", "Ok(Move(4294967295, 9))"),
-        ("move 1  2", NONE),
-        ("call 1 get", NONE),
+    let tables = [
+        (LINES.as_slice(), [true, true, false]),
+        (CALLS.as_slice(), [true, false, false]),
+        (HEADERS.as_slice(), [true, true, true]),
     ];
-    for (line, want) in rows.iter() {
-        let plain = shown(rt.alloc(), line, Some(Mode::Plain))?;
-        assert_eq!(rt; plain.as_str(), *want, "{line}, plain");
-        let objects = shown(rt.alloc(), line, Some(Mode::Objects))?;
-        assert_eq!(rt; objects.as_str(), *want, "{line}, objects");
-        let unknown = shown(rt.alloc(), line, None)?;
-        assert_eq!(rt; unknown.as_str(), NONE, "{line}, no mode");
+    let modes = [Some(Mode::Plain), Some(Mode::Objects), None];
+    for (rows, known) in tables {
+        for (line, want) in rows {
+            for (mode, is_known) in modes.iter().zip(&known) {
+                let read = shown(rt.alloc(), line, *mode)?;
+                let right = if *is_known { *want } else { NONE };
+                assert_eq!(rt; read.as_str(), right, "{line}, {mode:?}");
+            }
+        }
+    }
+    Ok(())
+}
+
+// A key and a prefix may have 255 bytes, and a value 64.
+#[test]
+fn longest(rt: HostRuntime) -> Result<(), Fail> {
+    for (front, most) in [
+        ("call 1 get ", 255),
+        ("call 1 list ", 255),
+        ("call 1 put a ", 64),
+    ] {
+        for count in [most, most + 1] {
+            let line = format!(in rt.alloc(); "{front}{}", "a".repeat(rt.alloc(), count)?)?;
+            let read = shown(rt.alloc(), line.as_str(), Some(Mode::Plain))?;
+            assert!(rt; (read.as_str() == NONE) == (count > most), "{front}{count}");
+        }
+    }
+    Ok(())
+}
+
+// What operations and outcomes are printed as.
+#[test]
+fn printed(rt: HostRuntime) -> Result<(), Fail> {
+    let alloc = rt.alloc();
+    let ops = [
+        (
+            Op::Put(Bytes::of(alloc, b"a")?, Bytes::of(alloc, b" ")?),
+            "put a %20",
+        ),
+        (Op::Get(Bytes::of(alloc, b"a.B_9-/")?), "get a.B_9-/"),
+        (Op::Del(Bytes::of(alloc, b"a%\xff")?), "del %6125ff"),
+        (Op::List(Bytes::new(alloc)), "list %"),
+    ];
+    for (op, want) in &ops {
+        assert_eq!(rt; op_text(alloc, op)?.as_slice(), want.as_bytes(), "{want}");
+    }
+    let mut names = Names::new(alloc);
+    names.push(Bytes::of(alloc, b"a")?)?;
+    names.push(Bytes::of(alloc, b"b")?)?;
+    let outcomes = [
+        (Outcome::Done(Answer::Stored), "done stored"),
+        (
+            Outcome::Done(Answer::Found(Bytes::of(alloc, b" ")?)),
+            "done value %20",
+        ),
+        (Outcome::Done(Answer::NotFound), "done none"),
+        (Outcome::Done(Answer::Removed), "done removed"),
+        (Outcome::Done(Answer::Absent), "done absent"),
+        (
+            Outcome::Done(Answer::Names(Names::new(alloc))),
+            "done names",
+        ),
+        (Outcome::Done(Answer::Names(names)), "done names a b"),
+        (Outcome::Aborted(7), "aborted 7"),
+        (Outcome::Refused(2), "refused 2"),
+        (Outcome::Halted(5), "halted 5"),
+    ];
+    for (outcome, want) in &outcomes {
+        assert_eq!(rt;
+            outcome_text(alloc, outcome)?.as_slice(),
+            want.as_bytes(),
+            "{want}"
+        );
     }
     Ok(())
 }
