@@ -6,12 +6,14 @@ use Rattle.vic_rules.specs.History.{IsLawful}
 use Rattle.vic_rules.specs.Headline.{Headline}
 use Rattle.vic_rules.specs.Trust.{IsForged}
 use Rattle.vic_laws.specs.Claims.{HashesTellPathsIn, SealsHoldIn}
+use Rattle.vic_laws.specs.OrderClaims.{CompletedOnceIn, DoneMeetsNoConflictIn}
 use Rattle.vic_ports.specs.Causes.{Rose, IsSpent, LeavesBehind}
 use Rattle.vic_ports.specs.Written.{AppendedAll, AppendedFront}
 use Rattle.vic_order.specs.Order.{Server}
 use Rattle.vic_script.specs.Scenes.{Scene, server_at}
 use Rattle.vic_script.specs.Run.{limit, Bad, run_of, is_honest_script, group_of, history_of, bad_line_of}
 use Rattle.vic_script.specs.Print.{print_of_script, is_forged, all_views, all_agreements, tags_line}
+use Rattle.vic_runs.specs.Agreements.{AgreementsCountIn}
 use Rattle.vic_runs.specs.Claims.{IsRunOf, line_of_step}
 use Rattle.vic_runs.specs.Reached.{IsHonestScene}
 use Rattle.vic_group.specs.declared.status.Status.{Status}
@@ -100,6 +102,12 @@ pub record IsAsClaimed (script : List ℕ) : Type 0 where
   pub seals : SealsHoldIn (group_of script) (history_of script)
   -- the claim on the views of all clients
   pub views : Headline (group_of script) (history_of script)
+  -- a call has one completion
+  pub once : CompletedOnceIn (group_of script) (history_of script)
+  -- a call that is done conflicts with no entry of another client above the seal of its Reply and below the call
+  pub no_conflict : DoneMeetsNoConflictIn (group_of script) (history_of script)
+  -- each call that stands in two clients' views stands within the number that is printed for the two
+  pub agreed : AgreementsCountIn (group_of script) (history_of script)
   -- the test that decides between the statuses 0 and 1, and that the print tells, is true exactly where a tag is forged
   pub tags : (is_forged (group_of script) (history_of script) ≡ true) ↔ IsForged (group_of script) (history_of script)
   -- where no line is bad, the print has what the lines printed, the views, how far they agree, and that test's answer

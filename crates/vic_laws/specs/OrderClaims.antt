@@ -58,10 +58,13 @@ ConfirmedByOwner = (g : Group) (h : List TraceStep) → IsLawful g h → (e : En
 -- ---- decisions
 
 -- a call that its client decided as done conflicts with no entry of another client that stands above the seal of the Reply and below the call
-abbrev pub DoneMeetsNoConflict : Type 0
-DoneMeetsNoConflict = (g : Group) (h : List TraceStep) → IsLawful g h → (later : List TraceStep) (x : TraceStep) (past : List TraceStep) → h ≡ later ++ x ∷ past
+abbrev pub DoneMeetsNoConflictIn : Group → List TraceStep → Type 0
+DoneMeetsNoConflictIn g h = (later : List TraceStep) (x : TraceStep) (past : List TraceStep) → h ≡ later ++ x ∷ past
     → (seal : Seal) (entries : List Tagged) (part : List ℕ) → took g past x ≡ Some (say.Reply seal entries part) → (e : Entry) (below : List Entry) → path g x.client (x ∷ past) ≡ e ∷ below
     → (a : Answer) → x.returned ≡ Some (outcome.Done a) → (u : ℕ) → seal.position < u → PassesAt (is_in_the_way x.client e.op) below u → ⊥
+
+abbrev pub DoneMeetsNoConflict : Type 0
+DoneMeetsNoConflict = (g : Group) (h : List TraceStep) → IsLawful g h → DoneMeetsNoConflictIn g h
 
 -- a call is aborted exactly by the least position of such an entry
 abbrev pub AbortedByTheLeast : Type 0
@@ -72,9 +75,12 @@ AbortedByTheLeast = (g : Group) (h : List TraceStep) → IsLawful g h → (later
 -- ---- completions
 
 -- a call has one completion
-abbrev pub CompletedOnce : Type 0
-CompletedOnce = (g : Group) (h : List TraceStep) → IsLawful g h → (c d : Completion) → IsIn (completions g h) c → IsIn (completions g h) d
+abbrev pub CompletedOnceIn : Group → List TraceStep → Type 0
+CompletedOnceIn g h = (c d : Completion) → IsIn (completions g h) c → IsIn (completions g h) d
     → (e f : Entry) (p q : List Entry) → c.prefix ≡ e ∷ p → d.prefix ≡ f ∷ q → IsSameCall e f → c ≡ d
+
+abbrev pub CompletedOnce : Type 0
+CompletedOnce = (g : Group) (h : List TraceStep) → IsLawful g h → CompletedOnceIn g h
 
 -- a call is completed with this outcome, on some path
 pub record CompletedAs (g : Group) (h : List TraceStep) (e : Entry) (o : Outcome) : Type 0 where
