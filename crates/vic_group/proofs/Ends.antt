@@ -4,7 +4,6 @@ use Rattle.std.specs.Prelude.{IfSome, IsSome}
 use Rattle.std.proofs.lemmas.List.{append-nil}
 use Rattle.vic_ports.specs.Causes.{LeavesBehind}
 use Rattle.vic_ports.specs.Written.{AppendedAll, AppendedFront}
-use Rattle.vic_dict.specs.Lists.{AreBytes}
 use Rattle.vic_script.specs.Run.{limit, Bad, Played, run_of, is_honest_script, bad_line_of, group_in, history_in, group_of, history_of}
 use Rattle.vic_script.specs.Print.{print_of, print_of_script, is_forged, all_views, all_agreements, tags_line, end_text}
 use Rattle.vic_laws.proofs.Agreement.{completed_once}
@@ -21,7 +20,7 @@ use Rattle.vic_group.specs.declared.play.End.TheVariants as end
 use Rattle.vic_group.specs.declared.status.Status.{Status}
 use Rattle.vic_group.specs.declared.status.Status.TheVariants as status
 use Rattle.vic_group.specs.Words.{usage_line, read_fault_line}
-use Rattle.vic_group.specs.Ends.{Taken, Given, taken_of, IsReadWhole, IsOutput, IsDone, done_status, Ends, IsComplete, IsHonest, IsAsClaimed, ClaimHolds}
+use Rattle.vic_group.specs.Ends.{Taken, Given, taken_of, IsReadWhole, IsOutput, IsDone, done_status, Ends, IsComplete, IsHonest, IsAsClaimed}
 use Rattle.vic_group.specs.Playing.{ended_by, end_of}
 use Rattle.vic_group.specs.Output.{Composes, ComposesRun, Finishes}
 use Rattle.vic_group.proofs.Spans.{run-front, long-bad}
@@ -185,17 +184,17 @@ said_last : (p : Played) → p.bad ≡ None
 unfolding print_of
 said_last p good = ap (λ b. p.text ++ end_text (group_in p.scene) (history_in p.scene) b) good
 
-honestly : (script : List ℕ) → AreBytes script → is_honest_script script ≡ true → IsHonest script
-honestly script bytes honest = record {
-  run = (run_is_honest script bytes honest).run;
-  tags_made = (none_forged script bytes honest).0;
-  scene = (run_is_honest script bytes honest).scene;
-  none_halted = none_for_halting script bytes honest;
+honestly : (script : List ℕ) → is_honest_script script ≡ true → IsHonest script
+honestly script honest = record {
+  run = (run_is_honest script honest).run;
+  tags_made = (none_forged script honest).0;
+  scene = (run_is_honest script honest).scene;
+  none_halted = none_for_halting script honest;
 }
 
-claimed : (script : List ℕ) → AreBytes script → IsAsClaimed script
-claimed script bytes =
-    let good = all_hold script bytes in
+claimed : (script : List ℕ) → IsAsClaimed script
+claimed script =
+    let good = all_hold script in
     record {
       lawful = good.lawful;
       paths = λ i j m n. hashes_tell_paths (group_of script) (history_of script) good.lawful.steps i j m n;
@@ -207,9 +206,9 @@ claimed script bytes =
       tags = is_forged-Decides (group_of script) (history_of script);
       says_so = said_last (run_of script);
       prints = prints_returns script;
-      honest = honestly script bytes;
+      honest = honestly script;
     }
 
-pub claims_in : (old : Option (List ℕ)) → IfSome old ClaimHolds
+pub claims_in : (old : Option (List ℕ)) → IfSome old IsAsClaimed
 claims_in None = tt
 claims_in (Some script) = claimed script

@@ -3,7 +3,6 @@ use Rattle.std.proofs.Common.{◌≡◌, ℕ, ◌+◌, ◌-◌, ◌<◌, ◌≤�
 use Rattle.std.proofs.lemmas.Bool.{le-ltb, lt-ltb}
 use Rattle.std.specs.Prelude.{IfOk, if◌then◌else◌, nat_lt}
 use Rattle.std.proofs.lemmas.List.{take_all}
-use Rattle.vic_dict.specs.Lists.{AreBytes}
 use Rattle.vic_dict.specs.declared.op.Mode.{Mode}
 use Rattle.vic_dict.specs.declared.op.Mode.TheVariants as mode
 use Rattle.vic_wire.specs.Hashes.{Group}
@@ -71,12 +70,12 @@ follows-tried n (Fails kind) w old new r h = absurd (none-some kind h.0)
 follows-tried n (Does s text) w old new r h = (refl, (h.1.0, (h.1.1, r)))
 
 -- a line within the limit that was done
-pub follows_none : (place n : ℕ) (s : Scene) (text : List ℕ) (w : World Server) (old new : List ℕ) → place ≤ limit → IsReached s n → n + 1 < 2 ^ 32 → AreBytes text
+pub follows_none : (place n : ℕ) (s : Scene) (text : List ℕ) (w : World Server) (old new : List ℕ) → place ≤ limit → IsReached s n → n + 1 < 2 ^ 32
     → Tries (try_line (Some s) (line_of (Some mode.Plain) text)) w old new None → Follows n (tried_at place s text) w old new None
-follows_none place n s text w old new within r few bytes h =
+follows_none place n s text w old new within r few h =
     let t : Tried = try_line (Some s) (line_of (Some s.group.mode) text) in
     let done : Tries t w old new None = subst (λ (m : Mode). Tries (try_line (Some s) (line_of (Some m) text)) w old new None) (sym r.plain) h in
-    let reaches : TriedReaches t (n + 1) = tried (Some s) (line_of (Some s.group.mode) text) n r few (text_fits (Some s.group.mode) text bytes) in
+    let reaches : TriedReaches t (n + 1) = tried (Some s) (line_of (Some s.group.mode) text) n r few (text_fits (Some s.group.mode) text) in
     subst (λ (b : Bool). Follows n (if b then Fails 7 else t) w old new None) (sym (le-ltb limit place within)) (follows-tried n t w old new reaches done)
 
 -- ---- the lines behind the first one

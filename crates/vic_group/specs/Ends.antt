@@ -1,7 +1,6 @@
 -- How the command on a script ends: what was read, what was written, and why.
 use Rattle.std.specs.Prelude.{◌≡◌, ℕ, ◌<◌, ◌⊎◌, ◌↔◌, Bool, true, false, List, ◌++◌, length, reverse, Option, Some, None, IsSome, IfSome}
 use Rattle.std.specs.List.{flat_map}
-use Rattle.vic_dict.specs.Lists.{AreBytes}
 use Rattle.vic_rules.specs.History.{IsLawful}
 use Rattle.vic_rules.specs.Headline.{Headline}
 use Rattle.vic_rules.specs.Trust.{IsForged}
@@ -117,7 +116,3 @@ pub record IsAsClaimed (script : List ℕ) : Type 0 where
   pub prints : (run_of script).text ≡ flat_map line_of_step (reverse (history_of script))
   -- where no line tampers, it is as with one honest server
   pub honest : is_honest_script script ≡ true → IsHonest script
-
--- and it holds of every script of bytes
-abbrev pub ClaimHolds : List ℕ → Type 0
-ClaimHolds script = AreBytes script → IsAsClaimed script

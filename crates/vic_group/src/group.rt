@@ -4,7 +4,7 @@ ghost use Rattle.std.specs.Prelude.{◌≡◌, ◌≢◌, ◌⊎◌, IfSome, Som
 ghost use Rattle.vic_script.specs.Run.{bad_line_of, group_of, history_of};
 ghost use Rattle.vic_script.specs.Print.{is_forged};
 ghost use Rattle.vic_group.specs.Words.{is_group};
-ghost use Rattle.vic_group.specs.Ends.{Ends, IsComplete, IsAsClaimed, ClaimHolds, done_status, taken_of, given_of};
+ghost use Rattle.vic_group.specs.Ends.{Ends, IsComplete, IsAsClaimed, done_status, taken_of, given_of};
 ghost use Rattle.vic_group.specs.Output.{Composes, ComposesRun, ComposesNone, text_bytes};
 
 use crate::finish::finish;
@@ -89,7 +89,7 @@ pub fn run_group<S: Source, K: Sink>(
     sink: &mut K,
 ) -> Status
     ensures ends { Ends (is_group (map string_bytes words.now)) (taken_of (S.left source.old) (S.left source.new) (S.faults source.old) (S.faults source.new) (S.ended source.new)) (given_of (K.held sink.old) (K.held sink.new) (K.faults sink.old) (K.faults sink.new)) result }
-    ensures claim { IfSome (S.left source.old) ClaimHolds }
+    ensures claim { IfSome (S.left source.old) IsAsClaimed }
     ensures complete { IsComplete (is_group (map string_bytes words.now)) (taken_of (S.left source.old) (S.left source.new) (S.faults source.old) (S.faults source.new) (S.ended source.new)) (given_of (K.held sink.old) (K.held sink.new) (K.faults sink.old) (K.faults sink.new)) result }
 {
     let composed = compose(alloc, is_right(words), source);
@@ -109,6 +109,5 @@ pub fn run_in_memory(
     ensures reads { result ≢ Status.ReadFault }
     ensures writes { result ≢ Status.WriteFault }
 {
-    source.inner().are_bytes();
     run_group(alloc, words, source, sink)
 }

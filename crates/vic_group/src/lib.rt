@@ -1,9 +1,9 @@
 //! The command on a script of a group: its clients with their queues, its servers, the world in which its lines happen, what is
 //! printed, and how the command ends.
 //!
-//! The contract of [`run_group`] carries `Ends`, `ClaimHolds` and `IsComplete` of `specs/Ends.antt`. That of `World::apply` says, for
-//! servers of any kind, that a line is done as `done_line` says, or bad by `bad_kind`, or found no memory and left what `IsLeft` says.
-//! [`laws`] has what holds of every lawful history, whatever the server sends.
+//! The contract of [`run_group`] carries `Ends`, `IsAsClaimed` and `IsComplete` of `specs/Ends.antt`. That of `World::apply`
+//! says, for servers of any kind, that a line is done as `done_line` says, or bad by `bad_kind`, or found no memory and left what
+//! `IsLeft` says. [`laws`] has what holds of every lawful history, whatever the server sends.
 #![tactic(auto)]
 
 pub mod finish;

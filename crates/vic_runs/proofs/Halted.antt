@@ -1,6 +1,5 @@
 -- No line of an honest script is bad for that its client has halted.
 use Rattle.std.proofs.Common.{◌≡◌, ℕ, ◌+◌, Bool, true, false, List, [], ◌∷◌, Option, Some, None, is_none, refl, ap, subst, arith}
-use Rattle.vic_dict.specs.Lists.{AreBytes}
 use Rattle.vic_rules.specs.Client.{first_failing, awaits_nothing}
 use Rattle.vic_order.specs.Order.{Server}
 use Rattle.vic_order.specs.Serving.{by_rule}
@@ -117,12 +116,12 @@ each_line = record {
   done = λ n s h. tt;
   long = λ n number scene h. λ e. absurd (omega (arith, e));
   line = λ n scene text h few good.
-      let honest : HonestFor scene (line_of (mode_in scene) text) = honest_for scene n text h good.1 in
-      goes n scene (try_line scene (line_of (mode_in scene) text)) (honest_tried scene (line_of (mode_in scene) text) n h few (text_fits (mode_in scene) text good.0) honest) (fails scene (line_of (mode_in scene) text) n h honest);
+      let honest : HonestFor scene (line_of (mode_in scene) text) = honest_for scene n text h good in
+      goes n scene (try_line scene (line_of (mode_in scene) text)) (honest_tried scene (line_of (mode_in scene) text) n h few (text_fits (mode_in scene) text) honest) (fails scene (line_of (mode_in scene) text) n h honest);
 }
 
-bad-run : (script : List ℕ) → AreBytes script → is_honest_script script ≡ true → IsOtherwise (run_of script).bad
-bad-run script bytes honest = claimed-run IsHonestText StandsHonest LeavesOtherwise each_line tt script (honest-texts script bytes honest)
+bad-run : (script : List ℕ) → is_honest_script script ≡ true → IsOtherwise (run_of script).bad
+bad-run script honest = claimed-run IsHonestText StandsHonest LeavesOtherwise each_line tt script (honest-texts script honest)
 
 pub none_for_halting : NoLineIsHalted
-none_for_halting script bytes honest b is = subst IsOtherwise is (bad-run script bytes honest)
+none_for_halting script honest b is = subst IsOtherwise is (bad-run script honest)

@@ -26,11 +26,6 @@ pub all-replicate : {X : Type 0} (P : X → Type 0) (n : ℕ) (x : X) → P x �
 all-replicate P zero x h = tt
 all-replicate P (suc n) x h = (h, all-replicate P n x h)
 
--- two things that hold of each item hold together
-pub all_both : {X : Type 0} (P Q : X → Type 0) (xs : List X) → AllByRecursion P xs → AllByRecursion Q xs → AllByRecursion (λ x. P x × Q x) xs
-all_both P Q [] a b = tt
-all_both P Q (x ∷ xs) a b = ((a.0, b.0), all_both P Q xs a.1 b.1)
-
 -- what holds of everything holds of each item
 pub all_each : {X : Type 0} (P : X → Type 0) → ((x : X) → P x) → (xs : List X) → AllByRecursion P xs
 all_each P each [] = tt

@@ -8,6 +8,10 @@ use Rattle.vic_script.specs.Scenes.{Scene}
 use Rattle.vic_script.specs.Run.{limit, Played, stops, printed_before, Tried, Fails, Does, try_line, mode_in, follow, place_behind, play, run_of}
 use Rattle.vic_runs.proofs.Words.{length-lines_of}
 
+-- nothing is asked of a line's text
+abbrev pub AnyText : List ℕ → Type 0
+AnyText text = Unit {0}
+
 -- what is good of each line's text, what holds where a script stands after so many lines, and what is claimed of a run from there
 module _ (Good : List ℕ → Type 0) (At : ℕ → Option Scene → Type 0) (Claimed : Option Scene → Played → Type 0) where
   -- of a line that was tried after n others: what is claimed of a run that it ends, or how it leads on

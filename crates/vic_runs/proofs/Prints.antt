@@ -17,7 +17,7 @@ use Rattle.vic_runs.proofs.Lists.{all_each}
 use Rattle.vic_runs.proofs.Scenes.{step_by, serves-group, takes_aloud-group, serves-waits}
 use Rattle.vic_runs.proofs.Seats.{IsSeated, seated-opening, seated-server, seated-serves, seated-takes_aloud, seated-line}
 use Rattle.vic_runs.proofs.Tests.{client_first, passed_last, waits_is, full, has_byte_waits}
-use Rattle.vic_runs.proofs.Plays.{GoesSo, EachLine, claimed-run}
+use Rattle.vic_runs.proofs.Plays.{AnyText, GoesSo, EachLine, claimed-run}
 
 -- what the steps of a history tell, the oldest first
 abbrev pub told : List TraceStep → List ℕ
@@ -154,9 +154,6 @@ tells (Some s) None seats = tt
 tells (Some s) (Some l) seats = tells-by s (bad_kind s l) (done_line by_rule s l) (λ good. (seated-line by_rule s l seats good, told-line by_rule s l seats good))
 
 -- ---- all lines
-
-abbrev AnyText : List ℕ → Type 0
-AnyText text = Unit {0}
 
 abbrev StandsSeated : ℕ → Option Scene → Type 0
 StandsSeated n scene = SeatedIn scene

@@ -3,7 +3,6 @@ use Rattle.std.proofs.Common.{◌≡◌, ℕ, ◌+◌, ◌<◌, ◌≤◌, ◌^�
 use Rattle.std.specs.List.{AllByRecursion}
 use Rattle.std.proofs.lemmas.List.{length-take}
 use Rattle.std.proofs.lemmas.Option.{same_Some}
-use Rattle.vic_dict.specs.Lists.{AreBytes}
 use Rattle.vic_dict.specs.declared.op.Mode.TheVariants as mode
 use Rattle.vic_wire.specs.Hashes.{Group}
 use Rattle.vic_rules.specs.History.{IsLawful}
@@ -13,7 +12,6 @@ use Rattle.vic_laws.proofs.Words.{all_true}
 use Rattle.vic_order.specs.Order.{Server, fresh_server, ready}
 use Rattle.vic_order.specs.Serving.{by_rule}
 use Rattle.vic_order.specs.Honest.{Event, IsHonestRun, world_after}
-use Rattle.vic_spellings.proofs.Steps.{bytes-take}
 use Rattle.vic_script.specs.declared.line.Line.{Line}
 use Rattle.vic_script.specs.declared.line.Line.TheVariants as line
 use Rattle.vic_script.specs.Lines.{lines_of, line_of}
@@ -22,14 +20,14 @@ use Rattle.vic_script.specs.Run.{limit, Played, plain_group, Tried, Fails, Does,
 use Rattle.vic_runs.specs.Claims.{RunsAreLawful, NothingIsForged, IsRunOf, RunsAreHonest, ClaimsHold}
 use Rattle.vic_runs.specs.Reached.{IsReached, IsHonestlyReached, IsHonestScene, IsSame}
 use Rattle.vic_runs.proofs.Forged.{is_forged-none}
-use Rattle.vic_runs.proofs.Lists.{all_both}
-use Rattle.vic_runs.proofs.Words.{FitsIn, text_fits, lines-bytes}
+use Rattle.vic_runs.proofs.Lists.{all_each}
+use Rattle.vic_runs.proofs.Words.{FitsIn, text_fits}
 use Rattle.vic_runs.proofs.Reached.{reached-more, reached-opening, reached-lawful}
 use Rattle.vic_runs.proofs.Lines.{few_calls, reached-line}
 use Rattle.vic_runs.proofs.Kept.{same_is_kept}
 use Rattle.vic_runs.proofs.Honest.{honest-more, honest-opening, honest-line}
 use Rattle.vic_runs.proofs.HonestScenes.{honest-unforged, honest_is_honest_scene}
-use Rattle.vic_runs.proofs.Plays.{GoesSo, EachLine, claimed-run}
+use Rattle.vic_runs.proofs.Plays.{AnyText, GoesSo, EachLine, claimed-run}
 
 -- what is known of a script has at most as many bytes
 pub length-taken : (n : ℕ) (bs : List ℕ) → length (take n bs) ≤ n
@@ -82,21 +80,21 @@ StandsReached n scene = ReachedIn scene n
 abbrev LeavesReached : Option Scene → Played → Type 0
 LeavesReached scene p = (m : ℕ) × ReachedIn p.scene m
 
-goes : (n : ℕ) (scene : Option Scene) (t : Tried) → ReachedIn scene n → TriedReaches t (n + 1) → GoesSo AreBytes StandsReached LeavesReached n scene t
+goes : (n : ℕ) (scene : Option Scene) (t : Tried) → ReachedIn scene n → TriedReaches t (n + 1) → GoesSo AnyText StandsReached LeavesReached n scene t
 goes n scene (Fails kind) h r = λ number. (n, h)
 goes n scene (Does s text) h r = (r, λ p claim. claim)
 
-each_line : EachLine AreBytes StandsReached LeavesReached
+each_line : EachLine AnyText StandsReached LeavesReached
 each_line = record {
   closed = λ number. (0, tt);
   done = λ n s h. (n, h);
   long = λ n number scene h. (n, h);
-  line = λ n scene text h few bytes. goes n scene (try_line scene (line_of (mode_in scene) text)) h (tried scene (line_of (mode_in scene) text) n h few (text_fits (mode_in scene) text bytes));
+  line = λ n scene text h few good. goes n scene (try_line scene (line_of (mode_in scene) text)) h (tried scene (line_of (mode_in scene) text) n h few (text_fits (mode_in scene) text));
 }
 
--- a script of bytes reaches the scene that it leaves
-pub reached-run : (script : List ℕ) → AreBytes script → (n : ℕ) × ReachedIn (run_of script).scene n
-reached-run script bytes = claimed-run AreBytes StandsReached LeavesReached each_line tt script (lines-bytes (take (limit + 1) script) (bytes-take (limit + 1) script bytes))
+-- a script reaches the scene that it leaves
+pub reached-run : (script : List ℕ) → (n : ℕ) × ReachedIn (run_of script).scene n
+reached-run script = claimed-run AnyText StandsReached LeavesReached each_line tt script (all_each AnyText (λ text. tt) (lines_of (take (limit + 1) script)))
 
 -- ---- what each run is
 
@@ -106,11 +104,11 @@ lawful-in None n h = record { group = record { count = (omega arith, omega arith
 lawful-in (Some s) n h = reached-lawful s n h
 
 pub all_lawful : RunsAreLawful
-all_lawful script bytes = let r = reached-run script bytes in lawful-in (run_of script).scene r.0 r.1
+all_lawful script = let r = reached-run script in lawful-in (run_of script).scene r.0 r.1
 
 pub all_hold : ClaimsHold
-all_hold script bytes =
-    let lawful = all_lawful script bytes in
+all_hold script =
+    let lawful = all_lawful script in
     record { lawful = lawful; views = every_history_holds (group_of script) (history_of script) lawful }
 
 -- ---- honest scripts
@@ -164,19 +162,16 @@ honest_tried (Some s) (Some l) n h few fits honest =
 
 -- a line of an honest script
 abbrev pub IsHonestText : List ℕ → Type 0
-IsHonestText text = AreBytes text × (is_honest (line_of (Some mode.Plain) text) ≡ true)
+IsHonestText text = is_honest (line_of (Some mode.Plain) text) ≡ true
 
 -- it is honest in the mode that the script has
 pub honest_for : (scene : Option Scene) (n : ℕ) (text : List ℕ) → HonestIn scene n → is_honest (line_of (Some mode.Plain) text) ≡ true → HonestFor scene (line_of (mode_in scene) text)
 honest_for None n text h honest = tt
 honest_for (Some s) n text h honest = subst (λ m. is_honest (line_of (Some m) text) ≡ true) (sym h.plain) honest
 
--- each line of an honest script of bytes
-pub honest-texts : (script : List ℕ) → AreBytes script → is_honest_script script ≡ true → AllByRecursion IsHonestText (lines_of (take (limit + 1) script))
-honest-texts script bytes honest =
-    let known : List ℕ = take (limit + 1) script in
-    all_both AreBytes (λ text. is_honest (line_of (Some mode.Plain) text) ≡ true) (lines_of known) (lines-bytes known (bytes-take (limit + 1) script bytes))
-    (all_true (λ text. is_honest (line_of (Some mode.Plain) text)) (λ text. is_honest (line_of (Some mode.Plain) text) ≡ true) (λ text e. e) (lines_of known) honest)
+-- each line of an honest script
+pub honest-texts : (script : List ℕ) → is_honest_script script ≡ true → AllByRecursion IsHonestText (lines_of (take (limit + 1) script))
+honest-texts script honest = all_true (λ text. is_honest (line_of (Some mode.Plain) text)) IsHonestText (λ text e. e) (lines_of (take (limit + 1) script)) honest
 
 -- where an honest script stands after n lines, and what its run leaves
 abbrev pub StandsHonest : ℕ → Option Scene → Type 0
@@ -195,12 +190,12 @@ each_honest_line = record {
   done = λ n s h. (n, h);
   long = λ n number scene h. (n, h);
   line = λ n scene text h few good. honest_goes n scene (try_line scene (line_of (mode_in scene) text)) h
-      (honest_tried scene (line_of (mode_in scene) text) n h few (text_fits (mode_in scene) text good.0) (honest_for scene n text h good.1));
+      (honest_tried scene (line_of (mode_in scene) text) n h few (text_fits (mode_in scene) text) (honest_for scene n text h good));
 }
 
--- an honest script of bytes reaches such a scene
-pub honest-run : (script : List ℕ) → AreBytes script → is_honest_script script ≡ true → (n : ℕ) × HonestIn (run_of script).scene n
-honest-run script bytes honest = claimed-run IsHonestText StandsHonest LeavesHonest each_honest_line tt script (honest-texts script bytes honest)
+-- an honest script reaches such a scene
+pub honest-run : (script : List ℕ) → is_honest_script script ≡ true → (n : ℕ) × HonestIn (run_of script).scene n
+honest-run script honest = claimed-run IsHonestText StandsHonest LeavesHonest each_honest_line tt script (honest-texts script honest)
 
 -- ---- what each honest run is
 
@@ -209,8 +204,8 @@ unforged-in None n h forged = forged
 unforged-in (Some s) n h forged = honest-unforged IsSame s n h forged
 
 pub none_forged : NothingIsForged
-none_forged script bytes honest =
-    let r = honest-run script bytes honest in
+none_forged script honest =
+    let r = honest-run script honest in
     let never : IsForged (group_of script) (history_of script) → ⊥ = unforged-in (run_of script).scene r.0 r.1 in
     (is_forged-none (group_of script) (history_of script) never, never)
 
@@ -245,11 +240,11 @@ pub record RunsHonestly (script : List ℕ) : Type 0 where
   pub run : IsRunOf script
   pub scene : (s : Scene) → (run_of script).scene ≡ Some s → (server : Server) → server_at s.servers 1 ≡ Some server → IsHonestScene s run.events server
 
-pub run_is_honest : (script : List ℕ) → AreBytes script → is_honest_script script ≡ true → RunsHonestly script
-run_is_honest script bytes honest =
-    let r = honest-run script bytes honest in
+pub run_is_honest : (script : List ℕ) → is_honest_script script ≡ true → RunsHonestly script
+run_is_honest script honest =
+    let r = honest-run script honest in
     let run = run-in (run_of script).scene r.0 r.1 in
     record { run = record { events = run.events; honest = run.honest; history = run.history; server = run.server }; scene = run.holds }
 
 pub all_honest : RunsAreHonest
-all_honest script bytes honest = (run_is_honest script bytes honest).run
+all_honest script honest = (run_is_honest script honest).run

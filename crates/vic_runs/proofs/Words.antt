@@ -1,10 +1,11 @@
--- The lines and words of a script of bytes are bytes, and the lines that they spell fit.
+-- A script has few lines, byte words spell bytes, and the lines that texts spell fit.
 use Rattle.std.proofs.Common.{◌≡◌, ℕ, suc, ◌<◌, ◌≤◌, Bool, true, false, ◌&&◌, List, [], ◌∷◌, length, Option, Some, None, Result, Ok, Err, refl, subst, arith}
 use Rattle.std.specs.Prelude.{if◌then◌else◌, nat_eq, nat_lt, nat_le, option_map, codes}
 use Rattle.std.specs.Str.{bytes_eq}
-use Rattle.std.specs.List.{AllByRecursion, list_all}
+use Rattle.std.specs.List.{list_all}
 use Rattle.std.specs.Result.{result_ok}
 use Rattle.std.proofs.lemmas.Bool.{and_parts, ltb-true, leb-true}
+use Rattle.std.proofs.lemmas.Bool.Decides.{nat_tests}
 use Rattle.hex.specs.Hex.{decode_of}
 use Rattle.hex.specs.declared.error.FromHexError.{FromHexError}
 use Rattle.hex.proofs.HexLemmas.{decode_of-ok}
@@ -14,7 +15,7 @@ use Rattle.vic_dict.specs.declared.op.Mode.{Mode}
 use Rattle.vic_dict.specs.declared.op.Mode.TheVariants as mode
 use Rattle.vic_dict.specs.Lists.{AreBytes}
 use Rattle.vic_dict.specs.Dictionary.{Fits, AreBytesIn}
-use Rattle.vic_spellings.proofs.Steps.{bytes-nil, bytes-rest}
+use Rattle.vic_spellings.proofs.Steps.{bytes-nil}
 use Rattle.vic_spellings.proofs.Bytes.{bytes-cons}
 use Rattle.vic_script.specs.declared.line.Line.{Line}
 use Rattle.vic_script.specs.declared.line.Line.TheVariants as line
@@ -22,31 +23,15 @@ use Rattle.vic_script.specs.Words.{is_plain, is_lower_hex, is_percent, hex_word,
 use Rattle.vic_script.specs.Lines.{put_first, lines_of, words_of, within, key_of, value_of, prefix_of, put_of, op_of, call_of, clients_of, named, give_of, pair_of, is_place, copy_of, paired, header_of, called, event_of, or_line, line_in, line_of}
 use Rattle.vic_runs.specs.Claims.{FitsLine}
 
--- ---- lines and words
-
-put_first-bytes : (b : ℕ) (pieces : List (List ℕ)) → b < 256 → AllByRecursion AreBytes pieces → AllByRecursion AreBytes (put_first b pieces)
-put_first-bytes b [] few h = (bytes-cons b [] few bytes-nil, tt)
-put_first-bytes b (piece ∷ pieces) few h = (bytes-cons b piece few h.0, h.1)
+-- ---- the lines of a script
 
 length-put_first : (b n : ℕ) (pieces : List (List ℕ)) → length pieces ≤ n → length (put_first b pieces) ≤ suc n
 length-put_first b n [] h = omega arith
 length-put_first b n (piece ∷ pieces) h = omega (arith, h)
 
-bytes-either : (b : Bool) (x y : List (List ℕ)) → AllByRecursion AreBytes x → AllByRecursion AreBytes y → AllByRecursion AreBytes (if b then x else y)
-bytes-either true x y h k = h
-bytes-either false x y h k = k
-
 few-either : (b : Bool) (n : ℕ) (x y : List (List ℕ)) → length x ≤ n → length y ≤ n → length (if b then x else y) ≤ n
 few-either true n x y h k = h
 few-either false n x y h k = k
-
--- each line of a script of bytes is bytes
-pub lines-bytes : (bs : List ℕ) → AreBytes bs → AllByRecursion AreBytes (lines_of bs)
-unfolding lines_of
-lines-bytes [] h = tt
-lines-bytes (b ∷ bs) h =
-    let rest = lines-bytes bs (bytes-rest b bs h) in
-    bytes-either (nat_eq b 10) ([] ∷ lines_of bs) (put_first b (lines_of bs)) (bytes-nil, rest) (put_first-bytes b (lines_of bs) (h 0) rest)
 
 -- a script has at most as many lines as bytes
 pub length-lines_of : (bs : List ℕ) → length (lines_of bs) ≤ length bs
@@ -55,13 +40,6 @@ length-lines_of [] = omega arith
 length-lines_of (b ∷ bs) =
     let rest = length-lines_of bs in
     few-either (nat_eq b 10) (suc (length bs)) ([] ∷ lines_of bs) (put_first b (lines_of bs)) (omega (arith, rest)) (length-put_first b (length bs) (lines_of bs) rest)
-
-words-bytes : (text : List ℕ) → AreBytes text → AllByRecursion AreBytes (words_of text)
-unfolding words_of
-words-bytes [] h = (bytes-nil, tt)
-words-bytes (b ∷ bs) h =
-    let rest = words-bytes bs (bytes-rest b bs h) in
-    bytes-either (nat_eq b 32) ([] ∷ words_of bs) (put_first b (words_of bs)) (bytes-nil, rest) (put_first-bytes b (words_of bs) (h 0) rest)
 
 -- ---- byte words
 
@@ -77,12 +55,25 @@ decoded-bytes : (r : Result (List ℕ) FromHexError) → ((bytes : List ℕ) →
 decoded-bytes (Ok bytes) h = h bytes refl
 decoded-bytes (Err e) h = tt
 
-word-bytes : (word : List ℕ) → AreBytes word → BytesIn (word_bytes word)
-word-bytes [] h = tt
-word-bytes (c ∷ cs) h =
+-- plain characters are bytes
+plain-few : (c : ℕ) → is_plain c ≡ true → c < 256
+plain-few c e = grind (arith, nat_tests)
+
+plain-bytes : (word : List ℕ) → list_all is_plain word ≡ true → AreBytes word
+plain-bytes [] e = bytes-nil
+plain-bytes (c ∷ cs) e = let p = and_parts _ _ e in bytes-cons c cs (plain-few c p.0) (plain-bytes cs p.1)
+
+plain-word : (word : List ℕ) (b : Bool) → (b ≡ true → AreBytes word) → BytesIn (if b then Some word else None)
+plain-word word true h = h refl
+plain-word word false h = tt
+
+-- what a byte word spells is bytes
+word-bytes : (word : List ℕ) → BytesIn (word_bytes word)
+word-bytes [] = tt
+word-bytes (c ∷ cs) =
     bytes_in-either (is_percent c) (hex_word cs) (if list_all is_plain (c ∷ cs) then Some (c ∷ cs) else None)
     (bytes_in-either (list_all is_lower_hex cs) (result_ok (decode_of cs)) None (decoded-bytes (decode_of cs) (λ bytes e. (decode_of-ok cs bytes e).3)) tt)
-    (bytes_in-either (list_all is_plain (c ∷ cs)) (Some (c ∷ cs)) None h tt)
+    (plain-word (c ∷ cs) (list_all is_plain (c ∷ cs)) (plain-bytes (c ∷ cs)))
 
 -- bytes of a word, of which there are few enough
 abbrev FewIn : ℕ → ℕ → Option (List ℕ) → Type 0
@@ -126,21 +117,21 @@ put-fits (Some k) (Some v) h l = (((omega (arith, h.1.0), omega (arith, h.1.1)),
 put-fits (Some k) None h l = tt
 put-fits None v h l = tt
 
-op-fits : (words : List (List ℕ)) → AllByRecursion AreBytes words → FitsOp (op_of words)
-op-fits [] h = tt
-op-fits (name ∷ []) h = tt
-op-fits (name ∷ a ∷ []) h =
-    let key = within-few 1 255 (word_bytes a) (word-bytes a h.1.0) in
-    let prefix = within-few 0 255 (word_bytes a) (word-bytes a h.1.0) in
+op-fits : (words : List (List ℕ)) → FitsOp (op_of words)
+op-fits [] = tt
+op-fits (name ∷ []) = tt
+op-fits (name ∷ a ∷ []) =
+    let key = within-few 1 255 (word_bytes a) (word-bytes a) in
+    let prefix = within-few 0 255 (word_bytes a) (word-bytes a) in
     let lists : Option Op = if bytes_eq name (codes "list") then option_map op.List (prefix_of a) else None in
     let dels : Option Op = if bytes_eq name (codes "del") then option_map op.Del (key_of a) else lists in
     op-either (bytes_eq name (codes "get")) (option_map op.Get (key_of a)) dels (get-fits (key_of a) key)
     (op-either (bytes_eq name (codes "del")) (option_map op.Del (key_of a)) lists (del-fits (key_of a) key)
     (op-either (bytes_eq name (codes "list")) (option_map op.List (prefix_of a)) None (list-fits (prefix_of a) prefix) tt))
-op-fits (name ∷ a ∷ b ∷ []) h =
+op-fits (name ∷ a ∷ b ∷ []) =
     op-either (bytes_eq name (codes "put")) (put_of (key_of a) (value_of b)) None
-    (put-fits (key_of a) (value_of b) (within-few 1 255 (word_bytes a) (word-bytes a h.1.0)) (within-few 0 64 (word_bytes b) (word-bytes b h.1.1.0))) tt
-op-fits (name ∷ a ∷ b ∷ c ∷ others) h = tt
+    (put-fits (key_of a) (value_of b) (within-few 1 255 (word_bytes a) (word-bytes a)) (within-few 0 64 (word_bytes b) (word-bytes b))) tt
+op-fits (name ∷ a ∷ b ∷ c ∷ others) = tt
 
 -- ---- lines
 
@@ -189,12 +180,12 @@ copy-fits (Some n) (Some t) = line-either (is_place t) (Some (line.Copy n t)) No
 copy-fits (Some n) None = tt
 copy-fits None t = tt
 
-paired-fits : (name a b : List ℕ) → AreBytes b → FitsIn (paired name a b)
-paired-fits name a b h =
+paired-fits : (name a b : List ℕ) → FitsIn (paired name a b)
+paired-fits name a b =
     let moves : Option Line = if bytes_eq name (codes "move") then pair_of line.Move (word_capped a) (word_capped b) else None in
     let copies : Option Line = if bytes_eq name (codes "copy") then copy_of (word_capped a) (word_number b) else moves in
     let flips : Option Line = if bytes_eq name (codes "flip") then pair_of line.Flip (word_capped a) (word_capped b) else copies in
-    line-either (bytes_eq name (codes "give")) (give_of (word_capped a) (word_bytes b)) flips (give-fits (word_capped a) (word_bytes b) (word-bytes b h))
+    line-either (bytes_eq name (codes "give")) (give_of (word_capped a) (word_bytes b)) flips (give-fits (word_capped a) (word_bytes b) (word-bytes b))
     (line-either (bytes_eq name (codes "flip")) (pair_of line.Flip (word_capped a) (word_capped b)) copies (pair-fits line.Flip (λ i n. tt) (word_capped a) (word_capped b))
     (line-either (bytes_eq name (codes "copy")) (copy_of (word_capped a) (word_number b)) moves (copy-fits (word_capped a) (word_number b))
     (line-either (bytes_eq name (codes "move")) (pair_of line.Move (word_capped a) (word_capped b)) None (pair-fits line.Move (λ i n. tt) (word_capped a) (word_capped b)) tt)))
@@ -218,29 +209,29 @@ header-fits (name ∷ []) = tt
 header-fits (name ∷ a ∷ []) = line-either (bytes_eq name (codes "clients")) (clients_of (word_number a)) None (clients-fit (word_number a)) tt
 header-fits (name ∷ a ∷ b ∷ others) = tt
 
-called-fits : (kind : Mode) (name a : List ℕ) (others : List (List ℕ)) → AllByRecursion AreBytes others → FitsIn (called kind name a others)
-called-fits mode.Plain name a others h = line-either (bytes_eq name (codes "call")) (call_of (word_capped a) (op_of others)) None (call-fits (word_capped a) (op_of others) (op-fits others h)) tt
-called-fits mode.Objects name a others h = tt
+called-fits : (kind : Mode) (name a : List ℕ) (others : List (List ℕ)) → FitsIn (called kind name a others)
+called-fits mode.Plain name a others = line-either (bytes_eq name (codes "call")) (call_of (word_capped a) (op_of others)) None (call-fits (word_capped a) (op_of others) (op-fits others)) tt
+called-fits mode.Objects name a others = tt
 
-event-fits : (kind : Mode) (words : List (List ℕ)) → AllByRecursion AreBytes words → FitsIn (event_of kind words)
-event-fits kind [] h = tt
-event-fits kind (name ∷ []) h = tt
-event-fits kind (name ∷ a ∷ []) h = named-fits name a
-event-fits kind (name ∷ a ∷ b ∷ []) h = paired-fits name a b h.1.1.0
-event-fits kind (name ∷ a ∷ b ∷ c ∷ others) h = called-fits kind name a (b ∷ c ∷ others) h.1.1
+event-fits : (kind : Mode) (words : List (List ℕ)) → FitsIn (event_of kind words)
+event-fits kind [] = tt
+event-fits kind (name ∷ []) = tt
+event-fits kind (name ∷ a ∷ []) = named-fits name a
+event-fits kind (name ∷ a ∷ b ∷ []) = paired-fits name a b
+event-fits kind (name ∷ a ∷ b ∷ c ∷ others) = called-fits kind name a (b ∷ c ∷ others)
 
 or-fits : (x y : Option Line) → FitsIn x → FitsIn y → FitsIn (or_line x y)
 or-fits (Some l) y h k = h
 or-fits None y h k = k
 
-words-fit : (kind : Option Mode) (words : List (List ℕ)) → AllByRecursion AreBytes words → FitsIn (line_in kind words)
-words-fit None words h = header-fits words
-words-fit (Some kind) words h = or-fits (header_of words) (event_of kind words) (header-fits words) (event-fits kind words h)
+words-fit : (kind : Option Mode) (words : List (List ℕ)) → FitsIn (line_in kind words)
+words-fit None words = header-fits words
+words-fit (Some kind) words = or-fits (header_of words) (event_of kind words) (header-fits words) (event-fits kind words)
 
--- what a text of bytes spells fits
-pub text_fits : (kind : Option Mode) (text : List ℕ) → AreBytes text → FitsIn (line_of kind text)
+-- what a text spells fits
+pub text_fits : (kind : Option Mode) (text : List ℕ) → FitsIn (line_of kind text)
 unfolding line_of
-text_fits kind text h = words-fit kind (words_of text) (words-bytes text h)
+text_fits kind text = words-fit kind (words_of text)
 
-pub line_fits : (kind : Option Mode) (text : List ℕ) (l : Line) → AreBytes text → line_of kind text ≡ Some l → FitsLine l
-line_fits kind text l h e = subst FitsIn e (text_fits kind text h)
+pub line_fits : (kind : Option Mode) (text : List ℕ) (l : Line) → line_of kind text ≡ Some l → FitsLine l
+line_fits kind text l e = subst FitsIn e (text_fits kind text)

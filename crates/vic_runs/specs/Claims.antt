@@ -36,11 +36,11 @@ FitsLine (line.Resend i) = Unit {0}
 FitsLine (line.Copy n t) = Unit {0}
 FitsLine (line.Move i n) = Unit {0}
 
--- ---- every script of bytes
+-- ---- every script
 
 -- each client steps by the rules
 abbrev pub RunsAreLawful : Type 0
-RunsAreLawful = (script : List ℕ) → AreBytes script → IsLawful (group_of script) (history_of script)
+RunsAreLawful = (script : List ℕ) → IsLawful (group_of script) (history_of script)
 
 -- the test finds a history forged exactly where it is
 abbrev pub ForgedIs : Type 0
@@ -52,7 +52,7 @@ pub record IsGood (script : List ℕ) : Type 0 where
   pub views : Headline (group_of script) (history_of script)
 
 abbrev pub ClaimsHold : Type 0
-ClaimsHold = (script : List ℕ) → AreBytes script → IsGood script
+ClaimsHold = (script : List ℕ) → IsGood script
 
 -- what a step prints, by what its client was given
 abbrev pub line_of_input : Input → TraceStep → List ℕ
@@ -69,11 +69,11 @@ line_of_step x = line_of_input x.input x
 abbrev pub PrintsAreReturns : Type 0
 PrintsAreReturns = (script : List ℕ) → (run_of script).text ≡ flat_map line_of_step (reverse (history_of script))
 
--- ---- every honest script of bytes: no line tampers with what its one server answers
+-- ---- every honest script: no line tampers with what its one server answers
 
 -- every tag that a client takes was made before, and the print says so
 abbrev pub NothingIsForged : Type 0
-NothingIsForged = (script : List ℕ) → AreBytes script → is_honest_script script ≡ true
+NothingIsForged = (script : List ℕ) → is_honest_script script ≡ true
     → (is_forged (group_of script) (history_of script) ≡ false) × (IsForged (group_of script) (history_of script) → ⊥)
 
 -- a run of clients with one honest server that has a script's history, and its one server where the script opened
@@ -84,17 +84,17 @@ pub record IsRunOf (script : List ℕ) : Type 0 where
   pub server : (s : Scene) → (run_of script).scene ≡ Some s → server_at s.servers 1 ≡ Some (world_after (group_of script) events).server
 
 abbrev pub RunsAreHonest : Type 0
-RunsAreHonest = (script : List ℕ) → AreBytes script → is_honest_script script ≡ true → IsRunOf script
+RunsAreHonest = (script : List ℕ) → is_honest_script script ≡ true → IsRunOf script
 
 -- every completed call is an entry of the server's log, and its outcome is what becomes of that entry
 abbrev pub OutcomesAreFates : Type 0
-OutcomesAreFates = (script : List ℕ) → AreBytes script → is_honest_script script ≡ true → (s : Scene) → (run_of script).scene ≡ Some s
+OutcomesAreFates = (script : List ℕ) → is_honest_script script ≡ true → (s : Scene) → (run_of script).scene ≡ Some s
     → (server : Server) → server_at s.servers 1 ≡ Some server → (c : Completion) → IsIn (completions s.group s.history) c → StandsAsFated server.log c
 
 -- no client halts
 abbrev pub NobodyHalts : Type 0
-NobodyHalts = (script : List ℕ) → AreBytes script → is_honest_script script ≡ true → (s : Scene) → (run_of script).scene ≡ Some s → GoesOn s
+NobodyHalts = (script : List ℕ) → is_honest_script script ≡ true → (s : Scene) → (run_of script).scene ≡ Some s → GoesOn s
 
 -- no line is bad for that its client has halted
 abbrev pub NoLineIsHalted : Type 0
-NoLineIsHalted = (script : List ℕ) → AreBytes script → is_honest_script script ≡ true → (b : Bad) → bad_line_of script ≡ Some b → b.kind ≡ 3 → ⊥
+NoLineIsHalted = (script : List ℕ) → is_honest_script script ≡ true → (b : Bad) → bad_line_of script ≡ Some b → b.kind ≡ 3 → ⊥

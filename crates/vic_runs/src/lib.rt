@@ -1,6 +1,6 @@
-//! The laws of scripts: in the run of every script of bytes the clients step by the rules, whatever its lines do to payloads and
-//! servers, so what holds of lawful histories holds of it. Where no line tampers with what the one server answers, it is a run of
-//! clients with one honest server, and what holds of those holds of it.
+//! The laws of scripts: in the run of every script the clients step by the rules, whatever its lines do to payloads and servers,
+//! so what holds of lawful histories holds of it. Where no line tampers with what the one server answers, it is a run of clients
+//! with one honest server, and what holds of those holds of it.
 //!
 //! This crate has no code of its own. `specs/Claims.antt` states the laws over the definitions of `vic_script`, and each is the
 //! contract of a function without parameters and with an empty body. The contract of [`claims_hold`] carries the claim on a
