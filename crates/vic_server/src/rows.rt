@@ -30,6 +30,7 @@ impl Model for Row {
 }
 
 impl Row {
+    /// The entry as it stands on the log, where so many entries are sealed.
     pub fn new(item: Tagged, sealed_then: u32) -> Row
         requires { IsTagged item }
         ensures { result ≡ record { entry = item.entry; tag = item.tag; sealed_then = sealed_then } }
@@ -51,6 +52,7 @@ impl Row {
         self.item.entry.seq
     }
 
+    /// The operation that the entry calls; its texts are within the limits.
     pub fn op(&self) -> &Op
         ensures is { result.now ≡ self.now.entry.op }
         ensures fits { Fits result.now }
@@ -58,7 +60,7 @@ impl Row {
         &self.item.entry.op
     }
 
-    /// A copy of the entry with its tag.
+    /// A copy of the entry with its tag. It takes memory for the operation's texts, and costs them.
     pub fn tagged(&self, alloc: Global) -> Result<Tagged, NoMemory>
         ensures is { IfOk result (λ t. t ≡ tagged self.now) }
         ensures spelled { IfOk result (λ t. IsTagged t) }
@@ -70,6 +72,7 @@ impl Row {
         })
     }
 
+    /// A copy of the whole row; it costs the operation's texts.
     pub fn copy(&self, alloc: Global) -> Result<Row, NoMemory>
         ensures { IfOk result (λ made. made ≡ self.now) }
     {
@@ -99,6 +102,7 @@ impl Model for SealRow {
 }
 
 impl SealRow {
+    /// The seal, as it is kept.
     pub fn new(seal: Seal) -> SealRow
         requires { IsSeal seal }
         ensures { result ≡ seal }
@@ -106,6 +110,7 @@ impl SealRow {
         SealRow { seal }
     }
 
+    /// A copy of the seal; it takes no memory.
     pub fn seal(&self) -> Seal
         ensures is { result ≡ self.now }
         ensures spelled { IsSeal result }
@@ -131,6 +136,7 @@ impl Model for Commit {
 }
 
 impl Commit {
+    /// The commit of a position, counted from 1: done, or else aborted.
     pub fn new(position: u32, done: bool, tag: Digest32) -> Commit
         ensures { result ≡ record { position = position; done = done; tag = tag } }
     {
@@ -141,6 +147,7 @@ impl Commit {
         }
     }
 
+    /// A copy; it takes no memory.
     pub fn copy(&self) -> Commit
         ensures { result ≡ self.now }
     {
@@ -168,6 +175,7 @@ impl Model for Seat {
 }
 
 impl Seat {
+    /// The seat of a client whose last call has this number, 0 before the first.
     pub fn new(last: u32, stage: Stage) -> Seat
         ensures { result ≡ record { last = last; stage = stage } }
     {
@@ -181,6 +189,7 @@ impl Seat {
         self.last
     }
 
+    /// Whether it has come in or left, and the position of its open call, if it has one.
     pub fn stage(&self) -> Stage
         ensures { result ≡ self.now.stage }
     {

@@ -31,7 +31,7 @@ pub trait Serve {
         ensures ok { IfOk result (λ b. (b ≡ (rule (state self.old) seat who payload.now).0) × (state self.new ≡ (rule (state self.old) seat who payload.now).1)) }
         ensures err { OnErr result (state self.new ≡ state self.old) };
 
-    /// A server in the same state, which from then on goes its own way.
+    /// A server in the same state, which from then on goes its own way. It may cost the whole state.
     fn copy(&self, alloc: Global) -> Result<Self, NoMemory>
         ensures { IfOk result (λ made. state made ≡ state self.now) };
 }
@@ -57,6 +57,7 @@ impl Serve for Served {
         Ok(bytes)
     }
 
+    /// A copy of all that is kept. It costs the whole state.
     fn copy(&self, alloc: Global) -> Result<Served, NoMemory> {
         self.copied(alloc)
     }
