@@ -183,6 +183,7 @@ pub(crate) fn hash_with(hashes: &[Digest32], number: u32) -> Digest32
 
 // ---- texts
 
+/// The invoke text: 11 (hexadecimal), and the entry: the client, its number (4 bytes) and the operation.
 pub(crate) fn call_text(alloc: Global, client: u8, seq: u32, op: &Op) -> Result<Bytes, NoMemory>
     requires { Fits op.now }
     ensures { IfOk result (λ text. text ≡ invoke_text (record { client = client; seq = seq; op = op.now })) }
@@ -195,6 +196,7 @@ pub(crate) fn call_text(alloc: Global, client: u8, seq: u32, op: &Op) -> Result<
     Ok(text)
 }
 
+/// The commit text: 12 (hexadecimal), the position (4 bytes), the hash of the path there, the status (0 done, 1 aborted).
 fn commit_of(alloc: Global, position: u32, hash: &Digest32, done: bool) -> Result<Bytes, NoMemory>
     ensures { IfOk result (λ text. text ≡ commit_text position hash.now.bytes done) }
 {
@@ -206,6 +208,7 @@ fn commit_of(alloc: Global, position: u32, hash: &Digest32, done: bool) -> Resul
     Ok(text)
 }
 
+/// The seal text: 13 (hexadecimal), the position (4 bytes), the hash of the path there, the root.
 pub(crate) fn seal_of(
     alloc: Global,
     position: u32,
@@ -366,7 +369,8 @@ fn hashes_for(all: &[Hashes], client: u8) -> &[Digest32]
     all[client as usize - 1].as_slice()
 }
 
-/// Whether some client took a text whose tag no client had made before.
+/// Whether some client took a text whose tag no client had made before. It costs the transcript, for each client a look at each
+/// step and the hashes along its path, and for each text the logarithm of those made.
 pub fn forged(alloc: Global, t: &Transcript) -> Result<bool, NoMemory>
     requires { IsLawful (group_of t.now) (history_of t.now) }
     ensures { IfOk result (λ b. b ≡ is_forged (group_of t.now) (history_of t.now)) }

@@ -36,12 +36,14 @@ impl View {
         }
     }
 
+    /// The number of calls.
     pub fn len(&self) -> usize
         ensures { result ≡ length self.now }
     {
         self.items.len()
     }
 
+    /// All calls, the oldest first.
     pub fn as_slice(&self) -> &[Shown]
         ensures { result.now ≡ self.now }
     {
