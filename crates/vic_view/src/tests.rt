@@ -12,14 +12,14 @@ use vic_dict::{Answer, Bytes, Entry, Mode, Names, NoMemory, Op, Outcome};
 use vic_tag::GroupKey;
 use vic_wire::Digest32;
 
-fn stored(alloc: Global, client: u8, seq: u32, key: &[u8]) -> Result<Shown, NoMemory> {
+fn put(alloc: Global, seq: u32, key: &[u8], outcome: Outcome) -> Result<Shown, NoMemory> {
     Ok(Shown {
         entry: Entry {
-            client,
+            client: 1,
             seq,
             op: Op::Put(Bytes::of(alloc, key)?, Bytes::of(alloc, b"v")?),
         },
-        outcome: Outcome::Done(Answer::Stored),
+        outcome,
     })
 }
 
@@ -34,22 +34,30 @@ fn listed(alloc: Global, check: u8) -> Result<Shown, NoMemory> {
     })
 }
 
-// Two calls in common, and then another number, key or outcome.
+// Two calls in common, and then the same call, or one of another number, key or outcome.
 #[test]
 fn views_agree(rt: HostRuntime) -> Result<(), Fail> {
-    let mut one = View::new(rt.alloc());
-    let mut other = View::new(rt.alloc());
-    assert_eq!(rt; agree(&one, &other), 0);
-    one.push(stored(rt.alloc(), 1, 1, b"a")?)?;
-    assert_eq!(rt; agree(&one, &other), 0);
-    other.push(stored(rt.alloc(), 1, 1, b"a")?)?;
-    one.push(listed(rt.alloc(), 5)?)?;
-    other.push(listed(rt.alloc(), 5)?)?;
-    assert_eq!(rt; agree(&one, &other), 2);
-    one.push(stored(rt.alloc(), 1, 2, b"b")?)?;
-    assert_eq!(rt; agree(&one, &other), 2);
-    other.push(stored(rt.alloc(), 1, 2, b"c")?)?;
-    assert_eq!(rt; agree(&one, &other), 2);
+    let alloc = rt.alloc();
+    let mut one = View::new(alloc);
+    one.push(put(alloc, 1, b"a", Outcome::Done(Answer::Stored))?)?;
+    one.push(listed(alloc, 5)?)?;
+    one.push(put(alloc, 2, b"b", Outcome::Aborted(1))?)?;
+    let rows = [
+        (3, put(alloc, 2, b"b", Outcome::Aborted(1))?),
+        (2, put(alloc, 3, b"b", Outcome::Aborted(1))?),
+        (2, put(alloc, 2, b"c", Outcome::Aborted(1))?),
+        (2, put(alloc, 2, b"b", Outcome::Aborted(2))?),
+        (2, put(alloc, 2, b"b", Outcome::Done(Answer::Stored))?),
+    ];
+    for (want, last) in rows {
+        let mut other = View::new(alloc);
+        assert_eq!(rt; agree(&one, &other), 0);
+        other.push(put(alloc, 1, b"a", Outcome::Done(Answer::Stored))?)?;
+        other.push(listed(alloc, 5)?)?;
+        assert_eq!(rt; agree(&one, &other), 2);
+        other.push(last)?;
+        assert_eq!(rt; agree(&one, &other), want);
+    }
     Ok(())
 }
 
@@ -147,14 +155,16 @@ const SEAL_TAKEN: Row = (2, b"\x45\0\0\0\x01\xf0\xf0\0\0", b"", false);
 /// The calls that a view shows, each by its client and number.
 type Calls = &'static [(u8, u32)];
 
-/// Steps, the views of the clients, and whether some text was taken that no client had made.
-type Story = (&'static [Row], [Calls; 2], bool);
+/// Steps, the views of the clients, for each client the byte that stands for the hash of its path with one entry, and whether
+/// some text was taken that no client had made.
+type Story = (&'static [Row], [Calls; 2], [u8; 2], bool);
 
 const STORIES: [Story; 6] = [
     // Client 2 comes second, and takes the seal of client 1.
     (
         &[CALL_1, REPLY_1, CALL_2, REPLY_2_SECOND, SEALED, SEAL_TAKEN],
         [&[(1, 1)], &[(1, 1), (2, 1)]],
+        [1, 1],
         false,
     ),
     // The first entries differ: what client 1 completed as its first is the second of client 2, and isn't shown there.
@@ -168,26 +178,30 @@ const STORIES: [Story; 6] = [
             REPLY_2_AGAIN,
         ],
         [&[(1, 1)], &[(2, 1), (2, 2)]],
+        [1, 2],
         false,
     ),
     // The first entries differ, and both are of client 1, which completed another call as its first.
     (
         &[CALL_1, REPLY_1, CALL_1_AGAIN, CALL_2, REPLY_2_SKIPS],
         [&[(1, 1)], &[(2, 1)]],
+        [1, 2],
         false,
     ),
     // Client 1 takes an entry that client 2 never sent.
-    (&[CALL_1, REPLY_1_SECOND], [&[(1, 1)], &[]], true),
+    (&[CALL_1, REPLY_1_SECOND], [&[(1, 1)], &[]], [1, 1], true),
     // It is sent later.
     (
         &[CALL_1, REPLY_1_SECOND, CALL_2, REPLY_2_FIRST],
         [&[(2, 1), (1, 1)], &[(2, 1)]],
+        [1, 1],
         true,
     ),
     // The first entries differ, and client 2 takes a seal that client 1 made on its own path.
     (
         &[CALL_1, CALL_2, REPLY_1, REPLY_2_FIRST, SEALED, SEAL_TAKEN],
         [&[(1, 1)], &[(2, 1)]],
+        [1, 2],
         true,
     ),
 ];
@@ -258,7 +272,7 @@ fn are_calls(view: &View, calls: &[(u8, u32)]) -> bool {
 // Both ways to a view give the same, and what is right.
 #[test]
 fn views_plainly(rt: HostRuntime) -> Result<(), Fail> {
-    for (n, (rows, views, _)) in STORIES.iter().enumerate() {
+    for (n, (rows, views, _, _)) in STORIES.iter().enumerate() {
         let t = transcript_of(rt.alloc(), rows)?;
         for (client, calls) in [(1, views[0]), (2, views[1])] {
             let fast = view_from_paths(rt.alloc(), &t, client)?;
@@ -276,10 +290,8 @@ fn views_plainly(rt: HostRuntime) -> Result<(), Fail> {
     Ok(())
 }
 
-// Digests that stand for the hashes along a client's path, which are those of the other one where the first entries are the same.
-fn hashes_of(rows: &[Row], client: u8) -> [Digest32; 3] {
-    let is_shared = rows.len() > 3 && rows[3].1 == REPLY_2_SECOND.1;
-    let first = if is_shared || client == 1 { 1 } else { 2 };
+// Digests that stand for the hashes along a path: that of no entry, that of the first, and that of the first two.
+fn hashes_of(first: u8) -> [Digest32; 3] {
     [
         Digest32 { bytes: [0; 32] },
         Digest32 { bytes: [first; 32] },
@@ -291,12 +303,16 @@ fn hashes_of(rows: &[Row], client: u8) -> [Digest32; 3] {
 #[test]
 fn forged_texts(rt: HostRuntime) -> Result<(), Fail> {
     let alloc = rt.alloc();
-    for (n, (rows, _, unmade)) in STORIES.iter().enumerate() {
+    for (n, (rows, _, firsts, unmade)) in STORIES.iter().enumerate() {
         let t = transcript_of(alloc, rows)?;
         let (mut set, mut list) = (Texts::new(alloc), Names::new(alloc));
         let mut found = false;
         for step in t.as_slice() {
-            let hashes = hashes_of(rows, step.client);
+            let hashes = hashes_of(if step.client == 1 {
+                firsts[0]
+            } else {
+                firsts[1]
+            });
             let taken = texts_taken(alloc, step, hashes.as_slice())?;
             let is_found = is_some_unmade(list.as_slice(), taken.as_slice());
             let is_found_fast = takes_unmade(alloc, step, hashes.as_slice(), &set)?;
