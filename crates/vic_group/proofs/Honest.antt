@@ -62,6 +62,8 @@ module _ {S V : Type 0} (state : S → V) (rule : Serving V) where
       let so = stands_here w.transcript w.members.items (states state w.servers) s i (i - 1) m.0 shows is m.1 in
       omega (arith, (may same bounds.0 m.0 m.1).1, so.stands.calls)
   call_left w s (line.Clients n) shows plain may good = tt
+  call_left w s (line.Key digits) shows plain may good = tt
+  call_left w s (line.Hostile name n) shows plain may good = tt
   call_left w s (line.Poll i) shows plain may good = tt
   call_left w s (line.Sync i) shows plain may good = tt
   call_left w s (line.Serve i) shows plain may good = tt
@@ -73,10 +75,13 @@ module _ {S V : Type 0} (state : S → V) (rule : Serving V) where
   call_left w s (line.Resend i) shows plain may good = tt
   call_left w s (line.Copy n t) shows plain may good = tt
   call_left w s (line.Move i n) shows plain may good = tt
+  call_left w s line.Skip shows plain may good = tt
 
   line_fits : (s : SceneOf V) (l : Line) → HasBytes l → bad_kind s l ≡ None → is_honest_line l ≡ true → FitsLine l
   unfolding bad_kind
   line_fits s (line.Clients n) bytes good honest = absurd cc
+  line_fits s (line.Key digits) bytes good honest = tt
+  line_fits s (line.Hostile name n) bytes good honest = tt
   line_fits s (line.Call i o) bytes good honest = ((fits_op_is o).0 (and_parts (same_mode s.group.mode mode.Plain) (fits_op o) (called_first s i o good)).1, bytes)
   line_fits s (line.Poll i) bytes good honest = tt
   line_fits s (line.Sync i) bytes good honest = tt
@@ -89,6 +94,7 @@ module _ {S V : Type 0} (state : S → V) (rule : Serving V) where
   line_fits s (line.Resend i) bytes good honest = tt
   line_fits s (line.Copy n t) bytes good honest = tt
   line_fits s (line.Move i n) bytes good honest = tt
+  line_fits s line.Skip bytes good honest = tt
 
   left_at : (w : World S) (s : SceneOf V) (n : ℕ) → ShowsScene state w s → IsHonestlyReached (AnswersAs rule) s n → StandsHonestly state rule w (n + 1)
   left_at w s n shows r = stands_at w s (n + 1) shows (honest-more (AnswersAs rule) s n (n + 1) (omega arith) r)
@@ -103,6 +109,8 @@ module _ {S V : Type 0} (state : S → V) (rule : Serving V) where
         | inr served ↦ left_at new (serves rule (turns rule left.1.0 s i).scene i) n served both.1
       ]
   left_so new s n (line.Clients k) r left = left_at new s n left r
+  left_so new s n (line.Key digits) r left = left_at new s n left r
+  left_so new s n (line.Hostile name k) r left = left_at new s n left r
   left_so new s n (line.Call i o) r left = left_at new s n left r
   left_so new s n (line.Poll i) r left = left_at new s n left r
   left_so new s n (line.Sync i) r left = left_at new s n left r
@@ -114,6 +122,7 @@ module _ {S V : Type 0} (state : S → V) (rule : Serving V) where
   left_so new s n (line.Resend i) r left = left_at new s n left r
   left_so new s n (line.Copy k t) r left = left_at new s n left r
   left_so new s n (line.Move i k) r left = left_at new s n left r
+  left_so new s n line.Skip r left = left_at new s n left r
 
   -- an honest line, whatever it comes to
   pub stands_line : (w new : World S) (n : ℕ) (l : Line) (r : Result (Option ℕ) NoMemory) (before after : List ℕ) → MayDo w l → HasBytes l → ((s : SceneOf V) → ShowsScene state w s → Does state rule s l r new before after)

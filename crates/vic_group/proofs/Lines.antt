@@ -1,5 +1,5 @@
 -- What a line makes of a world, by its kind.
-use Rattle.std.proofs.Common.{◌≡◌, ℕ, Bool, true, false, List, [], ◌∷◌, ◌++◌, Option, Some, None, is_some, Result, Ok, Err, IfOk, OnErr, if◌then◌else◌, refl, sym, ap, subst, ◌∙◌}
+use Rattle.std.proofs.Common.{◌≡◌, ℕ, ◌⊎◌, inl, inr, Bool, true, false, List, [], ◌∷◌, ◌++◌, Option, Some, None, is_some, Result, Ok, Err, IfOk, OnErr, if◌then◌else◌, refl, sym, ap, subst, ◌∙◌}
 use Rattle.std.specs.Prelude.{MatchOption}
 use Rattle.std.proofs.lemmas.List.{append-nil}
 use Rattle.vic_dict.specs.declared.bytes.NoMemory.{NoMemory}
@@ -155,10 +155,18 @@ module _ {S V : Type 0} (state : S → V) (rule : Serving V) where
   unmoved_line s i who n w e there gone shows =
       subst (λ (k : ℕ). Does state rule s (line.Move k n) (Ok (Some 6)) w [] []) e (second_fails 2 6 (is_client s i) (is_server s n) there gone, shows)
 
-  -- a second opening
-  pub opened_line : (s : SceneOf V) (l : Line) (n : ℕ) (w : World S) → l ≡ line.Clients n → ShowsScene state w s → (bad_kind s l ≡ Some 1) × ShowsScene state w s
+  -- a line of the header, once a script has opened
+  pub header_line : (s : SceneOf V) (l : Line) (w : World S) → ((n : ℕ) × (l ≡ line.Clients n)) ⊎ (((digits : List ℕ) × (l ≡ line.Key digits)) ⊎ ((name : List ℕ) × (n : ℕ) × (l ≡ line.Hostile name n)))
+      → ShowsScene state w s → (bad_kind s l ≡ Some 1) × ShowsScene state w s
   unfolding bad_kind
-  opened_line s l n w is shows = (ap (λ (k : Line). first_failing (line_tests s k)) is, shows)
+  header_line s l w (inl a) shows = (ap (λ (k : Line). first_failing (line_tests s k)) a.1, shows)
+  header_line s l w (inr (inl a)) shows = (ap (λ (k : Line). first_failing (line_tests s k)) a.1, shows)
+  header_line s l w (inr (inr a)) shows = (ap (λ (k : Line). first_failing (line_tests s k)) a.2, shows)
+
+  -- a line that does nothing
+  pub skipped_line : (s : SceneOf V) (l : Line) (w : World S) (out : List ℕ) → l ≡ line.Skip → ShowsScene state w s → Does state rule s l (Ok None) w out out
+  unfolding bad_kind
+  skipped_line s l w out is shows = subst (λ (k : Line). Does state rule s k (Ok None) w out out) (sym is) (refl, (sym (append-nil out), shows))
 
 -- a server of the scene that a world shows
 pub server_shown : {S V : Type 0} (state : S → V) (w : World S) (s : SceneOf V) (n : ℕ) → ShowsScene state w s → is_some (server_at (states state w.servers) n) ≡ is_server s n

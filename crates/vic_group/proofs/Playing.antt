@@ -39,6 +39,8 @@ may_of w n (line.Call i o) shows r few = λ plain above m at.
     let so = stand_at (MemberStands (scene_of w).group (scene_of w).history) 1 (i - 1) w.members.items m shows.clients at in
     (ap (λ (x : Group). x.mode) so.group ∙ r.plain, omega (arith, few, r.calls (1 + (i - 1)), so.stands.calls))
 may_of w n (line.Clients k) shows r few = tt
+may_of w n (line.Key digits) shows r few = tt
+may_of w n (line.Hostile name k) shows r few = tt
 may_of w n (line.Poll i) shows r few = tt
 may_of w n (line.Sync i) shows r few = tt
 may_of w n (line.Serve i) shows r few = tt
@@ -50,6 +52,7 @@ may_of w n (line.Flip i k) shows r few = tt
 may_of w n (line.Resend i) shows r few = tt
 may_of w n (line.Copy k t) shows r few = tt
 may_of w n (line.Move i k) shows r few = tt
+may_of w n line.Skip shows r few = tt
 
 -- ---- the first line
 

@@ -397,7 +397,7 @@ impl<S: Serve + Drop> World<S> {
         ensures { (s : SceneOf S.State) → ShowsScene S.state self.old s → Does S.state S.rule s line.now result self.new out.old out.new }
     {
         match line {
-            Line::Clients(_) => Ok(Some(1)),
+            Line::Clients(_) | Line::Key(_) | Line::Hostile(_, _) => Ok(Some(1)),
             Line::Call(who, op) => self.call_line(alloc, *who, op),
             Line::Poll(who) => self.ask(alloc, *who, Input::Poll),
             Line::Sync(who) => self.ask(alloc, *who, Input::Sync),
@@ -410,6 +410,7 @@ impl<S: Serve + Drop> World<S> {
             Line::Resend(who) => self.resend_line(alloc, *who),
             Line::Copy(from, to) => self.copy_line(alloc, *from, *to),
             Line::Move(who, number) => Ok(self.move_line(*who, *number)),
+            Line::Skip => Ok(None),
         }
     }
 

@@ -49,6 +49,8 @@ module _ {V : Type 0} (R : V → Server → Type 0) (s : SceneOf V) (n : ℕ) (r
   pub never_three : (l : Line) → is_honest_line l ≡ true → bad_kind s l ≡ Some 3 → ⊥
   unfolding bad_kind
   never_three (line.Clients count) honest e = absurd cc
+  never_three (line.Key digits) honest e = absurd cc
+  never_three (line.Hostile name k) honest e = absurd cc
   never_three (line.Call i o) honest e = one_more (is_plain_call s o) (asked_tests s i) (asked_goes i) e
   never_three (line.Poll i) honest e = asked_goes i e
   never_three (line.Sync i) honest e = asked_goes i e
@@ -61,6 +63,7 @@ module _ {V : Type 0} (R : V → Server → Type 0) (s : SceneOf V) (n : ℕ) (r
   never_three (line.Resend i) honest e = absurd cc
   never_three (line.Copy k t) honest e = absurd cc
   never_three (line.Move i k) honest e = absurd cc
+  never_three line.Skip honest e = absurd cc
 
 -- ---- lines
 
@@ -78,6 +81,8 @@ one_is_other n e f = omega (arith, e, f)
 
 fails_first : (l : Line) → FailsOtherwise (try_line None (Some l))
 fails_first (line.Clients count) = tt
+fails_first (line.Key digits) = one_is_other 1 refl
+fails_first (line.Hostile name k) = one_is_other 1 refl
 fails_first (line.Call i o) = one_is_other 1 refl
 fails_first (line.Poll i) = one_is_other 1 refl
 fails_first (line.Sync i) = one_is_other 1 refl
@@ -90,6 +95,7 @@ fails_first (line.Flip i k) = one_is_other 1 refl
 fails_first (line.Resend i) = one_is_other 1 refl
 fails_first (line.Copy k t) = one_is_other 1 refl
 fails_first (line.Move i k) = one_is_other 1 refl
+fails_first line.Skip = one_is_other 1 refl
 
 fails : (scene : Option Scene) (l : Option Line) (n : ℕ) → HonestIn scene n → HonestFor scene l → FailsOtherwise (try_line scene l)
 fails None None n h honest = one_is_other 1 refl

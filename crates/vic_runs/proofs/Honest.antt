@@ -166,6 +166,8 @@ module _ {V : Type 0} (R : V → Server → Type 0) where
       → IsHonestlyReached R (done_line rule s l).scene (n + 1)
   unfolding bad_kind
   honest-line rule kept s n (line.Clients count) r left good fits honest = absurd cc
+  honest-line rule kept s n (line.Key digits) r left good fits honest = absurd cc
+  honest-line rule kept s n (line.Hostile name k) r left good fits honest = absurd cc
   honest-line rule kept s n (line.Call i o) r left good fits honest =
       let a = called_is s i o good in
       honest-asked s n r i a.above a.upto (input.Call o) tt (a.idle, (r.plain, (fits.0, (fits.1, left))))
@@ -186,3 +188,4 @@ module _ {V : Type 0} (R : V → Server → Type 0) where
   honest-line rule kept s n (line.Resend i) r left good fits honest = absurd cc
   honest-line rule kept s n (line.Copy k t) r left good fits honest = absurd cc
   honest-line rule kept s n (line.Move i k) r left good fits honest = absurd cc
+  honest-line rule kept s n line.Skip r left good fits honest = honest-more s n (n + 1) (omega arith) r

@@ -45,6 +45,8 @@ HasCallLeft s _ = Unit {0}
 -- and so it may where no client was called more than so few times
 pub few_calls : {V : Type 0} (s : SceneOf V) (n : ℕ) → ((i : ℕ) → (stands s i).calls ≤ n) → n + 1 < 2 ^ 32 → (l : Line) → HasCallLeft s l
 few_calls s n calls few (line.Clients count) = tt
+few_calls s n calls few (line.Key digits) = tt
+few_calls s n calls few (line.Hostile name k) = tt
 few_calls s n calls few (line.Call i o) = omega (arith, few, calls i)
 few_calls s n calls few (line.Poll i) = tt
 few_calls s n calls few (line.Sync i) = tt
@@ -57,11 +59,14 @@ few_calls s n calls few (line.Flip i k) = tt
 few_calls s n calls few (line.Resend i) = tt
 few_calls s n calls few (line.Copy k t) = tt
 few_calls s n calls few (line.Move i k) = tt
+few_calls s n calls few line.Skip = tt
 
 -- a line that isn't bad leads on to a scene that is reached
 pub reached-line : (s : Scene) (n : ℕ) (l : Line) → IsReached s n → HasCallLeft s l → bad_kind s l ≡ None → FitsLine l → IsReached (done_line by_rule s l).scene (n + 1)
 unfolding bad_kind
 reached-line s n (line.Clients count) r left good fits = absurd cc
+reached-line s n (line.Key digits) r left good fits = absurd cc
+reached-line s n (line.Hostile name k) r left good fits = absurd cc
 reached-line s n (line.Call i o) r left good fits =
     let a = called_is s i o good in
     reached-steps s n r i a.above a.upto (input.Call o) (a.idle, (r.plain, (fits.0, (fits.1, left))))
@@ -90,3 +95,4 @@ reached-line s n (line.Copy k t) r left good fits =
     reached-more (copies s k t) n (n + 1) (omega arith) (reached-copies s n r k t (passed_last 1 (is_place t) 6 (is_server s k) good))
 reached-line s n (line.Move i k) r left good fits =
     reached-more (joins s i k) n (n + 1) (omega arith) (reached-joins s n r i k (passed_last 2 (is_client s i) 6 (is_server s k) good))
+reached-line s n line.Skip r left good fits = reached-more s n (n + 1) (omega arith) r

@@ -104,6 +104,8 @@ module _ {V : Type 0} where
   pub told-line : (rule : Serving V) (s : SceneOf V) (l : Line) → IsSeated s → bad_kind s l ≡ None → IsTold s (done_line rule s l)
   unfolding bad_kind
   told-line rule s (line.Clients n) seats good = absurd cc
+  told-line rule s (line.Key digits) seats good = absurd cc
+  told-line rule s (line.Hostile name n) seats good = absurd cc
   told-line rule s (line.Call i o) seats good = told-asked s i (input.Call o) (λ x. refl)
   told-line rule s (line.Poll i) seats good = told-asked s i input.Poll (λ x. refl)
   told-line rule s (line.Sync i) seats good = told-asked s i input.Sync (λ x. refl)
@@ -116,6 +118,7 @@ module _ {V : Type 0} where
   told-line rule s (line.Resend i) seats good = told-same s
   told-line rule s (line.Copy n t) seats good = told-same s
   told-line rule s (line.Move i n) seats good = told-same s
+  told-line rule s line.Skip seats good = told-same s
 
 -- ---- a line that was tried
 
@@ -134,6 +137,8 @@ tells-by s (Some k) shown h = tt
 
 tells-first : (l : Line) → TriedTells None (try_line None (Some l))
 tells-first (line.Clients n) = (seated-opening (plain_group n) _, refl)
+tells-first (line.Key digits) = tt
+tells-first (line.Hostile name k) = tt
 tells-first (line.Call i o) = tt
 tells-first (line.Poll i) = tt
 tells-first (line.Sync i) = tt
@@ -146,6 +151,7 @@ tells-first (line.Flip i k) = tt
 tells-first (line.Resend i) = tt
 tells-first (line.Copy k t) = tt
 tells-first (line.Move i k) = tt
+tells-first line.Skip = tt
 
 tells : (scene : Option Scene) (l : Option Line) → SeatedIn scene → TriedTells scene (try_line scene l)
 tells None None seats = tt

@@ -51,6 +51,8 @@ tried-by (Some k) shown n h = tt
 
 tried-first : (l : Line) (n : ℕ) → FitsIn (Some l) → TriedReaches (try_line None (Some l)) (n + 1)
 tried-first (line.Clients count) n fits = reached-more (opening (plain_group count)) 0 (n + 1) (omega arith) (reached-opening count fits.0 fits.1)
+tried-first (line.Key digits) n fits = tt
+tried-first (line.Hostile name k) n fits = tt
 tried-first (line.Call i o) n fits = tt
 tried-first (line.Poll i) n fits = tt
 tried-first (line.Sync i) n fits = tt
@@ -63,6 +65,7 @@ tried-first (line.Flip i k) n fits = tt
 tried-first (line.Resend i) n fits = tt
 tried-first (line.Copy k t) n fits = tt
 tried-first (line.Move i k) n fits = tt
+tried-first line.Skip n fits = tt
 
 -- a line that fits leads on to a scene that is reached, or is bad
 pub tried : (scene : Option Scene) (l : Option Line) (n : ℕ) → ReachedIn scene n → n + 1 < 2 ^ 32 → FitsIn l → TriedReaches (try_line scene l) (n + 1)
@@ -139,6 +142,8 @@ honest_opens count n above upto =
 
 honest_tried-first : (l : Line) (n : ℕ) → FitsIn (Some l) → TriedHonest (try_line None (Some l)) n
 honest_tried-first (line.Clients count) n fits = honest_opens count n fits.0 fits.1
+honest_tried-first (line.Key digits) n fits = tt
+honest_tried-first (line.Hostile name k) n fits = tt
 honest_tried-first (line.Call i o) n fits = tt
 honest_tried-first (line.Poll i) n fits = tt
 honest_tried-first (line.Sync i) n fits = tt
@@ -151,6 +156,7 @@ honest_tried-first (line.Flip i k) n fits = tt
 honest_tried-first (line.Resend i) n fits = tt
 honest_tried-first (line.Copy k t) n fits = tt
 honest_tried-first (line.Move i k) n fits = tt
+honest_tried-first line.Skip n fits = tt
 
 -- an honest line that fits leads on to such a scene, or is bad
 pub honest_tried : (scene : Option Scene) (l : Option Line) (n : ℕ) → HonestIn scene n → n + 1 < 2 ^ 32 → FitsIn l → HonestFor scene l → TriedHonest (try_line scene l) (n + 1)

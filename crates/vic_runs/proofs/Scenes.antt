@@ -70,6 +70,8 @@ module _ {V : Type 0} where
   -- no line changes the group
   pub line-group : (rule : Serving V) (s : SceneOf V) (l : Line) → (done_line rule s l).scene.group ≡ s.group
   line-group rule s (line.Clients n) = refl
+  line-group rule s (line.Key digits) = refl
+  line-group rule s (line.Hostile name n) = refl
   line-group rule s (line.Call i o) = steps-group s i (input.Call o)
   line-group rule s (line.Poll i) = steps-group s i input.Poll
   line-group rule s (line.Sync i) = steps-group s i input.Sync
@@ -82,6 +84,7 @@ module _ {V : Type 0} where
   line-group rule s (line.Resend i) = refl
   line-group rule s (line.Copy n t) = refl
   line-group rule s (line.Move i n) = refl
+  line-group rule s line.Skip = refl
 
   -- ---- what waits
 

@@ -114,6 +114,8 @@ module _ {V : Type 0} where
   pub seated-line : (rule : Serving V) (s : SceneOf V) (l : Line) → IsSeated s → bad_kind s l ≡ None → IsSeated (done_line rule s l).scene
   unfolding bad_kind
   seated-line rule s (line.Clients n) h good = h
+  seated-line rule s (line.Key digits) h good = h
+  seated-line rule s (line.Hostile name n) h good = h
   seated-line rule s (line.Call i o) h good = seated-steps s h i (input.Call o)
   seated-line rule s (line.Poll i) h good = seated-steps s h i input.Poll
   seated-line rule s (line.Sync i) h good = seated-steps s h i input.Sync
@@ -126,3 +128,4 @@ module _ {V : Type 0} where
   seated-line rule s (line.Resend i) h good = seated-resends s h i
   seated-line rule s (line.Copy n t) h good = seated-copies s h n t (passed_last 1 (is_place t) 6 (is_server s n) good)
   seated-line rule s (line.Move i n) h good = seated-joins s h i n (passed_last 2 (is_client s i) 6 (is_server s n) good)
+  seated-line rule s line.Skip h good = h

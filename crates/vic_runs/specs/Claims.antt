@@ -23,6 +23,8 @@ use Rattle.vic_runs.specs.Reached.{GoesOn}
 -- the operation of a call is within its lengths and is bytes, a group has 1 to 64 clients, and a payload is bytes
 abbrev pub FitsLine : Line → Type 0
 FitsLine (line.Clients n) = (0 < n) × (n ≤ 64)
+FitsLine (line.Key digits) = Unit {0}
+FitsLine (line.Hostile name n) = Unit {0}
 FitsLine (line.Call i o) = Fits o × AreBytesIn o
 FitsLine (line.Poll i) = Unit {0}
 FitsLine (line.Sync i) = Unit {0}
@@ -35,6 +37,7 @@ FitsLine (line.Flip i n) = Unit {0}
 FitsLine (line.Resend i) = Unit {0}
 FitsLine (line.Copy n t) = Unit {0}
 FitsLine (line.Move i n) = Unit {0}
+FitsLine line.Skip = Unit {0}
 
 -- ---- every script
 

@@ -217,6 +217,8 @@ most_turns = 2100
 -- what a line does where it isn't bad
 abbrev pub done_line : {V : Type 0} → Serving V → SceneOf V → Line → ShownOf V
 done_line rule s (line.Clients n) = quietly s
+done_line rule s (line.Key digits) = quietly s
+done_line rule s (line.Hostile name n) = quietly s
 done_line rule s (line.Call i o) = quietly (steps s i (input.Call o))
 done_line rule s (line.Poll i) = quietly (steps s i input.Poll)
 done_line rule s (line.Sync i) = quietly (steps s i input.Sync)
@@ -229,6 +231,7 @@ done_line rule s (line.Flip i n) = takes_aloud (flipped n) s i
 done_line rule s (line.Resend i) = quietly (resends s i)
 done_line rule s (line.Copy n t) = quietly (copies s n t)
 done_line rule s (line.Move i n) = quietly (joins s i n)
+done_line rule s line.Skip = quietly s
 
 abbrev pub is_client : {V : Type 0} → SceneOf V → ℕ → Bool
 is_client s i = nat_lt 0 i && nat_le i s.group.count
@@ -270,6 +273,8 @@ asked_tests s i = (2, is_client s i) ∷ (3, is_none (stands s i).halted) ∷ (4
 -- the tests of a line, in their order, each with the kind of a line that fails it
 abbrev pub line_tests : {V : Type 0} → SceneOf V → Line → List (ℕ × Bool)
 line_tests s (line.Clients n) = (1, false) ∷ []
+line_tests s (line.Key digits) = (1, false) ∷ []
+line_tests s (line.Hostile name n) = (1, false) ∷ []
 line_tests s (line.Call i o) = (1, is_plain_call s o) ∷ asked_tests s i
 line_tests s (line.Poll i) = asked_tests s i
 line_tests s (line.Sync i) = asked_tests s i
@@ -282,6 +287,7 @@ line_tests s (line.Flip i n) = (2, is_client s i) ∷ (5, has_byte s.down i n) �
 line_tests s (line.Resend i) = (2, is_client s i) ∷ (5, is_some (last_sent i s.history)) ∷ []
 line_tests s (line.Copy n t) = (1, is_place t) ∷ (6, is_server s n) ∷ []
 line_tests s (line.Move i n) = (2, is_client s i) ∷ (6, is_server s n) ∷ []
+line_tests s line.Skip = []
 
 -- the first kind by which a line is bad where the script stands
 unfoldable pub bad_kind : {V : Type 0} → SceneOf V → Line → Option ℕ
@@ -292,6 +298,8 @@ bad_kind s l = first_failing (line_tests s l)
 -- a line by which requests and answers go through one server's queues as they are
 abbrev pub is_honest_line : Line → Bool
 is_honest_line (line.Clients n) = true
+is_honest_line (line.Key digits) = true
+is_honest_line (line.Hostile name n) = true
 is_honest_line (line.Call i o) = true
 is_honest_line (line.Poll i) = true
 is_honest_line (line.Sync i) = true
@@ -304,3 +312,4 @@ is_honest_line (line.Flip i n) = false
 is_honest_line (line.Resend i) = false
 is_honest_line (line.Copy n t) = false
 is_honest_line (line.Move i n) = false
+is_honest_line line.Skip = true

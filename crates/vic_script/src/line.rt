@@ -8,6 +8,10 @@ use vic_dict::{Bytes, Op};
 pub enum Line {
     /// The header of a group of so many clients.
     Clients(u8),
+    /// The digits of the group's key, as they are written. No text spells it yet.
+    Key(Bytes),
+    /// The name of a kind of hostile servers, and after how many requests server 1 becomes one. No text spells it yet.
+    Hostile(Bytes, u32),
     /// A client calls an operation.
     Call(u32, Op),
     /// A client asks whether it may seal.
@@ -32,4 +36,6 @@ pub enum Line {
     Copy(u32, u8),
     /// A client is served by a server from now on.
     Move(u32, u32),
+    /// An empty line or a comment, which does nothing. No text spells it yet.
+    Skip,
 }

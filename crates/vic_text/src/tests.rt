@@ -9,7 +9,7 @@ const NONE: &str = "Err(Grammar)";
 type Row = (&'static str, &'static str);
 
 /// Lines of both modes, once the mode is known.
-const LINES: [Row; 36] = [
+const LINES: [Row; 39] = [
     ("poll 1", "Ok(Poll(1))"),
     ("sync 2", "Ok(Sync(2))"),
     ("serve 3", "Ok(Serve(3))"),
@@ -46,6 +46,9 @@ const LINES: [Row; 36] = [
     ("poll\t1", NONE),
     ("poll", NONE),
     ("", NONE),
+    ("# a", NONE),
+    ("key 00", NONE),
+    ("hostile fork 0", NONE),
 ];
 
 /// Lines of mode plain alone.

@@ -3,11 +3,20 @@ use Rattle.vic_rules.specs.declared.trace.Input.TheVariants as input
 use Rattle.vic_script.specs.declared.line.Line.{Line}
 use Rattle.vic_script.specs.declared.line.Line.TheVariants as line
 use Rattle.vic_group.specs.World.{Does}
-use Rattle.vic_group.proofs.Lines.{asks, opened_line}
+use Rattle.vic_group.proofs.Lines.{asks, header_line, skipped_line}
 use Rattle.vic_group.proofs.world.World.do_line.Goals as goal
 
 pub returns-in-Clients : goal.returns-in-Clients
-returns-in-Clients g c = λ s shows. opened_line g.S.Serve.state g.S.Serve.rule s c.args.line.now c.in-Clients.field-0 c.args.self.now c.in-Clients.is shows
+returns-in-Clients g c = λ s shows. header_line g.S.Serve.state g.S.Serve.rule s c.args.line.now c.args.self.now c.in-Clients.is shows
+
+pub returns-in-Clients-2 : goal.returns-in-Clients-2
+returns-in-Clients-2 g c = λ s shows. header_line g.S.Serve.state g.S.Serve.rule s c.args.line.now c.args.self.now c.in-Clients.is shows
+
+pub returns-in-Clients-3 : goal.returns-in-Clients-3
+returns-in-Clients-3 g c = λ s shows. header_line g.S.Serve.state g.S.Serve.rule s c.args.line.now c.args.self.now c.in-Clients.is shows
+
+pub returns-in-Skip : goal.returns-in-Skip
+returns-in-Skip g c = λ s shows. skipped_line g.S.Serve.state g.S.Serve.rule s c.args.line.now c.args.self.now c.args.out.now c.in-Skip.is shows
 
 pub returns-in-Poll : goal.returns-in-Poll
 returns-in-Poll g c = λ s shows.
