@@ -1,6 +1,6 @@
 -- What a world shows after a client's step, and after a server's.
-use Rattle.std.proofs.Common.{◌≡◌, ℕ, zero, suc, ◌+◌, ◌-◌, ◌<◌, true, List, [], ◌∷◌, ◌++◌, length, map, reverse, Option, Some, is_some, option_map, refl, sym, ap, subst, ◌∙◌, arith, slice_get, slice_set}
-use Rattle.std.specs.Prelude.{unwrap_or}
+use Rattle.std.proofs.Common.{◌≡◌, ℕ, zero, suc, ◌+◌, ◌-◌, ◌<◌, Bool, true, false, List, [], ◌∷◌, ◌++◌, length, map, reverse, Option, Some, None, is_some, option_map, refl, sym, ap, subst, ◌∙◌, arith, slice_get, slice_set}
+use Rattle.std.specs.Prelude.{unwrap_or, nat_eq, if◌then◌else◌}
 use Rattle.std.specs.List.{AllByRecursion}
 use Rattle.std.proofs.lemmas.List.{map-set, reverse-append}
 use Rattle.std.proofs.lemmas.Option.{slice_get-map}
@@ -13,7 +13,7 @@ use Rattle.vic_rules.specs.Client.{MayStep}
 use Rattle.vic_order.specs.Serving.{Serving}
 use Rattle.vic_view.specs.declared.transcript.Transcript.{Transcript}
 use Rattle.vic_view.specs.Transcripts.{steps_of}
-use Rattle.vic_script.specs.Scenes.{SceneOf, Queue, queue_of, set_queue, queued, server_at, set_server, server_of, stands, steps, served_with, served, serves, taken, takes, last_sent, resends, copies, joins}
+use Rattle.vic_script.specs.Scenes.{SceneOf, Queue, queue_of, set_queue, queued, or_none, server_at, set_server, server_of, stands, steps, served_with, served, serves, taken, takes, last_sent, resends, copies, joins}
 use Rattle.vic_runs.proofs.Servers.{is_server-set}
 use Rattle.vic_group.specs.declared.member.Member.{Member}
 use Rattle.vic_group.specs.World.{MemberStands, Shows, Acts, Joins, step_at}
@@ -223,6 +223,21 @@ shows_copied {V = V} t ms vs ws s n to v shows from set =
     set ∙ ap (λ (o : Option V). set_server vs to o) (sym from) ∙ ap (λ (us : List (Option V)). set_server us to (server_at us n)) shows.servers in
     subst (λ (us : List (Option V)). Shows t ms ws (record s { servers = us })) copied
     (shows_servers t ms vs ws s shows (λ j there. subst (λ (us : List (Option V)). is_some (server_at us j) ≡ true) (sym set) (is_server-set vs to j (Some v) refl there)))
+
+at_place : {V : Type 0} (b : Bool) (o : Option (Option V)) (v : V) → (if b then None else or_none o) ≡ Some v → o ≡ Some (Some v)
+at_place true o v e = absurd cc
+at_place false None v e = absurd cc
+at_place false (Some None) v e = absurd cc
+at_place {V = V} false (Some (Some w)) v e = ap (λ (x : Option V). Some x) e
+
+-- a server that is set where it stands
+set_here : {V : Type 0} (vs : List (Option V)) (n : ℕ) (v : V) → server_at vs n ≡ Some v → set_server vs n (Some v) ≡ vs
+set_here vs n v here = set_same vs (n - 1) (Some v) (at_place (nat_eq n 0) (slice_get vs (n - 1)) v here)
+
+-- a server becomes a copy of itself
+pub shows_kept : {V : Type 0} (t : Transcript) (ms : List Member) (vs : List (Option V)) (s : SceneOf V) (n to : ℕ) (v : V) → Shows t ms vs s → server_at vs n ≡ Some v → n ≡ to → Shows t ms vs (copies s n to)
+shows_kept t ms vs s n to v shows from same =
+    shows_copied t ms vs vs s n to v shows from (sym (set_here vs n v from) ∙ ap (λ (k : ℕ). set_server vs k (Some v)) same)
 
 -- a client's server serves its oldest request
 pub shows_served : {V : Type 0} (rule : Serving V) (t : Transcript) (ms : List Member) (vs ws : List (Option V)) (s : SceneOf V) (i k : ℕ) (m n : Member) (v : V) (payload : List ℕ) (rest : Queue) → Shows t ms vs s → i ≡ k + 1

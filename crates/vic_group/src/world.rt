@@ -113,6 +113,7 @@ impl<S: Serve + Drop> World<S> {
         // Where the server answers as one that follows the rule and has them all ready, they are clients with one honest server.
         ensures honest { mode ≡ Mode.Plain → AnswersAs S.rule (S.state server) (fresh_server mode count ready) → IfOk result (λ w. StandsHonestly S.state S.rule w 0) }
     {
+        // A key has 1 to 64 bytes.
         let _length = key.len();
         let members = entered_all(alloc, count, mode, &key)?;
         Ok(World {
@@ -257,6 +258,7 @@ impl<S: Serve + Drop> World<S> {
         if !is_plain_call(self.transcript.mode, op) {
             return Ok(Some(1));
         }
+        // The texts of an operation are bytes.
         are_bytes_in(op);
         let input = Input::Call(op.copy(alloc)?);
         self.ask(alloc, who, input)
@@ -368,6 +370,10 @@ impl<S: Serve + Drop> World<S> {
         let Some(server) = self.servers.at(from) else {
             return Ok(Some(6));
         };
+        // A server copied onto itself stays as it is, and that takes no memory.
+        if from == u32::from(to) {
+            return Ok(None);
+        }
         let copy = server.copy(alloc)?;
         self.servers.set(to, copy);
         Ok(None)
@@ -417,6 +423,9 @@ impl<S: Serve + Drop> World<S> {
     /// Does a line, and answers the text that it prints. Where it is bad, nothing changes. Where memory runs out, nothing has, but
     /// that the turns of a `run` line that were done stay done, the last of which may have been served alone. A client that a line
     /// calls has called fewer than 4,294,967,295 times.
+    ///
+    /// It costs the step or the serving of the line, and in a `run` line those of each turn. A `copy` line costs the server's whole
+    /// state, but where a server is copied onto itself.
     pub fn apply(&mut self, alloc: Global, line: &Line) -> Result<Bytes, WorldFault>
         requires { MayDo self.old line.now }
         ensures done { (s : SceneOf S.State) → ShowsScene S.state self.old s → IfOk result (λ text.
@@ -426,6 +435,7 @@ impl<S: Serve + Drop> World<S> {
         // Clients with one honest server are that still after an honest line, whatever it comes to.
         ensures honest { (n : ℕ) → StandsHonestly S.state S.rule self.old n → is_honest_line line.now ≡ true → StandsHonestly S.state S.rule self.new (n + 1) }
     {
+        // The texts of the line are bytes.
         line_bytes(line);
         let mut out = Bytes::new(alloc);
         match self.do_line(alloc, line, &mut out) {
