@@ -12,7 +12,7 @@ use Rattle.vic_script.specs.declared.line.Line.{Line}
 use Rattle.vic_script.specs.declared.line.Line.TheVariants as line
 use Rattle.vic_script.specs.Lines.{lines_of, line_of}
 use Rattle.vic_script.specs.Scenes.{Scene, opening}
-use Rattle.vic_script.specs.Run.{limit, Played as Run, stops, printed_before, plain_group, Tried, Fails, Does, try_line, follow, place_behind, play, run_of}
+use Rattle.vic_script.specs.Run.{limit, Bad, Played as Run, stops, printed_before, plain_group, Tried, Fails, Does, try_line, follow, place_behind, play, run_of, group_in, history_in}
 use Rattle.vic_script.specs.Print.{bad_line, end_text, print_of, is_forged}
 use Rattle.vic_runs.proofs.Words.{text_fits}
 use Rattle.vic_runs.specs.Reached.{IsReached}
@@ -21,9 +21,11 @@ use Rattle.vic_runs.proofs.Runs.{TriedReaches, tried}
 use Rattle.vic_group.specs.declared.play.BadLine.{BadLine}
 use Rattle.vic_group.specs.declared.play.End.TheVariants as end
 use Rattle.vic_group.specs.declared.play.Played.{Played}
+use Rattle.vic_group.specs.declared.play.Ran.{Ran}
+use Rattle.vic_group.specs.declared.play.Ran.TheVariants as ran
 use Rattle.vic_group.specs.declared.world.World.{World}
 use Rattle.vic_group.specs.World.{MemberStands, ShowsScene, MayDo}
-use Rattle.vic_group.specs.Playing.{state, scene_of, Shows, Opens, Tries, tried_at, Follows, Prints, ended_by, end_of}
+use Rattle.vic_group.specs.Playing.{state, scene_of, Shows, Opens, Tries, tried_at, Follows, Leaves, ended_by, end_of}
 use Rattle.vic_group.proofs.Members.{stand_at}
 use Rattle.vic_group.proofs.Scenes.{same_scene}
 
@@ -115,89 +117,82 @@ run_line run total before n place s out rest text others e lines is =
     e ∙ ap (λ (texts : List (List ℕ)). printed_before out (play total before n (Some s) texts)) lines ∙ ap (printed_before out) (play_line total before n s text (lines_of others))
     ∙ ap (λ (k : ℕ). printed_before out (follow n (Some s) (tried_at k s text) (λ t. play total k (n + 1) (Some t) (lines_of others)))) (sym is)
 
--- ---- what is printed
+-- ---- what the lines come to
 
-print-stopped : (out : List ℕ) (scene : Option Scene) (n kind : ℕ) → print_of (printed_before out (stops scene n kind)) ≡ out ++ bad_line (record { number = n; kind = kind })
-unfolding print_of
-print-stopped out scene n kind = ap (λ (o : List ℕ). o ++ bad_line (record { number = n; kind = kind })) (append-nil out)
-
-print-done : (out : List ℕ) (s : Scene) → print_of (printed_before out (record { scene = Some s; text = []; bad = None })) ≡ out ++ end_text s.group s.history None
-unfolding print_of
-print-done out s = ap (λ (o : List ℕ). o ++ end_text s.group s.history None) (append-nil out)
-
-prints-stops : (run : Run) (out : List ℕ) (scene : Option Scene) (n kind : ℕ) → run ≡ printed_before out (stops scene n kind) → (p : Played) → p.text ≡ out ++ bad_line (record { number = n; kind = kind }) → p.end ≡ end.Bad → Prints run p
-prints-stops run out scene n kind e p text bad = (text ∙ sym (print-stopped out scene n kind) ∙ ap print_of (sym e), bad ∙ ap end_of (sym e))
+stopped-so : (run : Run) (out : List ℕ) (scene : Option Scene) (n kind : ℕ) → run ≡ printed_before out (stops scene n kind) → Leaves run (ran.Stopped out (record { number = n; kind = kind }))
+stopped-so run out scene n kind e = (ap (λ (r : Run). r.bad) e, ap (λ (r : Run). r.text) e ∙ append-nil out)
 
 -- a line was bad
-pub prints_stop : (n : ℕ) (run : Run) (scene : Option Scene) (t : Tried) (rest : Scene → Run) (w : World Server) (old new : List ℕ) (b : BadLine) → run ≡ printed_before old (follow n scene t rest)
-    → Follows n t w old new (Some b) → (p : Played) → p.text ≡ new ++ bad_line (record { number = b.number; kind = b.kind }) → p.end ≡ end.Bad → Prints run p
-prints_stop n run scene (Does s made) rest w old new b e h p text bad = absurd cc
-prints_stop n run scene (Fails kind) rest w old new b e h p text bad =
-    let same : b ≡ record { number = n; kind = kind } = cc in
-    prints-stops run old scene n kind e p
-    (text ∙ ap (λ (o : List ℕ). o ++ bad_line (record { number = b.number; kind = b.kind })) h.1 ∙ ap (λ (x : BadLine). old ++ bad_line (record { number = x.number; kind = x.kind })) same) bad
+pub leaves_stop : (n : ℕ) (run : Run) (scene : Option Scene) (t : Tried) (rest : Scene → Run) (w : World Server) (old new : List ℕ) (b : BadLine) → run ≡ printed_before old (follow n scene t rest)
+    → Follows n t w old new (Some b) → Leaves run (ran.Stopped new b)
+leaves_stop n run scene (Does s made) rest w old new b e h = absurd cc
+leaves_stop n run scene (Fails kind) rest w old new b e h =
+    let bad : BadLine = record { number = n; kind = kind } in
+    let same : b ≡ bad = cc in
+    subst (λ (x : BadLine). Leaves run (ran.Stopped new x)) (sym same) (subst (λ (o : List ℕ). Leaves run (ran.Stopped o bad)) (sym h.1) (stopped-so run old scene n kind e))
 
 play-nil : (total before n : ℕ) (s : Scene) → play total before n (Some s) [] ≡ record { scene = Some s; text = []; bad = None }
 unfolding play
 play-nil total before n s = refl
 
 -- no line is left
-pub prints_end : (total before n : ℕ) (run : Run) (w : World Server) (out : List ℕ) → run ≡ printed_before out (play total before n (Some (scene_of w)) []) → (p : Played)
-    → p.text ≡ out ++ end_text (transcript_group w.transcript) (history_of w.transcript) None → p.end ≡ ended_by None (is_forged (transcript_group w.transcript) (history_of w.transcript)) → Prints run p
-prints_end total before n run w out e p text ends =
+pub leaves_end : (total before n : ℕ) (run : Run) (w : World Server) (out : List ℕ) → run ≡ printed_before out (play total before n (Some (scene_of w)) []) → Shows w → Leaves run (ran.Whole w out)
+leaves_end total before n run w out e shows =
     let done : run ≡ printed_before out (record { scene = Some (scene_of w); text = []; bad = None }) = e ∙ ap (printed_before out) (play-nil total before n (scene_of w)) in
-    (text ∙ sym (print-done out (scene_of w)) ∙ ap print_of (sym done), ends ∙ ap end_of (sym done))
+    (ap (λ (r : Run). r.bad) done, (ap (λ (r : Run). r.text) done ∙ append-nil out, (ap (λ (r : Run). r.scene) done, shows)))
 
 -- ---- the whole script
 
-pub prints_empty : (total : ℕ) (p : Played) → p.text ≡ bad_line (record { number = 1; kind = 1 }) → p.end ≡ end.Bad → Prints (play total 0 1 None []) p
-unfolding play
-prints_empty total p text bad = prints-stops (stops None 1 1) [] None 1 1 refl p text bad
+first_bad : (kind : ℕ) → Leaves (stops None 1 kind) (ran.Stopped [] (record { number = 1; kind = kind }))
+first_bad kind = (refl, refl)
 
-pub prints_long : (total : ℕ) (text : List ℕ) (texts : List (List ℕ)) → limit < place_behind total 0 text → (p : Played) → p.text ≡ bad_line (record { number = 1; kind = 7 }) → p.end ≡ end.Bad
-    → Prints (play total 0 1 None (text ∷ texts)) p
+pub leaves_empty : (total : ℕ) → Leaves (play total 0 1 None []) (ran.Stopped [] (record { number = 1; kind = 1 }))
 unfolding play
-prints_long total text texts long p is bad =
+leaves_empty total = first_bad 1
+
+pub leaves_long : (total : ℕ) (text : List ℕ) (texts : List (List ℕ)) → limit < place_behind total 0 text → Leaves (play total 0 1 None (text ∷ texts)) (ran.Stopped [] (record { number = 1; kind = 7 }))
+unfolding play
+leaves_long total text texts long =
     let place : ℕ = place_behind total 0 text in
     let other : Run = follow 1 None (try_line None (line_of None text)) (λ s. play total place 2 (Some s) texts) in
-    subst (λ (b : Bool). Prints (if b then stops None 1 7 else other) p) (sym (lt-ltb limit place long)) (prints-stops (stops None 1 7) [] None 1 7 refl p is bad)
+    subst (λ (b : Bool). Leaves (if b then stops None 1 7 else other) (ran.Stopped [] (record { number = 1; kind = 7 }))) (sym (lt-ltb limit place long)) (first_bad 7)
 
-follows-opened : (t : Tried) (rest : Scene → Run) (w : World Server) (p : Played) → Opens t (Some w) → Prints (rest (scene_of w)) p → Prints (follow 1 None t rest) p
-follows-opened (Fails kind) rest w p h prints = absurd cc
-follows-opened (Does s text) rest w p h prints =
+follows-opened : (t : Tried) (rest : Scene → Run) (w : World Server) (r : Ran) → Opens t (Some w) → Leaves (rest (scene_of w)) r → Leaves (follow 1 None t rest) r
+follows-opened (Fails kind) rest w r h leaves = absurd cc
+follows-opened (Does s text) rest w r h leaves =
     let same : scene_of w ≡ s = sym (scene_same w s h.1.0) in
-    subst (λ (o : List ℕ). Prints (printed_before o (rest s)) p) (sym h.0) (subst (λ (x : Scene). Prints (rest x) p) same prints)
+    subst (λ (o : List ℕ). Leaves (printed_before o (rest s)) r) (sym h.0) (subst (λ (x : Scene). Leaves (rest x) r) same leaves)
 
-follows-unopened : (t : Tried) (rest : Scene → Run) (p : Played) → Opens t None → p.text ≡ bad_line (record { number = 1; kind = 1 }) → p.end ≡ end.Bad → Prints (follow 1 None t rest) p
-follows-unopened (Fails kind) rest p h text bad =
-    prints-stops (stops None 1 kind) [] None 1 kind refl p (text ∙ ap (λ (k : ℕ). bad_line (record { number = 1; kind = k })) (sym h.0)) bad
-follows-unopened (Does s made) rest p h text bad = absurd h
+follows-unopened : (t : Tried) (rest : Scene → Run) → Opens t None → Leaves (follow 1 None t rest) (ran.Stopped [] (record { number = 1; kind = 1 }))
+follows-unopened (Fails kind) rest h = subst (λ (k : ℕ). Leaves (stops None 1 k) (ran.Stopped [] (record { number = 1; kind = 1 }))) (sym h.0) (first_bad 1)
+follows-unopened (Does s made) rest h = absurd h
 
-pub prints_opened : (total : ℕ) (text : List ℕ) (texts : List (List ℕ)) (w : World Server) (p : Played) → place_behind total 0 text ≤ limit → Opens (try_line None (line_of None text)) (Some w)
-    → Prints (play total (place_behind total 0 text) 2 (Some (scene_of w)) texts) p → Prints (play total 0 1 None (text ∷ texts)) p
+pub leaves_opened : (total : ℕ) (text : List ℕ) (texts : List (List ℕ)) (w : World Server) (r : Ran) → place_behind total 0 text ≤ limit → Opens (try_line None (line_of None text)) (Some w)
+    → Leaves (play total (place_behind total 0 text) 2 (Some (scene_of w)) texts) r → Leaves (play total 0 1 None (text ∷ texts)) r
 unfolding play
-prints_opened total text texts w p within h prints =
+leaves_opened total text texts w r within h leaves =
     let place : ℕ = place_behind total 0 text in
     let rest : Scene → Run = λ s. play total place 2 (Some s) texts in
-    subst (λ (b : Bool). Prints (if b then stops None 1 7 else follow 1 None (try_line None (line_of None text)) rest) p) (sym (le-ltb limit place within))
-    (follows-opened (try_line None (line_of None text)) rest w p h prints)
+    subst (λ (b : Bool). Leaves (if b then stops None 1 7 else follow 1 None (try_line None (line_of None text)) rest) r) (sym (le-ltb limit place within))
+    (follows-opened (try_line None (line_of None text)) rest w r h leaves)
 
-pub prints_unopened : (total : ℕ) (text : List ℕ) (texts : List (List ℕ)) (p : Played) → place_behind total 0 text ≤ limit → Opens (try_line None (line_of None text)) None
-    → p.text ≡ bad_line (record { number = 1; kind = 1 }) → p.end ≡ end.Bad → Prints (play total 0 1 None (text ∷ texts)) p
+pub leaves_unopened : (total : ℕ) (text : List ℕ) (texts : List (List ℕ)) → place_behind total 0 text ≤ limit → Opens (try_line None (line_of None text)) None
+    → Leaves (play total 0 1 None (text ∷ texts)) (ran.Stopped [] (record { number = 1; kind = 1 }))
 unfolding play
-prints_unopened total text texts p within h is bad =
+leaves_unopened total text texts within h =
     let place : ℕ = place_behind total 0 text in
     let rest : Scene → Run = λ s. play total place 2 (Some s) texts in
-    subst (λ (b : Bool). Prints (if b then stops None 1 7 else follow 1 None (try_line None (line_of None text)) rest) p) (sym (le-ltb limit place within))
-    (follows-unopened (try_line None (line_of None text)) rest p h is bad)
+    subst (λ (b : Bool). Leaves (if b then stops None 1 7 else follow 1 None (try_line None (line_of None text)) rest) (ran.Stopped [] (record { number = 1; kind = 1 }))) (sym (le-ltb limit place within))
+    (follows-unopened (try_line None (line_of None text)) rest h)
 
 pub lines_none : (rest : List ℕ) → length rest ≡ 0 → lines_of rest ≡ []
 unfolding lines_of
 lines_none [] e = refl
 lines_none (b ∷ bs) e = absurd (omega (arith, e))
 
-pub prints_lines : (lines : List (List ℕ)) (others : List (List ℕ)) (total : ℕ) (p : Played) → lines ≡ others → Prints (play total 0 1 None others) p → Prints (play total 0 1 None lines) p
-prints_lines lines others total p e h = subst (λ (texts : List (List ℕ)). Prints (play total 0 1 None texts) p) (sym e) h
+pub leaves_lines : (lines others : List (List ℕ)) (total : ℕ) (r made : Ran) → lines ≡ others → made ≡ r → Leaves (play total 0 1 None others) r → Leaves (play total 0 1 None lines) made
+leaves_lines lines others total r made e is h =
+    subst (λ (x : Ran). Leaves (play total 0 1 None lines) x) (sym is) (subst (λ (texts : List (List ℕ)). Leaves (play total 0 1 None texts) r) (sym e) h)
 
 pub run_known : (script known : List ℕ) → known ≡ take (limit + 1) script → play (length known) 0 1 None (lines_of known) ≡ run_of script
 unfolding run_of
@@ -208,6 +203,22 @@ pub if_ok-map : {A E : Type 0} (r : Result A E) (P Q : A → Type 0) → ((a : A
 if_ok-map (Ok a) P Q f h = f a h
 if_ok-map (Err e) P Q f h = tt
 
--- where nothing was printed before, a line is all that is printed
-pub printed_alone : (out text line : List ℕ) → out ≡ [] → text ≡ out ++ line → text ≡ line
-printed_alone out text line none e = e ∙ ap (λ (o : List ℕ). o ++ line) none
+-- ---- what is printed
+
+-- every line was done
+pub prints_whole : (r : Run) (w : World Server) (out : List ℕ) → Leaves r (ran.Whole w out) → (p : Played)
+    → (p.text ≡ out ++ end_text (transcript_group w.transcript) (history_of w.transcript) None) × (p.end ≡ ended_by None (is_forged (transcript_group w.transcript) (history_of w.transcript))) → (p.text ≡ print_of r) × (p.end ≡ end_of r)
+unfolding print_of
+prints_whole r w out left p h = (
+  h.0 ∙ ap (λ (o : List ℕ). o ++ end_text (transcript_group w.transcript) (history_of w.transcript) None) (sym left.1.0)
+      ∙ ap (λ (o : Option Scene). r.text ++ end_text (group_in o) (history_in o) None) (sym left.1.1.0) ∙ ap (λ (b : Option Bad). r.text ++ end_text (group_in r.scene) (history_in r.scene) b) (sym left.0),
+  h.1 ∙ ap (λ (o : Option Scene). ended_by None (is_forged (group_in o) (history_in o))) (sym left.1.1.0) ∙ ap (λ (b : Option Bad). ended_by b (is_forged (group_in r.scene) (history_in r.scene))) (sym left.0),
+)
+
+-- a line was bad
+pub prints_stopped : (r : Run) (out : List ℕ) (b : BadLine) → Leaves r (ran.Stopped out b) → (p : Played) → (p.text ≡ out ++ bad_line (record { number = b.number; kind = b.kind })) × (p.end ≡ end.Bad) → (p.text ≡ print_of r) × (p.end ≡ end_of r)
+unfolding print_of
+prints_stopped r out b left p h = (
+  h.0 ∙ ap (λ (o : List ℕ). o ++ bad_line (record { number = b.number; kind = b.kind })) (sym left.1) ∙ ap (λ (x : Option Bad). r.text ++ end_text (group_in r.scene) (history_in r.scene) x) (sym left.0),
+  h.1 ∙ ap (λ (x : Option Bad). ended_by x (is_forged (group_in r.scene) (history_in r.scene))) (sym left.0),
+)

@@ -5,12 +5,13 @@ use Rattle.vic_view.specs.Transcripts.{history_of, group_of as transcript_group}
 use Rattle.vic_script.specs.Lines.{line_of}
 use Rattle.vic_script.specs.Scenes.{Scene}
 use Rattle.vic_script.specs.Run.{limit, Bad, Played as Run, Tried, Fails, Does, try_line, group_in, history_in}
-use Rattle.vic_script.specs.Print.{print_of, is_forged}
+use Rattle.vic_script.specs.Print.{is_forged}
 use Rattle.vic_runs.specs.Reached.{IsReached}
 use Rattle.vic_group.specs.declared.play.BadLine.{BadLine}
 use Rattle.vic_group.specs.declared.play.End.{End}
 use Rattle.vic_group.specs.declared.play.End.TheVariants as end
-use Rattle.vic_group.specs.declared.play.Played.{Played}
+use Rattle.vic_group.specs.declared.play.Ran.{Ran}
+use Rattle.vic_group.specs.declared.play.Ran.TheVariants as ran
 use Rattle.vic_group.specs.declared.world.World.{World}
 use Rattle.vic_group.specs.World.{ShowsScene, states}
 
@@ -62,6 +63,7 @@ ended_by None false = end.Whole
 abbrev pub end_of : Run → End
 end_of r = ended_by r.bad (is_forged (group_in r.scene) (history_in r.scene))
 
--- the print of a run, and its end
-abbrev pub Prints : Run → Played → Type 0
-Prints r p = (p.text ≡ print_of r) × (p.end ≡ end_of r)
+-- what the lines of a run come to: what they printed, and the bad line; or, where none is bad, a world that shows where it stands
+abbrev pub Leaves : Run → Ran → Type 0
+Leaves r (ran.Stopped text b) = (r.bad ≡ Some (record { number = b.number; kind = b.kind })) × (r.text ≡ text)
+Leaves r (ran.Whole w text) = (r.bad ≡ None) × ((r.text ≡ text) × ((r.scene ≡ Some (scene_of w)) × Shows w))

@@ -1,16 +1,17 @@
 //! Running a script.
 
-ghost use Rattle.std.specs.Prelude.{◌≡◌, ◌<◌, ◌≤◌, ◌+◌, ◌++◌, ◌^◌, IfOk, length, take, Some, None};
+ghost use Rattle.std.specs.Prelude.{◌≡◌, ◌<◌, ◌≤◌, ◌+◌, ◌++◌, ◌^◌, IfOk, length, take, Some, None, []};
 ghost use Rattle.vic_dict.specs.declared.op.Mode.TheVariants as mode;
 ghost use Rattle.vic_script.specs.declared.line.Line.{Line};
 ghost use Rattle.vic_script.specs.Lines.{line_of, lines_of};
 ghost use Rattle.vic_order.specs.Serving.{by_rule};
 ghost use Rattle.vic_script.specs.Scenes.{opening, bad_kind, done_line};
 ghost use Rattle.vic_script.specs.Run.{limit, plain_group, run_of, try_line, tried_by, play as play_by};
-ghost use Rattle.vic_script.specs.Print.{print_of_script, kind_text as kind_text_by, bad_line};
+ghost use Rattle.vic_script.specs.Print.{print_of_script, kind_text as kind_text_by, bad_line, end_text, is_forged};
+ghost use Rattle.vic_view.specs.Transcripts.{group_of, history_of};
 ghost use Rattle.vic_runs.specs.Reached.{IsReached};
 ghost use Rattle.vic_group.specs.World.{MayDo, ShowsScene};
-ghost use Rattle.vic_group.specs.Playing.{state, scene_of, Shows, Opens, Tries, tried_at, Follows, Prints, ended_by, end_of};
+ghost use Rattle.vic_group.specs.Playing.{state, scene_of, Shows, Opens, Tries, tried_at, Follows, Leaves, ended_by, end_of};
 
 use crate::opening::zero_key;
 use crate::place::{first_line, place_behind};
@@ -46,11 +47,30 @@ pub struct BadLine {
     pub kind: u8,
 }
 
-/// Runs a script. It takes time and memory for its first 16,777,217 bytes at most.
+/// What the lines of a script come to.
+#[derive(Drop)]
+pub(crate) enum Ran {
+    /// Every line was done: the world that they left, and what they printed.
+    Whole(World<Served>, Bytes),
+    /// What the lines before a bad one printed, and the bad line.
+    Stopped(Bytes, BadLine),
+}
+
+/// Runs a script, and answers what it prints. It takes time and memory for its first 16,777,217 bytes at most.
 pub fn play(alloc: Global, script: &[u8]) -> Result<Played, NoMemory>
     ensures { IfOk result (λ p. (p.text ≡ print_of_script script.now) × (p.end ≡ end_of (run_of script.now))) }
 {
-    play_known(alloc, known_of(script))
+    match run_script(alloc, script)? {
+        Ran::Whole(world, text) => finished(alloc, &world, text),
+        Ran::Stopped(text, bad) => stopped(alloc, text, bad),
+    }
+}
+
+/// Does the lines of a script, up to the first bad one.
+pub(crate) fn run_script(alloc: Global, script: &[u8]) -> Result<Ran, NoMemory>
+    ensures { IfOk result (λ r. Leaves (run_of script.now) r) }
+{
+    run_known(alloc, known_of(script))
 }
 
 /// As much of a script as matters.
@@ -64,22 +84,29 @@ fn known_of(script: &[u8]) -> &[u8]
     }
 }
 
-fn play_known(alloc: Global, known: &[u8]) -> Result<Played, NoMemory>
+fn run_known(alloc: Global, known: &[u8]) -> Result<Ran, NoMemory>
     requires { length known.now ≤ limit + 1 }
-    ensures { IfOk result (λ p. Prints (play_by (length known.now) 0 1 None (lines_of known.now)) p) }
+    ensures { IfOk result (λ r. Leaves (play_by (length known.now) 0 1 None (lines_of known.now)) r) }
 {
     if known.is_empty() {
-        return stopped(alloc, Bytes::new(alloc), BadLine { number: 1, kind: 1 });
+        return Ok(unopened(alloc, 1));
     }
     let (text, rest) = first_line(known);
     let place = place_behind(known.len(), 0, text);
     if LIMIT < place {
-        return stopped(alloc, Bytes::new(alloc), BadLine { number: 1, kind: 7 });
+        return Ok(unopened(alloc, 7));
     }
     match opened_by(alloc, text)? {
-        Some(world) => play_on(alloc, world, known.len(), place, rest),
-        None => stopped(alloc, Bytes::new(alloc), BadLine { number: 1, kind: 1 }),
+        Some(world) => run_on(alloc, world, known.len(), place, rest),
+        None => Ok(unopened(alloc, 1)),
     }
+}
+
+/// The run of a script whose first line is bad, by this kind.
+fn unopened(alloc: Global, kind: u8) -> Ran
+    ensures { result ≡ Ran.Stopped [] (record { number = 1; kind = kind }) }
+{
+    Ran::Stopped(Bytes::new(alloc), BadLine { number: 1, kind })
 }
 
 /// A world of so many clients, all come in, with the key of a script that names none and one honest server.
@@ -104,20 +131,20 @@ fn opened_by(alloc: Global, text: &[u8]) -> Result<Option<World<Served>>, NoMemo
     }
 }
 
-/// Does the lines behind the first one, and answers the print.
-fn play_on(
+/// Does the lines behind the first one, up to the first bad one.
+fn run_on(
     alloc: Global,
     opened: World<Served>,
     total: usize,
     place: usize,
     lines: &[u8],
-) -> Result<Played, NoMemory>
+) -> Result<Ran, NoMemory>
     requires shows { Shows opened }
     requires reached { IsReached (scene_of opened) 1 }
     requires place { place ≤ total }
     requires total { total ≤ limit + 1 }
     requires few { length lines.now ≤ limit + 1 }
-    ensures { IfOk result (λ p. Prints (play_by total place 2 (Some (scene_of opened)) (lines_of lines.now)) p) }
+    ensures { IfOk result (λ r. Leaves (play_by total place 2 (Some (scene_of opened)) (lines_of lines.now)) r) }
 {
     let mut world = opened;
     let mut out = Bytes::new(alloc);
@@ -128,7 +155,7 @@ fn play_on(
         let (text, others) = first_line(rest);
         let behind = place_behind(total, before, text);
         match do_line(alloc, &mut world, number, behind, text, &mut out)? {
-            Some(bad) => return stopped(alloc, out, bad),
+            Some(bad) => return Ok(Ran::Stopped(out, bad)),
             None => {
                 before = behind;
                 number += 1;
@@ -136,19 +163,7 @@ fn play_on(
             }
         }
     }
-    let views = world.views(alloc)?;
-    out.append(views.text.as_slice())?;
-    Ok(Played {
-        text: out,
-        end: whole_end(views.forged),
-    })
-}
-
-/// How a run ends whose every line was done.
-fn whole_end(forged: bool) -> End
-    ensures { result ≡ ended_by None forged }
-{
-    if forged { End::Forged } else { End::Whole }
+    Ok(Ran::Whole(world, out))
 }
 
 /// Does the line of a number, which ends so far in the script; where it is bad, it answers how.
@@ -210,6 +225,27 @@ fn try_line_on(
         Err(WorldFault::Bad(kind)) => Ok(Some(kind)),
         Err(WorldFault::NoMemory) => Err(NoMemory),
     }
+}
+
+/// How a run ends whose every line was done.
+fn whole_end(forged: bool) -> End
+    ensures { result ≡ ended_by None forged }
+{
+    if forged { End::Forged } else { End::Whole }
+}
+
+/// What was printed, and then the views of all clients.
+fn finished(alloc: Global, world: &World<Served>, out: Bytes) -> Result<Played, NoMemory>
+    requires { Shows world.now }
+    ensures { IfOk result (λ p. (p.text ≡ out ++ end_text (group_of world.now.transcript) (history_of world.now.transcript) None) × (p.end ≡ ended_by None (is_forged (group_of world.now.transcript) (history_of world.now.transcript)))) }
+{
+    let views = world.views(alloc)?;
+    let mut text = out;
+    text.append(views.text.as_slice())?;
+    Ok(Played {
+        text,
+        end: whole_end(views.forged),
+    })
 }
 
 /// What was printed, and then the bad line.

@@ -1,14 +1,22 @@
-use Rattle.std.proofs.Common.{◌+◌, subst}
-use Rattle.vic_script.specs.Run.{limit}
-use Rattle.vic_script.specs.Run.{Played as Run}
-use Rattle.vic_runs.proofs.Runs.{length-taken}
-use Rattle.vic_group.specs.Playing.{Prints}
-use Rattle.vic_group.proofs.Playing.{run_known, if_ok-map}
+use Rattle.std.proofs.Common.{subst}
+use Rattle.vic_script.specs.Run.{run_of}
+use Rattle.vic_group.specs.declared.play.Ran.{Ran}
+use Rattle.vic_group.specs.declared.play.Ran.TheVariants as ran
+use Rattle.vic_group.specs.Playing.{Leaves}
+use Rattle.vic_group.proofs.Playing.{prints_whole, prints_stopped, if_ok-map}
 use Rattle.vic_group.proofs.play.play.Goals as goal
 
-pub play_known-requires : goal.play_known-requires
-play_known-requires c = rw c.known_of.ensures (length-taken (limit + 1) c.args.script.now)
+pub finished-requires : goal.finished-requires
+finished-requires c =
+    let left : Leaves (run_of c.args.script.now) (ran.Whole c.in-Whole.world c.in-Whole.text) = subst (λ (r : Ran). Leaves (run_of c.args.script.now) r) c.in-Whole.is c.in_ok-world.ensures in
+    left.1.1.1
 
-pub returns : goal.returns
-returns c =
-    if_ok-map c.play_known.result _ _ (λ p h. subst (λ (r : Run). Prints r p) (run_known c.args.script.now c.known_of.result.now c.known_of.ensures) h) c.play_known.ensures
+pub returns-in-Whole : goal.returns-in-Whole
+returns-in-Whole c =
+    let left : Leaves (run_of c.args.script.now) (ran.Whole c.in-Whole.world c.in-Whole.text) = subst (λ (r : Ran). Leaves (run_of c.args.script.now) r) c.in-Whole.is c.in_ok-world.ensures in
+    if_ok-map c.finished.result _ _ (prints_whole (run_of c.args.script.now) c.in-Whole.world c.in-Whole.text left) c.finished.ensures
+
+pub returns-in-Stopped : goal.returns-in-Stopped
+returns-in-Stopped c =
+    let left : Leaves (run_of c.args.script.now) (ran.Stopped c.in-Stopped.text c.in-Stopped.bad) = subst (λ (r : Ran). Leaves (run_of c.args.script.now) r) c.in-Stopped.is c.in_ok-world.ensures in
+    if_ok-map c.stopped.result _ _ (prints_stopped (run_of c.args.script.now) c.in-Stopped.text c.in-Stopped.bad left) c.stopped.ensures

@@ -3,9 +3,9 @@ use Rattle.std.proofs.lemmas.Bool.{eqb-true}
 use Rattle.vic_script.specs.Lines.{lines_of}
 use Rattle.vic_script.specs.Scenes.{Scene}
 use Rattle.vic_script.specs.Run.{Played as Run, printed_before, play}
-use Rattle.vic_group.specs.Playing.{scene_of, tried_at, ended_by}
-use Rattle.vic_group.proofs.Playing.{run_line, goes_on, prints_stop, prints_end, lines_none, if_ok-map}
-use Rattle.vic_group.proofs.play.play_on.Goals as goal
+use Rattle.vic_group.specs.Playing.{scene_of, tried_at}
+use Rattle.vic_group.proofs.Playing.{run_line, goes_on, leaves_stop, leaves_end, lines_none}
+use Rattle.vic_group.proofs.play.run_on.Goals as goal
 
 pub returns-in-Some : goal.returns-in-Some
 returns-in-Some c =
@@ -17,10 +17,8 @@ returns-in-Some c =
     let others : List ℕ = c.first_line.result.1.now in
     let run : Run = play total c.args.place 2 (Some (scene_of c.args.opened)) (lines_of c.args.lines.now) in
     let on = run_line run total c.loop-rest.before n behind s c.loop-rest.out c.loop-rest.rest.now text others c.loop-rest.invariant.run c.first_line.ensures.lines c.place_behind-behind.ensures in
-    if_ok-map c.stopped.result _ _
-    (λ p h. prints_stop n run (Some s) (tried_at behind s text) (λ t. play total behind (n + 1) (Some t) (lines_of others)) c.do_line.new.world c.loop-rest.out c.do_line.new.out c.in-Some.bad
-    on (rw (sym c.in-Some.is) c.in_ok-bad.ensures) p h.0 h.1)
-    c.stopped.ensures
+    leaves_stop n run (Some s) (tried_at behind s text) (λ t. play total behind (n + 1) (Some t) (lines_of others)) c.do_line.new.world c.loop-rest.out c.do_line.new.out c.in-Some.bad
+    on (rw (sym c.in-Some.is) c.in_ok-bad.ensures)
 
 pub loop-rest-preserved : goal.loop-rest-preserved
 loop-rest-preserved c =
@@ -41,9 +39,6 @@ loop-rest-preserved c =
       run = next.1;
     }
 
-pub views-requires : goal.views-requires
-views-requires c = c.loop-rest.invariant.shows.lawful
-
 pub returns : goal.returns
 returns c =
     let n : ℕ = c.loop-rest.number in
@@ -51,6 +46,4 @@ returns c =
     let run : Run = play c.args.total c.args.place 2 (Some (scene_of c.args.opened)) (lines_of c.args.lines.now) in
     let none : length c.loop-rest.rest.now ≡ 0 = eqb-true _ 0 (sym c.is_empty.ensures ∙ c.loop-rest-test.false) in
     let end = c.loop-rest.invariant.run ∙ ap (λ (texts : List (List ℕ)). printed_before c.loop-rest.out (play c.args.total c.loop-rest.before n (Some s) texts)) (lines_none c.loop-rest.rest.now none) in
-    prints_end c.args.total c.loop-rest.before n run c.loop-rest.world c.loop-rest.out end (record { text = c.append.new.self; end = c.whole_end.result })
-    (c.in_ok-append.ensures.ok ∙ ap (λ (views : List ℕ). c.loop-rest.out ++ views) (c.as_slice.ensures ∙ c.in_ok-views.ensures.text))
-    (c.whole_end.ensures ∙ ap (ended_by None) c.in_ok-views.ensures.forged)
+    leaves_end c.args.total c.loop-rest.before n run c.loop-rest.world c.loop-rest.out end c.loop-rest.invariant.shows

@@ -3,7 +3,7 @@ use Rattle.vic_script.specs.Lines.{lines_of}
 use Rattle.vic_script.specs.Run.{printed_before, play}
 use Rattle.vic_runs.specs.Reached.{IsReached}
 use Rattle.vic_group.specs.Playing.{scene_of, Shows}
-use Rattle.vic_group.proofs.play.play_on.Given as goal
+use Rattle.vic_group.proofs.play.run_on.Given as goal
 
 -- the world shows where the script stands, and what is left leads on from what was printed
 abbrev pub invariant-loop-rest : goal.invariant-loop-rest
