@@ -1,16 +1,25 @@
 //! Rows of the command on a script, over a source and a sink in memory. What each prints was worked out by hand from the rules.
 
+ghost use Rattle.vic_rules.specs.History.{IsLawful};
+ghost use Rattle.vic_view.specs.Transcripts.{group_of, history_of};
+
 use crate::opening::zero_key;
-use crate::{run_group, run_in_memory};
+use crate::play::{Ran, run_script};
+use crate::{World, WorldFault, run_group, run_in_memory};
 use std::alloc::Global;
 use std::test::Fail;
-use vic_dict::{Bytes, NoMemory};
+use vic_dict::{Bytes, Mode, NoMemory};
 use vic_ports::{Calls, MemorySink, MemorySource, NeverFails};
+use vic_script::Line;
+use vic_server::Served;
+use vic_view::{
+    Transcript, View, agree, forged, forged_plainly, print_views, view_of, view_plainly,
+};
 
 /// A script and what it prints, each with ` / ` between its lines, and the status.
 type Row = (&'static str, &'static str, u8);
 
-const ROWS: [Row; 39] = [
+const ROWS: [Row; 41] = [
     // A put and a get by one client, which memory suffices for.
     (
         "clients 1 / call 1 put a x / run 1 / call 1 get a / run 1",
@@ -130,6 +139,18 @@ const ROWS: [Row; 39] = [
         "clients 2 / copy 1 2 / move 2 2 / call 1 put a x / run 1 / call 2 put b y / run 2 / move 2 1 / call 2 get a / run 2",
         "1 done stored / 1 took / 1 took / 2 done stored / 2 took / 2 took / 2 halted 5 / view 1 / 1.1 put a x = done stored / view 2 / 2.1 put b y = done stored / agree 1 2 0 / tags made",
         0,
+    ),
+    // A client's Seal, sent again.
+    (
+        "clients 1 / call 1 put a x / run 1 / resend 1 / run 1",
+        "1 done stored / 1 took / 1 took / 1 halted 1 / view 1 / 1.1 put a x = done stored / tags made",
+        0,
+    ),
+    // A client that halted: it sends its call again, to a copy, and takes what comes; but it can be asked for nothing.
+    (
+        "clients 1 / call 1 put a x / give 1 % / serve 1 / resend 1 / copy 1 2 / move 1 2 / run 1 / poll 1",
+        "1 halted 1 / 1 halted 1 / line 9: client has halted",
+        5,
     ),
     // Tampering that cannot be.
     ("clients 1 / again 1", "line 2: nothing waiting", 5),
@@ -403,16 +424,6 @@ fn far_behind(rt: HostRuntime) -> Result<(), Fail> {
     Ok(())
 }
 
-/// The bytes of a tag in hexadecimal digits, as they stand in a script.
-fn append_digits(out: &mut Bytes, bytes: &[u8]) -> Result<(), NoMemory> {
-    let digits = b"0123456789abcdef";
-    for byte in bytes.iter() {
-        out.push(digits[(*byte >> 4) as usize])?;
-        out.push(digits[(*byte & 15) as usize])?;
-    }
-    Ok(())
-}
-
 /// Client 1 takes its call's answer, behind an entry that nobody made, with the tags that the key gives.
 fn forged_script(alloc: Global) -> Result<Bytes, NoMemory> {
     let key = zero_key(alloc)?;
@@ -422,20 +433,90 @@ fn forged_script(alloc: Global) -> Result<Bytes, NoMemory> {
         alloc,
         b"clients 2\ncall 1 put a x\ngive 1 %420000000000020200000001010162017a",
     )?;
-    append_digits(&mut script, &other.bytes)?;
+    script.append(hex::encode(alloc, other.bytes)?.as_bytes())?;
     script.append(b"01000000010101610178")?;
-    append_digits(&mut script, &own.bytes)?;
+    script.append(hex::encode(alloc, own.bytes)?.as_bytes())?;
     script.append(b"0000000000\n")?;
     Ok(script)
 }
 
+const FORGED: &str =
+    "1 done stored / view 1 / 1.1 put a x = done stored / view 2 / agree 1 2 0 / tags not made";
+
 #[test]
 fn forged_tag(rt: HostRuntime) -> Result<(), Fail> {
     let script = forged_script(rt.alloc())?;
-    let text = lines_of(
-        rt.alloc(),
-        "1 done stored / view 1 / 1.1 put a x = done stored / view 2 / agree 1 2 0 / tags not made",
-    )?;
+    let text = lines_of(rt.alloc(), FORGED)?;
     assert!(rt; prints(rt.alloc(), "group", script, text.as_slice(), 1)?);
+    // A bad line behind it: nothing is said of tags.
+    let mut script = forged_script(rt.alloc())?;
+    script.append(b"take 1\n")?;
+    let text = lines_of(rt.alloc(), "1 done stored / line 4: nothing waiting")?;
+    assert!(rt; prints(rt.alloc(), "group", script, text.as_slice(), 5)?);
+    Ok(())
+}
+
+/// Whether a line of a world is bad by this kind.
+fn is_bad(done: &Result<Bytes, WorldFault>, kind: u8) -> bool {
+    match done {
+        Err(WorldFault::Bad(found)) => *found == kind,
+        _ => false,
+    }
+}
+
+// Lines that are done in a world without a script.
+#[test]
+fn lines_of_a_world(rt: HostRuntime) -> Result<(), Fail> {
+    let alloc = rt.alloc();
+    let server = Served::gathered(alloc, Mode::Plain, 2)?;
+    let mut world = World::new(alloc, 2, Mode::Plain, zero_key(alloc)?, server)?;
+    assert!(rt; is_bad(&world.apply(alloc, &Line::Copy(9, 5)), 1));
+    assert!(rt; is_bad(&world.apply(alloc, &Line::Copy(9, 1)), 6));
+    assert!(rt; is_bad(&world.apply(alloc, &Line::Move(9, 9)), 2));
+    assert!(rt; world.apply(alloc, &Line::Sync(2))?.is_empty());
+    assert!(rt; world.apply(alloc, &Line::Run(2))?.as_slice() == b"2 took\n".as_slice());
+    assert_eq!(rt; world.transcript().len(), 2);
+    assert_eq!(rt; world.server().length(), 0);
+    Ok(())
+}
+
+/// Whether two views of a few calls are the same.
+fn are_same(one: &View, other: &View) -> bool {
+    one.len() == other.len() && one.len() < 9 && agree(one, other) as usize == one.len()
+}
+
+/// Whether the definitions read off tell of a transcript what `view_of` and `forged` do, and a print ends with what those tell.
+fn ends_plainly(alloc: Global, t: &Transcript, print: &[u8]) -> Result<bool, NoMemory>
+    requires { IsLawful (group_of t.now) (history_of t.now) }
+{
+    for k in 0..t.count {
+        let view = view_of(alloc, t, k + 1)?;
+        if !are_same(&view, &view_plainly(alloc, t, k + 1)?) {
+            return Ok(false);
+        }
+    }
+    let end = print_views(alloc, t)?;
+    Ok(forged(alloc, t)? == forged_plainly(alloc, t)? && print.ends_with(end.as_slice()))
+}
+
+/// The same of a script in which no line is bad.
+fn runs_plainly(alloc: Global, script: &[u8], print: &[u8]) -> Result<bool, NoMemory> {
+    match run_script(alloc, script)? {
+        Ran::Whole(world, _) => ends_plainly(alloc, world.transcript(), print),
+        Ran::Stopped(_, _) => Ok(false),
+    }
+}
+
+// On the scripts of the table in which no line is bad, and on the one with a forged tag.
+#[test]
+fn as_defined(rt: HostRuntime) -> Result<(), Fail> {
+    let alloc = rt.alloc();
+    for (script, print, status) in ROWS.iter() {
+        let (script, print) = (lines_of(alloc, script)?, lines_of(alloc, print)?);
+        let is_whole = runs_plainly(alloc, script.as_slice(), print.as_slice())?;
+        assert!(rt; is_whole == (*status == 0));
+    }
+    let (script, print) = (forged_script(alloc)?, lines_of(alloc, FORGED)?);
+    assert!(rt; runs_plainly(alloc, script.as_slice(), print.as_slice())?);
     Ok(())
 }
