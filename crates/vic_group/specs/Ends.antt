@@ -101,7 +101,7 @@ pub record IsAsClaimed (script : List ℕ) : Type 0 where
   pub seals : SealsHoldIn (group_of script) (history_of script)
   -- the claim on the views of all clients
   pub views : Headline (group_of script) (history_of script)
-  -- a call has one completion
+  -- a call has at most one completion
   pub once : CompletedOnceIn (group_of script) (history_of script)
   -- a call that is done conflicts with no entry of another client above the seal of its Reply and below the call
   pub no_conflict : DoneMeetsNoConflictIn (group_of script) (history_of script)

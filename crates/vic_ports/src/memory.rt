@@ -1,7 +1,6 @@
 //! A source and a sink in memory, which tell their bytes, and fail at the calls that they are told to.
 
 ghost use Rattle.std.specs.Prelude.{◌≡◌, ◌≢◌, ◌+◌, ◌-◌, ◌^◌, ◌≤◌, ◌<◌, ◌↔◌, false, [], ◌∷◌, ◌++◌, length, take, drop, min, Some, IsTrue, OnOk, OnErr, slice_get};
-ghost use Rattle.vic_dict.specs.Lists.{AreBytes};
 ghost use Rattle.vic_ports.specs.Causes.{ReadGives, WriteGives};
 ghost use Rattle.vic_ports.specs.Failing.{is_to_fail};
 
@@ -101,13 +100,6 @@ impl MemorySource {
             faults: 0,
             ended: false,
         }
-    }
-
-    /// What is left to give is bytes, as its type says. It does nothing.
-    pub fn are_bytes(&self)
-        ensures { AreBytes (drop self.now.taken self.now.bytes) }
-    {
-        self.bytes.are_bytes();
     }
 
     fn take_front(&mut self, into: &mut [u8]) -> Got

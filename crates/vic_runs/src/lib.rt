@@ -2,9 +2,9 @@
 //! so what holds of lawful histories holds of it. Where no line tampers with what the one server answers, it is a run of clients
 //! with one honest server, and what holds of those holds of it.
 //!
-//! This crate has no code of its own. `specs/Claims.antt` states the laws over the definitions of `vic_script`, and each is the
-//! contract of a function without parameters and with an empty body. The contract of [`claims_hold`] carries the claim on a
-//! group's views to every script. `specs/Reached.antt` says what holds of the scenes that lines reach.
+//! This crate has no code of its own. `specs/Claims.antt` and `specs/Agreements.antt` state the laws over the definitions of
+//! `vic_script`, and each is the contract of a function without parameters and with an empty body. The contract of [`claims_hold`]
+//! carries the claim on a group's views to every script. `specs/Reached.antt` says what holds of the scenes that lines reach.
 #![tactic(auto)]
 
 ghost use Rattle.vic_runs.specs.Claims.{RunsAreLawful, NothingIsForged, ForgedIs, RunsAreHonest, ClaimsHold, OutcomesAreFates, NobodyHalts, NoLineIsHalted, PrintsAreReturns};

@@ -299,7 +299,7 @@ bad_kind s l = first_failing (line_tests s l)
 abbrev pub is_honest_line : Line → Bool
 is_honest_line (line.Clients n) = true
 is_honest_line (line.Key digits) = true
-is_honest_line (line.Hostile name n) = true
+is_honest_line (line.Hostile name n) = false
 is_honest_line (line.Call i o) = true
 is_honest_line (line.Poll i) = true
 is_honest_line (line.Sync i) = true
