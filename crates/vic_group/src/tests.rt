@@ -474,7 +474,8 @@ fn lines_of_a_world(rt: HostRuntime) -> Result<(), Fail> {
     assert!(rt; is_bad(&world.apply(alloc, &Line::Copy(9, 1)), 6));
     assert!(rt; is_bad(&world.apply(alloc, &Line::Move(9, 9)), 2));
     assert!(rt; is_bad(&world.apply(alloc, &Line::Key(Bytes::of(alloc, b"00")?)), 1));
-    assert!(rt; is_bad(&world.apply(alloc, &Line::Hostile(Bytes::of(alloc, b"fork")?, 0)), 1));
+    let hostile = Line::Hostile(Bytes::of(alloc, b"fork")?, 0);
+    assert!(rt; is_bad(&world.apply(alloc, &hostile), 1));
     assert!(rt; world.apply(alloc, &Line::Skip)?.is_empty());
     assert!(rt; world.apply(alloc, &Line::Sync(2))?.is_empty());
     assert!(rt; world.apply(alloc, &Line::Run(2))?.as_slice() == b"2 took\n".as_slice());
