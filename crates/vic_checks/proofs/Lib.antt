@@ -1,5 +1,5 @@
 pub mod Walks
-pub mod Tags
+pub mod Digests
 pub mod Paths
 pub mod Verdicts
 pub mod Decisions

@@ -2,7 +2,7 @@
 //!
 //! A client that awaits an answer keeps a `State`. What it must make of the answer is `verdict_on` and `decision` of
 //! `vic_rules/specs/Client.antt`; the contracts of `judge` and `decide` carry them, for each standing that the state
-//! stands for (`StandsForState` of `specs/State.antt`).
+//! stands for (`StandsForState` of `specs/State.antt`). [`tags`] has the tags that clients make, by which the checks are made.
 #![tactic(auto)]
 
 pub mod deciding;
@@ -11,6 +11,7 @@ pub mod judging;
 pub mod members;
 pub mod seals;
 pub mod state;
+pub mod tags;
 
 pub use deciding::decide;
 pub use judging::judge;

@@ -5,29 +5,14 @@ ghost use Rattle.std.specs.List.{list_all, AllByRecursion};
 ghost use Rattle.vic_dict.specs.Dictionary.{Fits};
 ghost use Rattle.vic_wire.specs.Messages.{HasSpelling, IsTagged};
 ghost use Rattle.vic_wire.specs.Hashes.{Group};
-ghost use Rattle.vic_rules.specs.Client.{Standing, newest_first, same_op as alike, is_open as opens, is_other as other, is_reply_to as replies, has_members as members, is_tagged as tagged, has_tags as tags};
+ghost use Rattle.vic_rules.specs.Client.{Standing, newest_first, is_open as opens, is_other as other, is_reply_to as replies, has_members as members, is_tagged as tagged, has_tags as tags};
 
-use sha2::Digest;
-use vic_chain::feed_entry;
-use vic_dict::{Entry, Op};
-use vic_rules::Awaiting;
+use crate::tags::invoke_tag;
+use vic_dict::Entry;
+use vic_rules::{Awaiting, same_op};
 use vic_tag::GroupKey;
 use vic_tag::key::same_digest;
 use vic_wire::{Tagged, TaggedList, ToClient};
-
-// Whether two operations are the same, byte by byte.
-fn same_op(a: &Op, b: &Op) -> bool
-    ensures { result ≡ alike a.now b.now }
-{
-    match (a, b) {
-        (Op::Put(key, value), Op::Put(key2, value2)) => key.as_slice() == key2.as_slice()
-            && value.as_slice() == value2.as_slice(),
-        (Op::Get(key), Op::Get(key2)) => key.as_slice() == key2.as_slice(),
-        (Op::Del(key), Op::Del(key2)) => key.as_slice() == key2.as_slice(),
-        (Op::List(prefix), Op::List(prefix2)) => prefix.as_slice() == prefix2.as_slice(),
-        _ => false,
-    }
-}
 
 // Whether an entry is the call that the client awaits a Reply to.
 fn is_open(me: u8, awaiting: &Awaiting, entry: &Entry) -> bool
@@ -93,10 +78,7 @@ fn is_tagged(key: &GroupKey, item: &Tagged) -> bool
     requires { Fits item.now.entry.op }
     ensures { result ≡ tagged key.now item.now }
 {
-    let mut hasher = key.begin();
-    hasher.update([17u8].as_slice());
-    feed_entry(&mut hasher, &item.entry);
-    same_digest(&key.end(hasher), &item.tag)
+    same_digest(&invoke_tag(key, &item.entry), &item.tag)
 }
 
 fn are_tagged(key: &GroupKey, items: &[Tagged]) -> bool

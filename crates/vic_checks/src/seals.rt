@@ -12,7 +12,7 @@ ghost use Rattle.vic_chain.specs.Held.{held_length, ShowsPath};
 ghost use Rattle.vic_rules.specs.Client.{Standing, onto, seal_of, entries_of, is_sealed as sealed, is_proved as proved, shows};
 ghost use Rattle.vic_checks.specs.Parted.{part_of, IsWithin, IsAbove};
 
-use sha2::Digest;
+use crate::tags::seal_tag;
 use vic_chain::{Window, chain_step};
 use vic_dict::PlainDict;
 use vic_proof::plain_root;
@@ -55,12 +55,8 @@ fn seal_holds(key: &GroupKey, seal: &Seal, hash: &Digest32) -> bool
     if seal.position == 0 {
         return true;
     }
-    let mut hasher = key.begin();
-    hasher.update([19u8].as_slice());
-    hasher.update(seal.position.to_be_bytes().as_slice());
-    hasher.update(hash.bytes.as_slice());
-    hasher.update(seal.root.bytes.as_slice());
-    same_digest(&key.end(hasher), &seal.tag)
+    let right = seal_tag(key, seal.position, hash, &seal.root);
+    same_digest(&right, &seal.tag)
 }
 
 // Whether the tag of a seal holds on the window's path with these entries put onto it.

@@ -1,7 +1,7 @@
 //! Operations on the dictionary, their answers, and the entries in which clients order them.
 
 ghost use Rattle.std.specs.Prelude.{◌≡◌, ◌↔◌, IsTrue, IfOk};
-ghost use Rattle.vic_dict.specs.Dictionary.{IsKey, Fits};
+ghost use Rattle.vic_dict.specs.Dictionary.{IsKey, Fits, AreBytesIn};
 
 use crate::bytes::{Bytes, Names, NoMemory};
 use std::alloc::Global;
@@ -73,6 +73,19 @@ impl Op {
             Op::Get(key) => is_key(key),
             Op::Del(key) => is_key(key),
             Op::List(prefix) => prefix.len() < 256,
+        }
+    }
+
+    /// What the type says of the numbers of its texts. It does nothing.
+    pub fn are_bytes(&self)
+        ensures { AreBytesIn self.now }
+    {
+        match self {
+            Op::Put(key, value) => {
+                key.are_bytes();
+                value.are_bytes();
+            }
+            Op::Get(text) | Op::Del(text) | Op::List(text) => text.are_bytes(),
         }
     }
 

@@ -7,7 +7,7 @@ use vic_dict::{Bytes, Mode, NoMemory};
 type Row = (&'static [u8], usize, &'static [u8]);
 
 /// Each kind of request, written out by hand from the table of messages.
-const REQUESTS: [Row; 12] = [
+const REQUESTS: [Row; 13] = [
     (b"\x21\x01\x00\x01", 0, b""),
     (b"\x21\x01\x01\xff", 0, b""),
     // Put `a` = `x`, get `a`, del `a`, list of the empty prefix.
@@ -21,9 +21,10 @@ const REQUESTS: [Row; 12] = [
     (b"\x26\0\0\0\x05", 0, b""),
     (b"\x27hi", 0, b""),
     (b"\x28", 1, b""),
+    (b"\x29", 0, b""),
 ];
 
-const BAD_REQUESTS: [Row; 9] = [
+const BAD_REQUESTS: [Row; 10] = [
     (b"", 0, b""),
     (b"\x2a", 0, b""),
     (b"\x41", 0, b""),
@@ -33,6 +34,7 @@ const BAD_REQUESTS: [Row; 9] = [
     (b"\x26\0\0\0\x05", 0, b"\0"),
     (b"\x23\0\0\0\0\0", 1, b""),
     (b"\x28", 1, b"\x07"),
+    (b"\x29", 0, b"\0"),
 ];
 
 /// Each kind of answer, likewise.

@@ -6,9 +6,12 @@ use Rattle.vic_ports.specs.Causes.{LeavesBehind}
 use Rattle.vic_ports.specs.Written.{AppendedAll, AppendedFront}
 use Rattle.vic_script.specs.Run.{limit, Bad, Played, run_of, is_honest_script, bad_line_of, group_in, history_in, group_of, history_of}
 use Rattle.vic_script.specs.Print.{print_of, print_of_script, is_forged, all_views, all_agreements, tags_line, end_text}
-use Rattle.vic_laws.proofs.Agreement.{completed_once}
+use Rattle.vic_laws.proofs.Agreement.{completed_once, views_agree, views_show_only_calls}
+use Rattle.vic_laws.proofs.AnswersStand.{answers_stand}
+use Rattle.vic_laws.proofs.Complete.{views_complete}
 use Rattle.vic_laws.proofs.Decisions.{done_meets_no_conflict}
 use Rattle.vic_laws.proofs.Paths.{hashes_tell_paths}
+use Rattle.vic_laws.proofs.RealTime.{views_in_order}
 use Rattle.vic_laws.proofs.SealsHeld.{seals_hold}
 use Rattle.vic_runs.proofs.Agreed.{agreements_reach}
 use Rattle.vic_runs.proofs.Forged.{is_forged-Decides}
@@ -200,8 +203,13 @@ claimed script =
       paths = λ i j m n. hashes_tell_paths (group_of script) (history_of script) good.lawful.steps i j m n;
       seals = seals_hold (group_of script) (history_of script) good.lawful;
       views = good.views;
+      complete = views_complete (group_of script) (history_of script) good.lawful;
+      only_calls = views_show_only_calls (group_of script) (history_of script) good.lawful;
+      agree = views_agree (group_of script) (history_of script) good.lawful;
+      real_time = views_in_order (group_of script) (history_of script) good.lawful;
       once = completed_once (group_of script) (history_of script) good.lawful;
       no_conflict = done_meets_no_conflict (group_of script) (history_of script) good.lawful;
+      stands = answers_stand (group_of script) (history_of script) good.lawful;
       agreed = agreements_reach (group_of script) (history_of script) good.lawful;
       tags = is_forged-Decides (group_of script) (history_of script);
       says_so = said_last (run_of script);

@@ -4,8 +4,9 @@ use Rattle.std.specs.List.{flat_map}
 use Rattle.vic_rules.specs.History.{IsLawful}
 use Rattle.vic_rules.specs.Headline.{Headline}
 use Rattle.vic_rules.specs.Trust.{IsForged}
+use Rattle.vic_rules.specs.Views.{view_of, HasAll, ShowsOnlyCalls, Agree, IsInRealTime}
 use Rattle.vic_laws.specs.Claims.{HashesTellPathsIn, SealsHoldIn}
-use Rattle.vic_laws.specs.OrderClaims.{CompletedOnceIn, DoneMeetsNoConflictIn}
+use Rattle.vic_laws.specs.OrderClaims.{CompletedOnceIn, DoneMeetsNoConflictIn, AnswersStandIn}
 use Rattle.vic_ports.specs.Causes.{Rose, IsSpent, LeavesBehind}
 use Rattle.vic_ports.specs.Written.{AppendedAll, AppendedFront}
 use Rattle.vic_order.specs.Order.{Server}
@@ -101,10 +102,19 @@ pub record IsAsClaimed (script : List ℕ) : Type 0 where
   pub seals : SealsHoldIn (group_of script) (history_of script)
   -- the claim on the views of all clients
   pub views : Headline (group_of script) (history_of script)
+  -- of which these need no exception: each view has each call that its client completed, once, and only calls that were asked for and
+  -- returned so, and every two views agree up to each call in both
+  pub complete : (me : ℕ) → HasAll (group_of script) me (history_of script) (view_of (group_of script) me (history_of script))
+  pub only_calls : (me : ℕ) → ShowsOnlyCalls (group_of script) (history_of script) (view_of (group_of script) me (history_of script))
+  pub agree : (i j : ℕ) → Agree (view_of (group_of script) i (history_of script)) (view_of (group_of script) j (history_of script))
+  -- and this only that no tag was forged: each view keeps real-time order
+  pub real_time : (IsForged (group_of script) (history_of script) → ⊥) → (me : ℕ) → IsInRealTime (group_of script) (history_of script) (view_of (group_of script) me (history_of script))
   -- a call has at most one completion
   pub once : CompletedOnceIn (group_of script) (history_of script)
-  -- a call that is done conflicts with no entry of another client above the seal of its Reply and below the call
+  -- a call that is done conflicts with no entry of another client above the seal of its Reply and below the call, so its answer stands
+  -- whichever of those are confirmed later
   pub no_conflict : DoneMeetsNoConflictIn (group_of script) (history_of script)
+  pub stands : AnswersStandIn (group_of script) (history_of script)
   -- each call that stands in two clients' views stands within the number that is printed for the two
   pub agreed : AgreementsCountIn (group_of script) (history_of script)
   -- the test that decides between the statuses 0 and 1, and that the print tells, is true exactly where a tag is forged

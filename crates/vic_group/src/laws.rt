@@ -2,7 +2,7 @@
 //! use alone. They are laws over the definitions; the functions do nothing.
 
 ghost use Rattle.vic_laws.specs.Claims.{HashesTellPaths, SealsHold, ViewsAreLegal};
-ghost use Rattle.vic_laws.specs.OrderClaims.{CompletedOnce, DoneMeetsNoConflict, ViewsAgree, ViewsInRealTime, ViewsComplete, ViewsShowOnlyCalls};
+ghost use Rattle.vic_laws.specs.OrderClaims.{AnswersStand, CompletedOnce, DoneMeetsNoConflict, ViewsAgree, ViewsInRealTime, ViewsComplete, ViewsShowOnlyCalls};
 
 /// One hash tells one path, or two different listed texts have one hash.
 pub fn prefixes()
@@ -15,7 +15,8 @@ pub fn seals()
     ensures { SealsHold }
 {}
 
-/// Each view keeps real-time order unless a tag was forged, and every two views agree. A call is completed once, so it has one path.
+/// Each view keeps real-time order unless a tag was forged, and every two views agree. A call is completed at most once, so on at
+/// most one path.
 pub fn order()
     ensures real_time { ViewsInRealTime }
     ensures agree { ViewsAgree }
@@ -23,10 +24,12 @@ pub fn order()
 {}
 
 /// Unless a tag was forged or two texts collide, each view is legal. It holds all completed calls of its client, and only calls. A call
-/// that returned done meets no conflict: it conflicts with no entry of another client above the seal of its Reply and below the call.
+/// that returned done meets no conflict: it conflicts with no entry of another client above the seal of its Reply and below the call;
+/// so its answer stands, whichever of those entries are confirmed later.
 pub fn legal()
     ensures legal { ViewsAreLegal }
     ensures done { DoneMeetsNoConflict }
+    ensures stands { AnswersStand }
     ensures complete { ViewsComplete }
     ensures only_calls { ViewsShowOnlyCalls }
 {}

@@ -22,7 +22,8 @@ pub mod world;
 
 pub use group::{run_group, run_in_memory};
 pub use status::Status;
-pub use world::{Views, World, WorldFault};
+pub use vic_view::Printed;
+pub use world::{World, WorldFault};
 
 #[cfg(test)]
 mod tests;

@@ -5,7 +5,7 @@ ghost use Rattle.vic_order.specs.Serving.{AnswersAs};
 ghost use Rattle.vic_rules.specs.declared.trace.Input.TheVariants as input;
 ghost use Rattle.vic_rules.specs.History.{IsLawful};
 ghost use Rattle.vic_rules.specs.Client.{first_failing};
-ghost use Rattle.vic_dict.specs.Dictionary.{AreBytesIn, Fits};
+ghost use Rattle.vic_dict.specs.Dictionary.{Fits};
 ghost use Rattle.vic_order.specs.Order.{fresh_server, ready, same_mode};
 ghost use Rattle.vic_group.specs.declared.member.Member.{Member as AMember};
 ghost use Rattle.vic_group.specs.World.{HasBytes};
@@ -23,7 +23,7 @@ use vic_dict::{Bytes, Mode, NoMemory, Op};
 use vic_script::Line;
 use vic_server::Serve;
 use vic_tag::GroupKey;
-use vic_view::{Input, Transcript, forged, print_with};
+use vic_view::{Input, Printed, Transcript, print_end};
 
 /// The most turns of a run.
 const MOST_TURNS: u32 = 2100;
@@ -45,13 +45,6 @@ pub struct World<S> {
     transcript: Transcript,
     members: Vec<Member>,
     servers: Servers<S>,
-}
-
-/// What is printed at the end, and whether some tag was taken that no client had made before.
-#[derive(Debug, Drop)]
-pub struct Views {
-    pub text: Bytes,
-    pub forged: bool,
 }
 
 /// Whether a server may stand in a place.
@@ -78,20 +71,7 @@ fn line_bytes(line: &Line)
     ensures { HasBytes line.now }
 {
     if let Line::Call(_, op) = line {
-        are_bytes_in(op);
-    }
-}
-
-// What the type says of an operation's texts. It does nothing.
-fn are_bytes_in(op: &Op)
-    ensures { AreBytesIn op.now }
-{
-    match op {
-        Op::Put(key, value) => {
-            key.are_bytes();
-            value.are_bytes();
-        }
-        Op::Get(text) | Op::Del(text) | Op::List(text) => text.are_bytes(),
+        op.are_bytes();
     }
 }
 
@@ -259,7 +239,7 @@ impl<S: Serve + Drop> World<S> {
             return Ok(Some(1));
         }
         // The texts of an operation are bytes.
-        are_bytes_in(op);
+        op.are_bytes();
         let input = Input::Call(op.copy(alloc)?);
         self.ask(alloc, who, input)
     }
@@ -459,17 +439,13 @@ impl<S: Serve + Drop> World<S> {
         self.servers.first()
     }
 
-    /// The views of all clients, how far each two agree, and whether every tag was made before it was taken.
-    pub fn views(&self, alloc: Global) -> Result<Views, NoMemory>
+    /// The lines of all views, how far each two agree, and whether each tag that was taken was made, which is told beside them. It
+    /// costs what `print_end` of `vic_view` does.
+    pub fn views(&self, alloc: Global) -> Result<Printed, NoMemory>
         requires { IsLawful (group_of self.now.transcript) (history_of self.now.transcript) }
         ensures text { IfOk result (λ v. v.text ≡ end_text (group_of self.now.transcript) (history_of self.now.transcript) None) }
         ensures forged { IfOk result (λ v. v.forged ≡ is_forged (group_of self.now.transcript) (history_of self.now.transcript)) }
     {
-        let unmade = forged(alloc, &self.transcript)?;
-        let text = print_with(alloc, &self.transcript, unmade)?;
-        Ok(Views {
-            text,
-            forged: unmade,
-        })
+        print_end(alloc, &self.transcript)
     }
 }

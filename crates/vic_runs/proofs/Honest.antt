@@ -29,13 +29,13 @@ use Rattle.vic_runs.proofs.Shows.{opening-shows, steps-shows, serves-shows, take
 use Rattle.vic_runs.proofs.Tests.{client_first, asked_is, called_is}
 
 -- what a client is asked for
-abbrev pub IsAsked : Input → Type 0
-IsAsked (input.Call o) = Unit {0}
-IsAsked input.Poll = Unit {0}
-IsAsked input.Sync = Unit {0}
-IsAsked (input.Payload payload) = ⊥
+abbrev pub IsNoPayload : Input → Type 0
+IsNoPayload (input.Call o) = Unit {0}
+IsNoPayload input.Poll = Unit {0}
+IsNoPayload input.Sync = Unit {0}
+IsNoPayload (input.Payload payload) = ⊥
 
-may-ask : (g : Group) (w : World) (i : ℕ) (given : Input) → IsAsked given → 0 < i → i ≤ g.count → MayStep g (standing g i w.history) given → MayBe g w (Asks i given)
+may-ask : (g : Group) (w : World) (i : ℕ) (given : Input) → IsNoPayload given → 0 < i → i ≤ g.count → MayStep g (standing g i w.history) given → MayBe g w (Asks i given)
 may-ask g w i (input.Call o) asked above upto may = (above, upto, may)
 may-ask g w i input.Poll asked above upto may = (above, upto, may)
 may-ask g w i input.Sync asked above upto may = (above, upto, may)
@@ -67,7 +67,7 @@ module _ {V : Type 0} (R : V → Server → Type 0) where
       let x : TraceStep = step_by s.group i given s.history in
       all-set HoldsBytes s.up _ _ bytes (queued-bytes (queue_of s.up i) x.sent (queue-bytes s.up i bytes) (sent-bytes s.group x s.history lawful))
 
-  pub honest-asked : (s : SceneOf V) (n : ℕ) → IsHonestlyReached R s n → (i : ℕ) → 0 < i → i ≤ s.group.count → (given : Input) → IsAsked given → MayStep s.group (stands s i) given → IsHonestlyReached R (steps s i given) (n + 1)
+  pub honest-asked : (s : SceneOf V) (n : ℕ) → IsHonestlyReached R s n → (i : ℕ) → 0 < i → i ≤ s.group.count → (given : Input) → IsNoPayload given → MayStep s.group (stands s i) given → IsHonestlyReached R (steps s i given) (n + 1)
   unfolding world_after happens steps
   honest-asked s n r i above upto given asked may =
       let g : Group = s.group in

@@ -3,7 +3,6 @@ pub mod Loops
 pub mod Replays
 pub mod Marks
 pub mod Shows
-pub mod Forgeries
 pub mod Hashing
 pub mod Making
 pub mod Texts

@@ -1,6 +1,5 @@
 pub mod Transcripts
 pub mod Replay
-pub mod Claims
 pub mod Printed
 pub mod Making
 pub mod Plain

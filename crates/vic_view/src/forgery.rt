@@ -9,7 +9,7 @@ ghost use Rattle.vic_wire.specs.Messages.{IsTagged, HasRequestSpelling};
 ghost use Rattle.vic_rules.specs.History.{IsLawful};
 ghost use Rattle.vic_script.specs.Print.{is_among, is_forged};
 ghost use Rattle.vic_view.specs.Transcripts.{group_of, history_of};
-ghost use Rattle.vic_view.specs.Replay.{read_by};
+ghost use Rattle.vic_view.specs.Replay.{read_by, AreReplayed};
 ghost use Rattle.vic_view.specs.Making.{IsPlaceEntry, HasEntries, hashes_of, hashes_with, hash_at, request_in, made_by, seal_texts_by, taken_with, has_unmade, SameTexts};
 
 use crate::replay::{ClientPath, Place, answer_taken};
@@ -376,7 +376,20 @@ pub fn forged(alloc: Global, t: &Transcript) -> Result<bool, NoMemory>
     ensures { IfOk result (λ b. b ≡ is_forged (group_of t.now) (history_of t.now)) }
 {
     let paths = all_paths(alloc, t)?;
-    let all = all_hashes(alloc, t, paths.as_slice())?;
+    forged_along(alloc, t, paths.as_slice())
+}
+
+/// The same, where the paths of all clients are known.
+pub(crate) fn forged_along(
+    alloc: Global,
+    t: &Transcript,
+    paths: &[ClientPath],
+) -> Result<bool, NoMemory>
+    requires lawful { IsLawful (group_of t.now) (history_of t.now) }
+    requires paths { AreReplayed t.now.count (history_of t.now) paths.now }
+    ensures { IfOk result (λ b. b ≡ is_forged (group_of t.now) (history_of t.now)) }
+{
+    let all = all_hashes(alloc, t, paths)?;
     let mut made = Texts::new(alloc);
     for step in t.as_slice() {
         let hashes = hashes_for(all.as_slice(), step.client);

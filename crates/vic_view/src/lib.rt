@@ -3,12 +3,11 @@
 //!
 //! A view is `view_of` of `vic_rules` (`specs/Views.antt`), which the contract of `view_of` carries. The lines that are
 //! printed are those of `vic_script` (`specs/Print.antt`), which the contract of `print_views` carries. Whether a text was taken
-//! whose tag no client had made is `is_forged` there, which `forged` carries; `laws::forged_is` says that this is `IsForged`.
+//! whose tag no client had made is `is_forged` there, which `forged` carries; `vic_runs` has the law that this is `IsForged`.
 //! `view_plainly` and `forged_plainly` have the contracts of `view_of` and `forged`, and are the definitions read off directly.
 #![tactic(auto)]
 
 mod forgery;
-pub mod laws;
 pub mod plain;
 pub mod print;
 mod replay;
@@ -18,7 +17,7 @@ pub mod views;
 
 pub use forgery::forged;
 pub use plain::{forged_plainly, view_plainly};
-pub use print::{print_views, print_with};
+pub use print::{Printed, print_end, print_views};
 pub use transcript::Transcript;
 pub use vic_rules::{Input, Shown, TraceStep};
 pub use view::{View, agree};

@@ -21,12 +21,12 @@ ghost use Rattle.vic_view.specs.Plain.{prefix_of, completions_of, completed_on, 
 use crate::forgery::{call_text, hash_with, hashes_along, seal_of, text_made};
 use crate::replay::{Place, Places, answer_taken, completed, path_in};
 use crate::transcript::Transcript;
-use crate::view::{View, same_entry};
+use crate::view::View;
 use crate::views::show;
 use std::alloc::Global;
 use std::marker::Model;
 use vic_dict::{Bytes, Names, NoMemory, Outcome};
-use vic_rules::TraceStep;
+use vic_rules::{TraceStep, same_entry};
 use vic_wire::{Digest32, Seal, Tagged, ToClient};
 
 /// A call that a client completed: the client, its path with the call's entry last, and the outcome.

@@ -6,9 +6,11 @@ ghost use Rattle.std.specs.Fmt.{decimal};
 ghost use Rattle.vic_rules.specs.History.{IsLawful};
 ghost use Rattle.vic_script.specs.Print.{shown_line, agreement, tags_line, is_forged, all_views as every_view, all_agreements as every_agreement};
 ghost use Rattle.vic_view.specs.Transcripts.{group_of, history_of};
+ghost use Rattle.vic_view.specs.Replay.{AreReplayed};
 ghost use Rattle.vic_view.specs.Printed.{views_up_to, view_text, view_texts, agree_text, agree_with, agree_texts};
 
-use crate::forgery::forged;
+use crate::forgery::forged_along;
+use crate::replay::ClientPath;
 use crate::transcript::Transcript;
 use crate::view::{View, common_calls};
 use crate::views::{all_paths, view_among};
@@ -17,6 +19,13 @@ use std::marker::Model;
 use vic_dict::{Bytes, NoMemory};
 use vic_rules::Shown;
 use vic_text::{put_number, put_op, put_outcome};
+
+/// What is printed at the end of a run, and whether some tag was taken that no client had made before.
+#[derive(Debug, Drop)]
+pub struct Printed {
+    pub text: Bytes,
+    pub forged: bool,
+}
 
 /// The views of clients 1, 2 and so on.
 #[derive(Debug, Drop)]
@@ -57,13 +66,12 @@ impl Views {
     }
 }
 
-/// The views of all clients.
-pub(crate) fn all_views(alloc: Global, t: &Transcript) -> Result<Views, NoMemory>
-    requires { IsLawful (group_of t.now) (history_of t.now) }
+/// The views of all clients, whose paths are known.
+fn all_views(alloc: Global, t: &Transcript, all: &[ClientPath]) -> Result<Views, NoMemory>
+    requires lawful { IsLawful (group_of t.now) (history_of t.now) }
+    requires paths { AreReplayed t.now.count (history_of t.now) all.now }
     ensures { IfOk result (λ views. views ≡ views_up_to (group_of t.now) (history_of t.now) t.now.count) }
 {
-    let paths = all_paths(alloc, t)?;
-    let all = paths.as_slice();
     let mut views = Views::new(alloc);
     for mine in all {
         views.push(view_among(alloc, mine, all)?)?;
@@ -180,13 +188,18 @@ fn put_tags(out: &mut Bytes, forged: bool) -> Result<(), NoMemory>
     }
 }
 
-/// The lines of all views, how far each two agree, and whether each tag that was taken was made, which the caller says: for a
-/// caller that has run `forged` already.
-pub fn print_with(alloc: Global, t: &Transcript, forged: bool) -> Result<Bytes, NoMemory>
-    requires { IsLawful (group_of t.now) (history_of t.now) }
+/// The lines of all views, how far each two agree, and what is said of tags, where the paths of all clients are known.
+fn print_along(
+    alloc: Global,
+    t: &Transcript,
+    all: &[ClientPath],
+    forged: bool,
+) -> Result<Bytes, NoMemory>
+    requires lawful { IsLawful (group_of t.now) (history_of t.now) }
+    requires paths { AreReplayed t.now.count (history_of t.now) all.now }
     ensures { IfOk result (λ b. b ≡ every_view (group_of t.now) (history_of t.now) ++ every_agreement (group_of t.now) (history_of t.now) ++ tags_line forged) }
 {
-    let views = all_views(alloc, t)?;
+    let views = all_views(alloc, t, all)?;
     let mut out = Bytes::new(alloc);
     put_views(&mut out, alloc, views.as_slice())?;
     put_agreements(&mut out, alloc, views.as_slice())?;
@@ -195,11 +208,27 @@ pub fn print_with(alloc: Global, t: &Transcript, forged: bool) -> Result<Bytes, 
 }
 
 /// What is printed at the end of a run: the lines of all views, how far each two agree, and whether each tag that was taken
-/// was made.
+/// was made, which it also tells. It costs the transcript, what `view_of` costs for each client, what `agree` costs for each two,
+/// and what `forged` costs.
+pub fn print_end(alloc: Global, t: &Transcript) -> Result<Printed, NoMemory>
+    requires { IsLawful (group_of t.now) (history_of t.now) }
+    ensures text { IfOk result (λ p. p.text ≡ every_view (group_of t.now) (history_of t.now) ++ every_agreement (group_of t.now) (history_of t.now) ++ tags_line (is_forged (group_of t.now) (history_of t.now))) }
+    ensures forged { IfOk result (λ p. p.forged ≡ is_forged (group_of t.now) (history_of t.now)) }
+{
+    let paths = all_paths(alloc, t)?;
+    let unmade = forged_along(alloc, t, paths.as_slice())?;
+    let text = print_along(alloc, t, paths.as_slice(), unmade)?;
+    Ok(Printed {
+        text,
+        forged: unmade,
+    })
+}
+
+/// The text of `print_end` alone.
 pub fn print_views(alloc: Global, t: &Transcript) -> Result<Bytes, NoMemory>
     requires { IsLawful (group_of t.now) (history_of t.now) }
     ensures { IfOk result (λ b. b ≡ every_view (group_of t.now) (history_of t.now) ++ every_agreement (group_of t.now) (history_of t.now) ++ tags_line (is_forged (group_of t.now) (history_of t.now))) }
 {
-    let unmade = forged(alloc, t)?;
-    print_with(alloc, t, unmade)
+    let printed = print_end(alloc, t)?;
+    Ok(printed.text)
 }

@@ -3,8 +3,8 @@ use crate::plain::{all_completed, confirmed_on, is_some_unmade, last_path, put_m
 use crate::replay::path_of;
 use crate::views::{all_paths, view_among};
 use crate::{
-    Input, Shown, TraceStep, Transcript, View, agree, forged, forged_plainly, print_views,
-    print_with, view_of, view_plainly,
+    Input, Shown, TraceStep, Transcript, View, agree, forged, forged_plainly, print_end,
+    print_views, view_of, view_plainly,
 };
 use std::alloc::Global;
 use std::test::Fail;
@@ -80,13 +80,11 @@ fn nothing_done(rt: HostRuntime) -> Result<(), Fail> {
     assert_eq!(rt; view_of(rt.alloc(), &t, 2)?.len(), 0);
     assert_eq!(rt; view_plainly(rt.alloc(), &t, 2)?.len(), 0);
     assert!(rt; !forged(rt.alloc(), &t)? && !forged_plainly(rt.alloc(), &t)?);
-    let text = print_views(rt.alloc(), &t)?;
     let right = b"view 1\nview 2\nview 3\nagree 1 2 0\nagree 1 3 0\nagree 2 3 0\ntags made\n";
-    assert_eq!(rt; text.as_slice(), right.as_slice());
-    assert_eq!(rt;
-        print_with(rt.alloc(), &t, false)?.as_slice(),
-        right.as_slice()
-    );
+    assert_eq!(rt; print_views(rt.alloc(), &t)?.as_slice(), right.as_slice());
+    let printed = print_end(rt.alloc(), &t)?;
+    assert_eq!(rt; printed.text.as_slice(), right.as_slice());
+    assert!(rt; !printed.forged);
     Ok(())
 }
 

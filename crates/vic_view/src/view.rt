@@ -3,13 +3,12 @@
 ghost use Rattle.std.specs.Prelude.{◌≡◌, ◌<◌, ◌≤◌, ◌^◌, [], ◌∷◌, ◌++◌, ◌&&◌, length, OnOk, OnErr, slice_get, Some, nat_eq};
 ghost use Rattle.std.specs.Cmp.Lexicographic.{pointwise};
 ghost use Rattle.std.specs.Str.{bytes_eq};
-ghost use Rattle.vic_rules.specs.Client.{same_op as same_op_test, same_entry as same_entry_test};
 ghost use Rattle.vic_script.specs.Print.{same_answer as same_answer_test, same_outcome as same_outcome_test, same_shown as same_shown_test, agreement};
 
 use std::alloc::Global;
 use std::marker::Model;
-use vic_dict::{Answer, Bytes, Entry, Names, NoMemory, Op, Outcome};
-use vic_rules::Shown;
+use vic_dict::{Answer, Bytes, Names, NoMemory, Outcome};
+use vic_rules::{Shown, same_entry};
 
 /// The calls of a client's view, the oldest first.
 #[derive(Debug, Drop)]
@@ -72,25 +71,6 @@ fn same_bytes(a: &Bytes, b: &Bytes) -> bool
     ensures { result ≡ bytes_eq a.now b.now }
 {
     a.as_slice() == b.as_slice()
-}
-
-fn same_op(a: &Op, b: &Op) -> bool
-    ensures { result ≡ same_op_test a.now b.now }
-{
-    match (a, b) {
-        (Op::Put(k, v), Op::Put(q, w)) => same_bytes(k, q) && same_bytes(v, w),
-        (Op::Get(k), Op::Get(q)) => same_bytes(k, q),
-        (Op::Del(k), Op::Del(q)) => same_bytes(k, q),
-        (Op::List(k), Op::List(q)) => same_bytes(k, q),
-        _ => false,
-    }
-}
-
-/// Whether two entries are the same.
-pub(crate) fn same_entry(a: &Entry, b: &Entry) -> bool
-    ensures { result ≡ same_entry_test a.now b.now }
-{
-    a.client == b.client && (a.seq == b.seq && same_op(&a.op, &b.op))
 }
 
 fn same_names(a: &Names, b: &Names) -> bool

@@ -8,11 +8,11 @@ ghost use Rattle.vic_view.specs.Replay.{AreReplayed, common, outcome_of, length_
 
 use crate::replay::{ClientPath, Place, Places, path_of};
 use crate::transcript::Transcript;
-use crate::view::{View, same_entry};
+use crate::view::View;
 use std::alloc::Global;
 use std::marker::Model;
 use vic_dict::{NoMemory, Outcome};
-use vic_rules::Shown;
+use vic_rules::{Shown, same_entry};
 
 /// The paths of clients 1, 2 and so on.
 #[derive(Debug, Drop)]

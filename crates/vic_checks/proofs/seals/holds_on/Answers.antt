@@ -1,5 +1,5 @@
 use Rattle.vic_rules.specs.Client.{onto}
-use Rattle.vic_checks.proofs.Tags.{sealed_by}
+use Rattle.vic_checks.proofs.Digests.{sealed_by}
 use Rattle.vic_checks.proofs.seals.holds_on.Goals as goal
 
 pub returns : goal.returns

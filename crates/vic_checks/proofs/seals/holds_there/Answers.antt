@@ -1,4 +1,4 @@
-use Rattle.vic_checks.proofs.Tags.{sealed_by}
+use Rattle.vic_checks.proofs.Digests.{sealed_by}
 use Rattle.vic_checks.proofs.seals.holds_there.Goals as goal
 
 pub returns : goal.returns

@@ -1,4 +1,5 @@
 use Rattle.vic_laws.proofs.Agreement.{views_show_only_calls}
+use Rattle.vic_laws.proofs.AnswersStand.{answers_stand}
 use Rattle.vic_laws.proofs.Complete.{views_complete}
 use Rattle.vic_laws.proofs.Decisions.{done_meets_no_conflict}
 use Rattle.vic_laws.proofs.Legality.{views_legal}
@@ -15,3 +16,6 @@ returns-clause-only_calls c = views_show_only_calls
 
 pub returns-clause-done : goal.returns-clause-done
 returns-clause-done c = done_meets_no_conflict
+
+pub returns-clause-stands : goal.returns-clause-stands
+returns-clause-stands c = answers_stand

@@ -1,11 +1,9 @@
--- Comparisons of digests, and texts that are fed in pieces.
-use Rattle.std.proofs.Common.{◌≡◌, ℕ, List, ◌++◌, Bool, false, sym, arith, ◌∙◌, ap, subst, append_assoc}
+-- Comparisons of digests.
+use Rattle.std.proofs.Common.{◌≡◌, ℕ, List, Bool, false, sym, arith, ◌∙◌, ap, subst}
 use Rattle.std.specs.Prelude.{◌↔◌, IsTrue, ◌||◌, nat_eq, Some}
 use Rattle.std.specs.Str.{bytes_eq}
 use Rattle.std.proofs.lemmas.Bool.Decides.{same_from_decides, nat_tests}
 use Rattle.std.proofs.lemmas.Slice.Eq.{bytes_eq-Decides}
-use Rattle.sha2.specs.Hashers.{Holds256}
-use Rattle.sha2.specs.declared.Sha256.{Sha256}
 use Rattle.vic_dict.specs.declared.op.Entry.{Entry}
 use Rattle.vic_dict.specs.Lists.{front}
 use Rattle.vic_wire.specs.declared.message.Seal.{Seal}
@@ -17,23 +15,6 @@ use Rattle.vic_rules.specs.Client.{is_sealed, seal_text_on}
 pub same_as : (r : Bool) (a made known : List ℕ) → (IsTrue r ↔ (a ≡ made)) → made ≡ known → r ≡ bytes_eq a known
 same_as r a made known h e =
     same_from_decides r (bytes_eq a known) ((λ p. h.0 p ∙ e), (λ q. h.1 (q ∙ sym e))) (bytes_eq-Decides a known)
-
--- a text that was fed in two pieces, behind what came before
-pub fed_twice : (h : Sha256) (m a b first : List ℕ) → a ≡ first → Holds256 h ((m ++ a) ++ b) → Holds256 h (m ++ (first ++ b))
-fed_twice h m a b first e held = subst (λ (x : List ℕ). Holds256 h (m ++ (x ++ b))) e (subst (Holds256 h) (append_assoc m a b) held)
-
--- the same of four pieces
-pub fed_four : (h : Sha256) (m a b c d a2 b2 c2 d2 : List ℕ) → a ≡ a2 → b ≡ b2 → c ≡ c2 → d ≡ d2
-    → Holds256 h ((((m ++ a) ++ b) ++ c) ++ d) → Holds256 h (m ++ (((a2 ++ b2) ++ c2) ++ d2))
-fed_four h m a b c d a2 b2 c2 d2 ea eb ec ed held =
-    subst (Holds256 h)
-    (ap (λ (x : List ℕ). x ++ d) (ap (λ (x : List ℕ). x ++ c) (append_assoc m a b) ∙ append_assoc m (a ++ b) c)
-    ∙ append_assoc m ((a ++ b) ++ c) d
-    ∙ ap (λ (x : List ℕ). m ++ (((x ++ b) ++ c) ++ d)) ea
-    ∙ ap (λ (x : List ℕ). m ++ (((a2 ++ x) ++ c) ++ d)) eb
-    ∙ ap (λ (x : List ℕ). m ++ (((a2 ++ b2) ++ x) ++ d)) ec
-    ∙ ap (λ (x : List ℕ). m ++ (((a2 ++ b2) ++ c2) ++ x)) ed)
-    held
 
 -- the test of a seal's tag is that of the seal on a path whose hash is known
 pub sealed_by : (g : Group) (path : List Entry) (seal : Seal) (key h : List ℕ) (r : Bool) → g.key ≡ key → h ≡ chain g (front seal.position path)

@@ -1,27 +1,27 @@
-use Rattle.std.proofs.Common.{◌≡◌, true, false, ap, subst, sym, ◌∙◌, List, take, reverse}
+use Rattle.std.proofs.Common.{◌≡◌, true, false, refl, ap, subst, sym, ◌∙◌, List, take, reverse}
 use Rattle.vic_rules.specs.declared.trace.TraceStep.{TraceStep}
 use Rattle.vic_rules.specs.History.{AreSteps}
 use Rattle.vic_script.specs.Print.{is_forged, takes_unmade}
 use Rattle.vic_view.specs.Transcripts.{group_of, history_of}
 use Rattle.vic_view.proofs.Forging.{paths_spelled, is_member, hashes_then, within_hashes, unmade_is, forged_at, not_forged_next, made_next, nothing_made}
-use Rattle.vic_view.proofs.forgery.forged.Goals as goal
+use Rattle.vic_view.proofs.forgery.forged_along.Goals as goal
 
 pub all_hashes-requires : goal.all_hashes-requires
-all_hashes-requires c = paths_spelled (group_of c.args.t.now) (history_of c.args.t.now) c.requires c.in_ok-paths.paths c.as_slice.result.now c.as_slice.ensures c.in_ok-paths.ensures
+all_hashes-requires c = paths_spelled (group_of c.args.t.now) (history_of c.args.t.now) c.requires.lawful c.args.paths.now c.args.paths.now refl c.requires.paths
 
 pub loop-step-init : goal.loop-step-init
 loop-step-init c = nothing_made (group_of c.args.t.now) c.new-made.result c.new-made.ensures
 
 pub hashes_for-hashes-requires-clause-some : goal.hashes_for-hashes-requires-clause-some
 hashes_for-hashes-requires-clause-some c =
-    let steps = subst (AreSteps (group_of c.args.t.now)) (ap (reverse {A = TraceStep}) (sym c.as_slice-step-items.ensures)) c.requires.steps in
+    let steps = subst (AreSteps (group_of c.args.t.now)) (ap (reverse {A = TraceStep}) (sym c.as_slice-step-items.ensures)) c.requires.lawful.steps in
     (is_member (group_of c.args.t.now) c.as_slice-step-items.result.now c.loop-step.step-index c.step-item.result c.loop-step-test.true c.step-item.is steps).0
 
 pub hashes_for-hashes-requires-clause-within : goal.hashes_for-hashes-requires-clause-within
 hashes_for-hashes-requires-clause-within c =
-    let steps = subst (AreSteps (group_of c.args.t.now)) (ap (reverse {A = TraceStep}) (sym c.as_slice-step-items.ensures)) c.requires.steps in
-    within_hashes (group_of c.args.t.now) (history_of c.args.t.now) c.in_ok-paths.paths c.as_slice.result.now c.as_slice.ensures c.in_ok-paths.ensures
-    c.in_ok-all.all c.as_slice-in-loop-step.result.now c.as_slice-in-loop-step.ensures c.in_ok-all.ensures c.step-item.result.client
+    let steps = subst (AreSteps (group_of c.args.t.now)) (ap (reverse {A = TraceStep}) (sym c.as_slice-step-items.ensures)) c.requires.lawful.steps in
+    within_hashes (group_of c.args.t.now) (history_of c.args.t.now) c.args.paths.now c.args.paths.now refl c.requires.paths
+    c.in_ok-all.all c.as_slice.result.now c.as_slice.ensures c.in_ok-all.ensures c.step-item.result.client
     (is_member (group_of c.args.t.now) c.as_slice-step-items.result.now c.loop-step.step-index c.step-item.result c.loop-step-test.true c.step-item.is steps).1
 
 pub returns-then-branch : goal.returns-then-branch
@@ -29,10 +29,10 @@ returns-then-branch c =
     let g = group_of c.args.t.now in
     let xs = c.as_slice-step-items.result.now in
     let i = c.loop-step.step-index in
-    let steps = subst (AreSteps g) (ap (reverse {A = TraceStep}) (sym c.as_slice-step-items.ensures)) c.requires.steps in
+    let steps = subst (AreSteps g) (ap (reverse {A = TraceStep}) (sym c.as_slice-step-items.ensures)) c.requires.lawful.steps in
     let member = is_member g xs i c.step-item.result c.loop-step-test.true c.step-item.is steps in
-    let hashes = hashes_then g (history_of c.args.t.now) xs (ap (reverse {A = TraceStep}) c.as_slice-step-items.ensures) c.in_ok-paths.paths c.as_slice.result.now c.as_slice.ensures c.in_ok-paths.ensures
-    c.in_ok-all.all c.as_slice-in-loop-step.result.now c.as_slice-in-loop-step.ensures c.in_ok-all.ensures c.step-item.result.client member c.hashes_for-hashes.result.now c.hashes_for-hashes.ensures in
+    let hashes = hashes_then g (history_of c.args.t.now) xs (ap (reverse {A = TraceStep}) c.as_slice-step-items.ensures) c.args.paths.now c.args.paths.now refl c.requires.paths
+    c.in_ok-all.all c.as_slice.result.now c.as_slice.ensures c.in_ok-all.ensures c.step-item.result.client member c.hashes_for-hashes.result.now c.hashes_for-hashes.ensures in
     let found : takes_unmade g (reverse (take i xs)) c.step-item.result ≡ true =
     sym (unmade_is g xs i c.step-item.result c.loop-step-test.true c.step-item.is steps c.hashes_for-hashes.result.now hashes c.loop-step.made c.loop-step.invariant.1)
     ∙ sym c.in_ok-takes_unmade.ensures ∙ c.if-branch.true in
@@ -43,10 +43,10 @@ loop-step-preserved c =
     let g = group_of c.args.t.now in
     let xs = c.as_slice-step-items.result.now in
     let i = c.loop-step.step-index in
-    let steps = subst (AreSteps g) (ap (reverse {A = TraceStep}) (sym c.as_slice-step-items.ensures)) c.requires.steps in
+    let steps = subst (AreSteps g) (ap (reverse {A = TraceStep}) (sym c.as_slice-step-items.ensures)) c.requires.lawful.steps in
     let member = is_member g xs i c.step-item.result c.loop-step-test.true c.step-item.is steps in
-    let hashes = hashes_then g (history_of c.args.t.now) xs (ap (reverse {A = TraceStep}) c.as_slice-step-items.ensures) c.in_ok-paths.paths c.as_slice.result.now c.as_slice.ensures c.in_ok-paths.ensures
-    c.in_ok-all.all c.as_slice-in-loop-step.result.now c.as_slice-in-loop-step.ensures c.in_ok-all.ensures c.step-item.result.client member c.hashes_for-hashes.result.now c.hashes_for-hashes.ensures in
+    let hashes = hashes_then g (history_of c.args.t.now) xs (ap (reverse {A = TraceStep}) c.as_slice-step-items.ensures) c.args.paths.now c.args.paths.now refl c.requires.paths
+    c.in_ok-all.all c.as_slice.result.now c.as_slice.ensures c.in_ok-all.ensures c.step-item.result.client member c.hashes_for-hashes.result.now c.hashes_for-hashes.ensures in
     let found : takes_unmade g (reverse (take i xs)) c.step-item.result ≡ false =
     sym (unmade_is g xs i c.step-item.result c.loop-step-test.true c.step-item.is steps c.hashes_for-hashes.result.now hashes c.loop-step.made c.loop-step.invariant.1)
     ∙ sym c.in_ok-takes_unmade.ensures ∙ c.if-branch.false in (

@@ -3,13 +3,13 @@ use Rattle.vic_rules.specs.declared.trace.Shown.{Shown}
 use Rattle.vic_view.specs.Transcripts.{group_of, history_of}
 use Rattle.vic_view.specs.Printed.{view_texts, agree_texts}
 use Rattle.vic_view.proofs.Prints.{length_views, prints_all}
-use Rattle.vic_view.proofs.print.print_with.Goals as goal
+use Rattle.vic_view.proofs.print.print_along.Goals as goal
 
 pub put_agreements-requires : goal.put_agreements-requires
 put_agreements-requires c =
     let size : length c.as_slice-2.result.now ≡ c.args.t.now.count =
     ap length (c.as_slice-2.ensures ∙ c.in_ok-views.ensures) ∙ length_views (group_of c.args.t.now) (history_of c.args.t.now) c.args.t.now.count in
-    let few : c.args.t.now.count ≤ 64 = c.requires.group.count.1 in
+    let few : c.args.t.now.count ≤ 64 = c.requires.lawful.group.count.1 in
     omega arith
 
 pub returns : goal.returns
