@@ -1,4 +1,4 @@
--- Calls and completions along a history: each completion is that of a call, and a call has one.
+-- Calls and completions along a history: each completion is that of a call, and a call has at most one.
 use Rattle.std.proofs.Common.{◌≡◌, ℕ, ◌+◌, ◌<◌, ◌≤◌, ◌⊎◌, inl, inr, Bool, false, List, [], ◌∷◌, ◌++◌, Option, Some, None, refl, sym, ◌∙◌, ap, subst, arith}
 use Rattle.std.proofs.lemmas.Bool.{cases_eq}
 use Rattle.vic_dict.specs.declared.op.Op.{Op}

@@ -1,21 +1,20 @@
 -- Each answer in a view is that of a dictionary after the calls before it.
-use Rattle.std.specs.Prelude.{◌≡◌, ℕ, ◌<◌, ◌≤◌, ◌⊎◌, Bool, true, false, not, ◌&&◌, List, [], ◌∷◌, ◌++◌, length, Option, Some, None, nat_lt, if◌then◌else◌}
-use Rattle.std.proofs.Common.{refl, ap, subst, sym, ◌∙◌, inl, inr, arith, append_assoc, lt-ltb, ne_eqb, le_refl, le_of_suc-le-suc}
-use Rattle.std.proofs.lemmas.Bool.{cases_eq, cases_lt}
+use Rattle.std.specs.Prelude.{◌≡◌, ℕ, ◌<◌, ◌≤◌, ◌⊎◌, List, [], ◌∷◌, ◌++◌, length, Option, Some, None}
+use Rattle.std.proofs.Common.{refl, ap, subst, sym, ◌∙◌, inl, inr, arith, append_assoc, le_refl, le_of_suc-le-suc}
+use Rattle.std.proofs.lemmas.Bool.{cases_lt}
 use Rattle.vic_dict.specs.declared.op.Op.{Op}
 use Rattle.vic_dict.specs.declared.op.Entry.{Entry}
 use Rattle.vic_dict.specs.Lists.{IsIn, front}
-use Rattle.vic_dict.specs.Dictionary.{Dictionary, reply, after}
+use Rattle.vic_dict.specs.Dictionary.{Dictionary, reply}
 use Rattle.vic_wire.specs.Hashes.{Group}
-use Rattle.vic_wire.specs.Conflict.{conflicts}
 use Rattle.vic_rules.specs.declared.trace.TraceStep.{TraceStep}
 use Rattle.vic_rules.specs.declared.trace.Shown.{Shown}
-use Rattle.vic_rules.specs.Client.{Standing, or_this, least_above, is_in_the_way, in_the_way, is_done, decided, decision, laid}
+use Rattle.vic_rules.specs.Client.{Standing, in_the_way, decided, decision, laid}
 use Rattle.vic_rules.specs.History.{standing, path, move_of, AreSteps, Completion, completions}
 use Rattle.vic_rules.specs.Views.{confirmed, confirmed_calls, shown_as, left_by, last_prefix, view_of, Explains, IsLegal}
 use Rattle.vic_rules.specs.Trust.{IsForged, Collides, parts_in}
-use Rattle.vic_commute.proofs.Commuting.{Alike, after_same, other_after, alike_itself, reply_alike}
 use Rattle.vic_laws.specs.Claims.{SealHolds, ViewsAreLegal}
+use Rattle.vic_laws.specs.OrderClaims.{effect_of, was_done}
 use Rattle.vic_laws.proofs.Steps.{call_of}
 use Rattle.vic_laws.proofs.Standings.{standing_moved, earlier_steps}
 use Rattle.vic_laws.proofs.Calls.{RepliedAt, completed_by, completion_after}
@@ -23,30 +22,10 @@ use Rattle.vic_laws.proofs.Agreement.{confirmed_tells}
 use Rattle.vic_laws.proofs.Dictionaries.{leaves_done}
 use Rattle.vic_laws.proofs.Growth.{front_grows, front_whole, confirmed_calls_stay, completions_grow}
 use Rattle.vic_laws.proofs.SealsHeld.{all_hold, part_is_left, taken_at}
-use Rattle.vic_laws.proofs.OwnLaid.{own_op, own_laid, laid_own, laid_other, laid_below, laid_others, laid_stays, own_ones, lays}
+use Rattle.vic_laws.proofs.OwnLaid.{own_op, own_laid, lays_at}
+use Rattle.vic_laws.proofs.AnswersStand.{effect_above, effect_below, reply_stands}
 
--- ---- what stands in the way
-
-or_this_none : (a b : Option ℕ) → or_this a b ≡ None → (a ≡ None) × (b ≡ None)
-or_this_none None b e = (refl, e)
-or_this_none (Some u) b e = absurd cc
-
-chosen_none : (b : Bool) (n : ℕ) → (if b then Some n else None) ≡ None → b ≡ false
-chosen_none true n e = absurd cc
-chosen_none false n e = refl
-
--- where nothing above the base passes the test, nothing does below the newest entry, and neither does that one
-none_above : (base : ℕ) (test : Entry → Bool) (e : Entry) (p : List Entry) → least_above base test (e ∷ p) ≡ None → (least_above base test p ≡ None) × (base < length (e ∷ p) → test e ≡ false)
-unfolding least_above
-none_above base test e p none =
-    let both = or_this_none (least_above base test p) _ none in
-    (both.0, λ above. ap (λ b. b && test e) (sym (lt-ltb base (length (e ∷ p)) above)) ∙ chosen_none (nat_lt base (length (e ∷ p)) && test e) (length (e ∷ p)) both.1)
-
--- another client's entry that isn't in the way doesn't conflict
-not_in_the_way : (me : ℕ) (o : Op) (e : Entry) → (e.client ≡ me → ⊥) → is_in_the_way me o e ≡ false → conflicts e.op o ≡ false
-not_in_the_way me o e other none = ap (λ b. not b && conflicts e.op o) (sym (ne_eqb e.client me other)) ∙ none
-
--- ---- the walk along a path
+-- ---- what the calls of a path leave
 
 shown_leaves : (e : Entry) (c : Option Completion) (v : List Shown) → left_by (shown_as e c ++ v) ≡ own_op (left_by v) e c
 unfolding left_by
@@ -57,42 +36,18 @@ left_more : (cs : List Completion) (e : Entry) (p : List Entry) → left_by (con
 unfolding confirmed_calls
 left_more cs e p = shown_leaves e (confirmed cs (e ∷ p)) (confirmed_calls cs p)
 
-both_done : (o : Op) (a b : Dictionary) (e : Entry) (done : Bool) → Alike o a b → Alike o (if done then after a e.op else a) (if done then after b e.op else b)
-both_done o a b e true alike = after_same o e.op a b alike
-both_done o a b e false alike = alike
-
-both_more : (o : Op) (a b : Dictionary) (e : Entry) (c : Option Completion) → Alike o a b → Alike o (own_op a e c) (own_op b e c)
-both_more o a b e None alike = alike
-both_more o a b e (Some c) alike = both_done o a b e (is_done c.outcome) alike
-
-one_done : (o : Op) (a b : Dictionary) (e : Entry) (done : Bool) → conflicts e.op o ≡ false → Alike o a b → Alike o a (if done then after b e.op else b)
-one_done o a b e true apart alike = other_after o e.op a b apart alike
-one_done o a b e false apart alike = alike
-
-one_more : (o : Op) (a b : Dictionary) (e : Entry) (c : Option Completion) → conflicts e.op o ≡ false → Alike o a b → Alike o a (own_op b e c)
-one_more o a b e None apart alike = alike
-one_more o a b e (Some c) apart alike = one_done o a b e (is_done c.outcome) apart alike
-
--- the own calls over what is left at the base, and all calls, are alike to an operation that nothing above the base is in the way of
-walk : (o : Op) (me base : ℕ) (cs : List Completion) (d : Dictionary) (p : List Entry) → least_above base (is_in_the_way me o) p ≡ None → d ≡ left_by (confirmed_calls cs (front base p))
-    → Alike o (own_laid cs me base d p) (left_by (confirmed_calls cs p))
-walk o me base cs d [] none is = subst (Alike o (own_laid cs me base d [])) (laid_below cs me base d [] (omega arith) ∙ (is ∙ ap (λ q. left_by (confirmed_calls cs q)) (front_whole base [] (omega arith)))) (alike_itself o (own_laid cs me base d []))
-walk o me base cs d (e ∷ p) none is = now (cases_lt base (length (e ∷ p))) (walk o me base cs d p (none_above base (is_in_the_way me o) e p none).0)
+-- over what is left at the base, the choice of all that is confirmed as done leaves what all calls leave
+left_chosen : (cs : List Completion) (base : ℕ) (d : Dictionary) (p : List Entry) → d ≡ left_by (confirmed_calls cs (front base p)) → effect_of (λ q. was_done (confirmed cs q)) base d p ≡ left_by (confirmed_calls cs p)
+left_chosen cs base d [] is = effect_below _ base d [] (omega arith) ∙ (is ∙ ap (λ q. left_by (confirmed_calls cs q)) (front_whole base [] (omega arith)))
+left_chosen cs base d (e ∷ p) is = now (cases_lt base (length (e ∷ p))) (left_chosen cs base d p)
   where
-    own : base < length (e ∷ p) → (e.client ≡ me) ⊎ (e.client ≡ me → ⊥) → Alike o (own_laid cs me base d p) (left_by (confirmed_calls cs p)) → Alike o (own_laid cs me base d (e ∷ p)) (left_by (confirmed_calls cs (e ∷ p)))
-    own above (inl mine) alike =
-        subst (λ w. Alike o w (left_by (confirmed_calls cs (e ∷ p)))) (sym (laid_own cs me base d e p above mine))
-        (subst (Alike o (own_op (own_laid cs me base d p) e (confirmed cs (e ∷ p)))) (sym (left_more cs e p))
-        (both_more o (own_laid cs me base d p) (left_by (confirmed_calls cs p)) e (confirmed cs (e ∷ p)) alike))
-    own above (inr other) alike =
-        subst (λ w. Alike o w (left_by (confirmed_calls cs (e ∷ p)))) (sym (laid_other cs me base d e p other))
-        (subst (Alike o (own_laid cs me base d p)) (sym (left_more cs e p))
-        (one_more o (own_laid cs me base d p) (left_by (confirmed_calls cs p)) e (confirmed cs (e ∷ p)) (not_in_the_way me o e other ((none_above base (is_in_the_way me o) e p none).1 above)) alike))
-
-    now : (base < length (e ∷ p)) ⊎ (length (e ∷ p) ≤ base) → (d ≡ left_by (confirmed_calls cs (front base p)) → Alike o (own_laid cs me base d p) (left_by (confirmed_calls cs p)))
-        → Alike o (own_laid cs me base d (e ∷ p)) (left_by (confirmed_calls cs (e ∷ p)))
-    now (inl above) before = own above (cases_eq e.client me) (before (is ∙ ap (λ q. left_by (confirmed_calls cs q)) (front_grows (e ∷ []) p base (le_of_suc-le-suc above))))
-    now (inr up) before = subst (Alike o (own_laid cs me base d (e ∷ p))) (laid_below cs me base d (e ∷ p) up ∙ (is ∙ ap (λ q. left_by (confirmed_calls cs q)) (front_whole base (e ∷ p) up))) (alike_itself o (own_laid cs me base d (e ∷ p)))
+    now : (base < length (e ∷ p)) ⊎ (length (e ∷ p) ≤ base) → (d ≡ left_by (confirmed_calls cs (front base p)) → effect_of (λ q. was_done (confirmed cs q)) base d p ≡ left_by (confirmed_calls cs p))
+        → effect_of (λ q. was_done (confirmed cs q)) base d (e ∷ p) ≡ left_by (confirmed_calls cs (e ∷ p))
+    now (inl above) before =
+        effect_above (λ q. was_done (confirmed cs q)) base d e p above
+        ∙ (ap (λ w. own_op w e (confirmed cs (e ∷ p))) (before (is ∙ ap (λ q. left_by (confirmed_calls cs q)) (front_grows (e ∷ []) p base (le_of_suc-le-suc above))))
+        ∙ sym (left_more cs e p))
+    now (inr up) before = effect_below (λ q. was_done (confirmed cs q)) base d (e ∷ p) up ∙ (is ∙ ap (λ q. left_by (confirmed_calls cs q)) (front_whole base (e ∷ p) up))
 
 -- ---- what a decision shows
 
@@ -163,9 +118,6 @@ module _ (g : Group) (whole : List TraceStep) (lawful : AreSteps g whole) (hones
       more : (ds : List Completion) × (completions g (later ++ x ∷ past) ≡ ds ++ completions g (x ∷ past))
       more = completions_grow g later (x ∷ past)
 
-      past_more : (ds : List Completion) × (completions g ((later ++ x ∷ []) ++ past) ≡ ds ++ completions g past)
-      past_more = completions_grow g (later ++ x ∷ []) past
-
       -- the part is what the calls up to the seal leave, in the whole history
       told : r.part ≡ left_by (confirmed_calls (completions g whole) (front r.seal.position below))
       told = part_is_left g whole lawful honest apart later x past e r.bytes r.part r.seal.position r.seal.root.bytes
@@ -176,17 +128,13 @@ module _ (g : Group) (whole : List TraceStep) (lawful : AreSteps g whole) (hones
 
       -- what is laid over it is laid by the path
       laid_is : laid s.own r.seal.position r.part ≡ own_laid (completions g whole) x.client r.seal.position r.part below
-      laid_is =
-          lays g past steps.0 x.client r.seal.position r.part r.sealing.goes
-          ∙ (sym (laid_stays past_more.0 (completions g past) x.client r.seal.position r.part s.path (own_ones g past steps.0 x.client))
-          ∙ (ap (λ cs. own_laid cs x.client r.seal.position r.part s.path) (sym past_more.1 ∙ ap (completions g) (append_assoc later (x ∷ []) past ∙ sym e))
-          ∙ sym (laid_others (completions g whole) g.count x.client r.seal.position r.part r.others s.path r.from_others)))
+      laid_is = lays_at g whole lawful later x past e r
 
       alike : in_the_way x.client r.op r.seal.position below ≡ None → reply (laid s.own r.seal.position r.part) r.op ≡ reply (left_by (confirmed_calls (completions g whole) below)) r.op
       alike none =
           ap (λ d. reply d r.op) laid_is
-          ∙ reply_alike r.op (own_laid (completions g whole) x.client r.seal.position r.part below) (left_by (confirmed_calls (completions g whole) below))
-          (walk r.op x.client r.seal.position (completions g whole) r.part below none told)
+          ∙ (reply_stands r.op x.client r.seal.position (completions g whole) r.part (λ q. was_done (confirmed (completions g whole) q)) (λ c p mine. refl) below none
+          ∙ ap (λ d. reply d r.op) (left_chosen (completions g whole) r.seal.position r.part below told))
 
   -- each confirmed call is explained by the confirmed calls below it
   confirmed_explains : (e : Entry) (p : List Entry) (c : Completion) → confirmed (completions g whole) (e ∷ p) ≡ Some c

@@ -1,7 +1,7 @@
 -- The own calls that a client lays over a part are the own done calls of its path.
-use Rattle.std.specs.Prelude.{◌≡◌, ℕ, ◌<◌, ◌≤◌, ◌⊎◌, Bool, true, false, ◌&&◌, List, [], ◌∷◌, ◌++◌, length, Option, Some, None, nat_lt, nat_eq, if◌then◌else◌}
+use Rattle.std.specs.Prelude.{◌≡◌, ℕ, ◌<◌, ◌≤◌, ◌⊎◌, Bool, true, false, ◌&&◌, List, [], ◌∷◌, ◌++◌, length, Option, Some, nat_lt, nat_eq, if◌then◌else◌}
 use Rattle.std.specs.List.{AllByRecursion, filter, fold}
-use Rattle.std.proofs.Common.{refl, ap, subst, sym, ◌∙◌, inl, inr, arith, le-ltb, lt-ltb, eq-eqb, ne_eqb, le_trans}
+use Rattle.std.proofs.Common.{refl, ap, subst, sym, ◌∙◌, inl, inr, arith, append_assoc, le-ltb, lt-ltb, eq-eqb, ne_eqb, le_trans}
 use Rattle.std.proofs.lemmas.Bool.{cases_eq, cases_lt}
 use Rattle.vic_dict.specs.declared.op.Entry.{Entry}
 use Rattle.vic_dict.specs.declared.op.Outcome.{Outcome}
@@ -13,15 +13,15 @@ use Rattle.vic_rules.specs.Client.{Standing, is_done, done_op, laid, decision}
 use Rattle.vic_rules.specs.History.{standing, path, move_of, AreSteps, Completion, completions}
 use Rattle.vic_rules.specs.Views.{confirmed}
 use Rattle.vic_laws.proofs.Steps.{Kind, is_quiet, is_called, is_replied, is_updated, is_listed, call_of, IsOther}
-use Rattle.vic_laws.proofs.Standings.{standing_moved, standing_kept}
-use Rattle.vic_laws.proofs.Calls.{kind_of, completed_by, completion_joins}
+use Rattle.vic_laws.specs.OrderClaims.{was_done}
+use Rattle.vic_laws.proofs.Standings.{standing_moved, standing_kept, earlier_steps}
+use Rattle.vic_laws.proofs.Calls.{RepliedAt, kind_of, completed_by, completion_joins}
 use Rattle.vic_laws.proofs.Agreement.{confirmed_by}
 use Rattle.vic_laws.proofs.Growth.{confirmed_stays, completions_grow}
 
 -- what a call of a path leaves, if it is confirmed and done
 abbrev pub own_op : Dictionary → Entry → Option Completion → Dictionary
-own_op d e None = d
-own_op d e (Some c) = if is_done c.outcome then after d e.op else d
+own_op d e c = if was_done c then after d e.op else d
 
 -- a client's confirmed done calls above a base of a path, laid over a dictionary in order
 unfoldable pub own_laid : List Completion → ℕ → ℕ → Dictionary → List Entry → Dictionary
@@ -60,7 +60,7 @@ laid_below cs me base d (e ∷ p) le =
     ∙ laid_below cs me base d p (omega (arith, le))
 
 -- other clients' entries on a path change nothing
-pub laid_others : (cs : List Completion) (count me base : ℕ) (d : Dictionary) (others p : List Entry) → AllByRecursion (IsOther count me) others → own_laid cs me base d (others ++ p) ≡ own_laid cs me base d p
+laid_others : (cs : List Completion) (count me base : ℕ) (d : Dictionary) (others p : List Entry) → AllByRecursion (IsOther count me) others → own_laid cs me base d (others ++ p) ≡ own_laid cs me base d p
 laid_others cs count me base d [] p a = refl
 laid_others cs count me base d (e ∷ others) p a = laid_other cs me base d e (others ++ p) a.0.1 ∙ laid_others cs count me base d others p a.1
 
@@ -79,7 +79,7 @@ own_ones_others cs count me [] p a b = b
 own_ones_others cs count me (e ∷ others) p a b = ((λ mine. absurd (a.0.1 mine)), own_ones_others cs count me others p a.1 b)
 
 -- what is laid stays where each own entry is confirmed
-pub laid_stays : (ds cs : List Completion) (me base : ℕ) (d : Dictionary) (p : List Entry) → OwnOnes cs me p → own_laid (ds ++ cs) me base d p ≡ own_laid cs me base d p
+laid_stays : (ds cs : List Completion) (me base : ℕ) (d : Dictionary) (p : List Entry) → OwnOnes cs me p → own_laid (ds ++ cs) me base d p ≡ own_laid cs me base d p
 unfolding own_laid
 laid_stays ds cs me base d [] a = refl
 laid_stays ds cs me base d (e ∷ p) a = now (cases_eq e.client me) (laid_stays ds cs me base d p a.1)
@@ -221,7 +221,7 @@ module _ (g : Group) (x : TraceStep) (past : List TraceStep) (steps : AreSteps g
       before base d (le_trans k.sealing.goes le) ∙ sym (laid_others (completions g (x ∷ past)) g.count x.client base d k.others (standing g x.client past).path k.from_others))
 
 -- each client lays its own done calls
-pub lays : (g : Group) (h : List TraceStep) → AreSteps g h → (me : ℕ) → Lays (completions g h) me (standing g me h)
+lays : (g : Group) (h : List TraceStep) → AreSteps g h → (me : ℕ) → Lays (completions g h) me (standing g me h)
 unfolding standing own_laid
 lays g [] steps me = λ base d le. refl
 lays g (x ∷ past) steps me = now (cases_eq x.client me) (lays g past steps.0 x.client) (lays g past steps.0 me)
@@ -231,3 +231,15 @@ lays g (x ∷ past) steps me = now (cases_eq x.client me) (lays g past steps.0 x
         (subst (Lays (completions g (x ∷ past)) x.client) (sym (standing_moved g x.client x past refl))
         (lays_kept g x past steps (lays_stay g x past steps x.client mine) (kind_of g past x steps.1)))
     now (inr e) mine other = subst (Lays (completions g (x ∷ past)) me) (sym (standing_kept g me x past e)) (lays_stay g x past steps me other)
+
+-- what a client lays over the part of its Reply is laid by the path below the call, in the whole history
+pub lays_at : (g : Group) (whole : List TraceStep) → AreSteps g whole → (later : List TraceStep) (x : TraceStep) (past : List TraceStep) → whole ≡ later ++ x ∷ past → (r : RepliedAt g past x)
+    → laid (standing g x.client past).own r.seal.position r.part ≡ own_laid (completions g whole) x.client r.seal.position r.part (r.others ++ path g x.client past)
+lays_at g whole lawful later x past e r =
+    let p = path g x.client past in
+    let steps = earlier_steps g later (x ∷ past) (subst (AreSteps g) e lawful) in
+    let more = completions_grow g (later ++ x ∷ []) past in
+    lays g past steps.0 x.client r.seal.position r.part r.sealing.goes
+    ∙ (sym (laid_stays more.0 (completions g past) x.client r.seal.position r.part p (own_ones g past steps.0 x.client))
+    ∙ (ap (λ cs. own_laid cs x.client r.seal.position r.part p) (sym more.1 ∙ ap (completions g) (append_assoc later (x ∷ []) past ∙ sym e))
+    ∙ sym (laid_others (completions g whole) g.count x.client r.seal.position r.part r.others p r.from_others)))

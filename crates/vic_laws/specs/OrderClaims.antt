@@ -1,17 +1,19 @@
 -- The laws on the order of calls: which views go together, what a client decides, and what the words that they are made of mean.
-use Rattle.std.specs.Prelude.{◌≡◌, ℕ, ◌<◌, ◌≤◌, ◌↔◌, Bool, true, List, ◌∷◌, ◌++◌, length, Some, None}
+use Rattle.std.specs.Prelude.{◌≡◌, ℕ, ◌<◌, ◌≤◌, ◌↔◌, Bool, true, false, ◌&&◌, List, [], ◌∷◌, ◌++◌, length, Option, Some, None, nat_lt, if◌then◌else◌}
 use Rattle.vic_dict.specs.declared.op.Op.{Op}
 use Rattle.vic_dict.specs.declared.op.Entry.{Entry}
 use Rattle.vic_dict.specs.declared.op.Answer.{Answer}
 use Rattle.vic_dict.specs.declared.op.Outcome.{Outcome}
 use Rattle.vic_dict.specs.declared.op.Outcome.TheVariants as outcome
 use Rattle.vic_dict.specs.Lists.{IsIn, front, newest}
+use Rattle.vic_dict.specs.Dictionary.{Dictionary, reply, after}
 use Rattle.vic_wire.specs.declared.message.Seal.{Seal}
 use Rattle.vic_wire.specs.declared.message.Tagged.{Tagged}
 use Rattle.vic_wire.specs.declared.message.ToClient.TheVariants as say
 use Rattle.vic_wire.specs.Hashes.{Group}
+use Rattle.vic_wire.specs.Parts.{read_part}
 use Rattle.vic_rules.specs.declared.trace.TraceStep.{TraceStep}
-use Rattle.vic_rules.specs.Client.{same_op, same_entry, least_above, is_in_the_way}
+use Rattle.vic_rules.specs.Client.{same_op, same_entry, least_above, is_in_the_way, is_done}
 use Rattle.vic_rules.specs.History.{IsLawful, path, Completion, completions}
 use Rattle.vic_rules.specs.Trust.{IsForged, took}
 use Rattle.vic_rules.specs.Views.{confirmed, view_of, IsSameCall, IsAnswered, IsCompleted, Agree, HasAll, ShowsOnlyCalls, IsInRealTime}
@@ -72,9 +74,33 @@ AbortedByTheLeast = (g : Group) (h : List TraceStep) → IsLawful g h → (later
     → (seal : Seal) (entries : List Tagged) (part : List ℕ) → took g past x ≡ Some (say.Reply seal entries part) → (e : Entry) (below : List Entry) → path g x.client (x ∷ past) ≡ e ∷ below
     → (u : ℕ) → (x.returned ≡ Some (outcome.Aborted u)) ↔ IsLeastAbove seal.position (is_in_the_way x.client e.op) below u
 
+-- what a path's entries leave of a dictionary where those above a base take effect that a choice picks; a choice sees the path that ends with the entry
+unfoldable pub effect_of : (List Entry → Bool) → ℕ → Dictionary → List Entry → Dictionary
+effect_of picks base d [] = d
+effect_of picks base d (e ∷ p) = if nat_lt base (length (e ∷ p)) && picks (e ∷ p) then after (effect_of picks base d p) e.op else effect_of picks base d p
+
+-- whether a completion is done
+abbrev pub was_done : Option Completion → Bool
+was_done None = false
+was_done (Some c) = is_done c.outcome
+
+-- a choice by which a client's own entries take effect exactly where the client completed them as done
+abbrev pub PicksOwn : List Completion → ℕ → (List Entry → Bool) → Type 0
+PicksOwn cs me picks = (e : Entry) (p : List Entry) → e.client ≡ me → picks (e ∷ p) ≡ was_done (confirmed cs (e ∷ p))
+
+-- a call that is done is answered by the part of its Reply after the client's own done calls above the seal, with whichever entries of others above it
+abbrev pub AnswersStandIn : Group → List TraceStep → Type 0
+AnswersStandIn g h = (later : List TraceStep) (x : TraceStep) (past : List TraceStep) → h ≡ later ++ x ∷ past
+    → (seal : Seal) (entries : List Tagged) (bytes : List ℕ) → took g past x ≡ Some (say.Reply seal entries bytes) → (e : Entry) (below : List Entry) → path g x.client (x ∷ past) ≡ e ∷ below
+    → (a : Answer) → x.returned ≡ Some (outcome.Done a) → (part : Dictionary) → read_part bytes ≡ Some part
+    → (picks : List Entry → Bool) → PicksOwn (completions g h) x.client picks → a ≡ reply (effect_of picks seal.position part below) e.op
+
+abbrev pub AnswersStand : Type 0
+AnswersStand = (g : Group) (h : List TraceStep) → IsLawful g h → AnswersStandIn g h
+
 -- ---- completions
 
--- a call has one completion
+-- a call has at most one completion
 abbrev pub CompletedOnceIn : Group → List TraceStep → Type 0
 CompletedOnceIn g h = (c d : Completion) → IsIn (completions g h) c → IsIn (completions g h) d
     → (e f : Entry) (p q : List Entry) → c.prefix ≡ e ∷ p → d.prefix ≡ f ∷ q → IsSameCall e f → c ≡ d

@@ -1,6 +1,6 @@
 //! The laws on the order of calls, and on what a client decides of its call.
 
-ghost use Rattle.vic_laws.specs.OrderClaims.{CompletedOnce, CompletionsAre, SameOpIs, SameEntryIs, LeastAboveIs, NoneAboveIs, ConfirmedIs, ConfirmedByOwner, DoneMeetsNoConflict, AbortedByTheLeast, ViewsAgree, ViewsComplete, ViewsInRealTime, ViewsShowOnlyCalls};
+ghost use Rattle.vic_laws.specs.OrderClaims.{CompletedOnce, CompletionsAre, SameOpIs, SameEntryIs, LeastAboveIs, NoneAboveIs, ConfirmedIs, ConfirmedByOwner, DoneMeetsNoConflict, AbortedByTheLeast, AnswersStand, ViewsAgree, ViewsComplete, ViewsInRealTime, ViewsShowOnlyCalls};
 
 /// The tests of equality of operations and of entries find what is equal.
 pub fn same_op_is()
@@ -30,6 +30,11 @@ pub fn aborted_by_the_least()
     ensures { AbortedByTheLeast }
 {}
 
+/// The answer of a call that is done stands, whichever entries of others between the Reply's seal and the call take effect.
+pub fn answers_stand()
+    ensures { AnswersStand }
+{}
+
 /// Every two views agree up to each call that stands in both.
 pub fn agreement()
     ensures { ViewsAgree }
@@ -50,7 +55,7 @@ pub fn real_time()
     ensures { ViewsInRealTime }
 {}
 
-/// A call has one completion, so its path is one.
+/// A call has at most one completion, so it is completed on at most one path.
 pub fn completed_once()
     ensures { CompletedOnce }
 {}
