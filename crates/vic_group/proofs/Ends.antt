@@ -14,7 +14,7 @@ use Rattle.vic_laws.proofs.Paths.{hashes_tell_paths}
 use Rattle.vic_laws.proofs.RealTime.{views_in_order}
 use Rattle.vic_laws.proofs.SealsHeld.{seals_hold}
 use Rattle.vic_runs.proofs.Agreed.{agreements_reach}
-use Rattle.vic_runs.proofs.Forged.{is_forged-Decides}
+use Rattle.vic_script.proofs.Forged.{is_forged-Decides}
 use Rattle.vic_runs.proofs.Runs.{all_hold, run_is_honest, none_forged}
 use Rattle.vic_runs.proofs.Halted.{none_for_halting}
 use Rattle.vic_runs.proofs.Prints.{prints_returns}

@@ -25,7 +25,7 @@ pub fn order()
 
 /// Unless a tag was forged or two texts collide, each view is legal. It holds all completed calls of its client, and only calls. A call
 /// that returned done meets no conflict: it conflicts with no entry of another client above the seal of its Reply and below the call;
-/// so its answer stands, whichever of those entries are confirmed later.
+/// so its answer is the same, whichever of those entries take effect.
 pub fn legal()
     ensures legal { ViewsAreLegal }
     ensures done { DoneMeetsNoConflict }

@@ -9,14 +9,14 @@
 pub mod finish;
 pub mod group;
 pub mod laws;
-pub mod member;
+mod member;
 mod opening;
-pub mod output;
-pub mod place;
+mod output;
+mod place;
 pub mod play;
-pub mod queue;
-pub mod said;
-pub mod servers;
+mod queue;
+mod said;
+mod servers;
 pub mod status;
 pub mod world;
 

@@ -56,7 +56,8 @@ pub(crate) enum Ran {
     Stopped(Bytes, BadLine),
 }
 
-/// Runs a script, and answers what it prints. It takes time and memory for its first 16,777,217 bytes at most.
+/// Runs a script, and answers what it prints. What stands behind its byte 16,777,217 isn't looked at. It costs what its lines cost
+/// (`World::apply`), and the end of the print (`World::views`).
 pub fn play(alloc: Global, script: &[u8]) -> Result<Played, NoMemory>
     ensures { IfOk result (λ p. (p.text ≡ print_of_script script.now) × (p.end ≡ end_of (run_of script.now))) }
 {

@@ -351,7 +351,7 @@ fn behind_print(alloc: Global) -> Result<Bytes, NoMemory> {
 #[test]
 fn rows(rt: HostRuntime) -> Result<(), Fail> {
     for row in ROWS.iter() {
-        assert!(rt; prints_row(rt.alloc(), "group", row)?);
+        assert!(rt; prints_row(rt.alloc(), "group", row)?, "{}", row.0);
     }
     Ok(())
 }
@@ -515,10 +515,10 @@ fn runs_plainly(alloc: Global, script: &[u8], print: &[u8]) -> Result<bool, NoMe
 #[test]
 fn as_defined(rt: HostRuntime) -> Result<(), Fail> {
     let alloc = rt.alloc();
-    for (script, print, status) in ROWS.iter() {
-        let (script, print) = (lines_of(alloc, script)?, lines_of(alloc, print)?);
+    for row in ROWS.iter() {
+        let (script, print) = (lines_of(alloc, row.0)?, lines_of(alloc, row.1)?);
         let is_whole = runs_plainly(alloc, script.as_slice(), print.as_slice())?;
-        assert!(rt; is_whole == (*status == 0));
+        assert!(rt; is_whole == (row.2 == 0), "{}", row.0);
     }
     let (script, print) = (forged_script(alloc)?, lines_of(alloc, FORGED)?);
     assert!(rt; runs_plainly(alloc, script.as_slice(), print.as_slice())?);

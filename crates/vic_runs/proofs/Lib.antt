@@ -1,5 +1,4 @@
 pub mod Lists
-pub mod Forged
 pub mod Words
 pub mod Queues
 pub mod Servers

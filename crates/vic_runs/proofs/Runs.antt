@@ -19,7 +19,7 @@ use Rattle.vic_script.specs.Scenes.{Scene, Shown, opening, server_at, done_line,
 use Rattle.vic_script.specs.Run.{limit, Played, plain_group, Tried, Fails, Does, tried_by, try_line, mode_in, run_of, is_honest, is_honest_script, group_in, history_in, group_of, history_of}
 use Rattle.vic_runs.specs.Claims.{RunsAreLawful, NothingIsForged, IsRunOf, RunsAreHonest, ClaimsHold}
 use Rattle.vic_runs.specs.Reached.{IsReached, IsHonestlyReached, IsHonestScene, IsSame}
-use Rattle.vic_runs.proofs.Forged.{is_forged-none}
+use Rattle.vic_script.proofs.Forged.{is_forged-none}
 use Rattle.vic_runs.proofs.Lists.{all_each}
 use Rattle.vic_runs.proofs.Words.{FitsIn, text_fits}
 use Rattle.vic_runs.proofs.Reached.{reached-more, reached-opening, reached-lawful}

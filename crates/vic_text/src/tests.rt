@@ -52,7 +52,7 @@ const LINES: [Row; 39] = [
 ];
 
 /// Lines of mode plain alone.
-const CALLS: [Row; 14] = [
+const CALLS: [Row; 15] = [
     (
         "call 1 put a %20",
         "Ok(Call(1, Put(Bytes { items: [97] }, Bytes { items: [32] })))",
@@ -79,16 +79,18 @@ const CALLS: [Row; 14] = [
     ("call 1 put a", NONE),
     ("call 1 put a b c", NONE),
     ("call 1  get a", NONE),
+    ("call 1 store f x", NONE),
 ];
 
 /// Lines that are read before the mode is known, too.
-const HEADERS: [Row; 6] = [
+const HEADERS: [Row; 7] = [
     ("clients 1", "Ok(Clients(1))"),
     ("clients 64", "Ok(Clients(64))"),
     ("clients 0", NONE),
     ("clients 65", NONE),
     ("clients 01", NONE),
     ("clients 4294967297", NONE),
+    ("objects 1", NONE),
 ];
 
 /// What a text reads as.

@@ -1,12 +1,13 @@
 //! Whether some client took a text whose tag no client had made before.
 
-ghost use Rattle.std.specs.Prelude.{◌≡◌, ◌<◌, ◌≤◌, ◌+◌, ◌-◌, [], ◌∷◌, ◌++◌, map, length, replicate, IfOk, IfSome, OnOk, OnErr, slice_index_or, Some, None};
+ghost use Rattle.std.specs.Prelude.{◌≡◌, ◌<◌, ◌≤◌, ◌+◌, ◌-◌, ◌↔◌, true, [], ◌∷◌, ◌++◌, map, length, replicate, IfOk, IfSome, OnOk, OnErr, slice_index_or, Some, None};
 ghost use Rattle.std.specs.List.{AllByRecursion};
 ghost use Rattle.std.specs.Option.{option_to_list};
 ghost use Rattle.vic_dict.specs.Dictionary.{Fits};
 ghost use Rattle.vic_wire.specs.Texts.{invoke_text, commit_text, seal_text};
 ghost use Rattle.vic_wire.specs.Messages.{IsTagged, HasRequestSpelling};
 ghost use Rattle.vic_rules.specs.History.{IsLawful};
+ghost use Rattle.vic_rules.specs.Trust.{IsForged};
 ghost use Rattle.vic_script.specs.Print.{is_among, is_forged};
 ghost use Rattle.vic_view.specs.Transcripts.{group_of, history_of};
 ghost use Rattle.vic_view.specs.Replay.{read_by, AreReplayed};
@@ -184,7 +185,12 @@ pub(crate) fn hash_with(hashes: &[Digest32], number: u32) -> Digest32
 // ---- texts
 
 /// The invoke text: 11 (hexadecimal), and the entry: the client, its number (4 bytes) and the operation.
-pub(crate) fn call_text(alloc: Global, client: u8, seq: u32, op: &Op) -> Result<Bytes, NoMemory>
+pub(crate) fn invoke_text_of(
+    alloc: Global,
+    client: u8,
+    seq: u32,
+    op: &Op,
+) -> Result<Bytes, NoMemory>
     requires { Fits op.now }
     ensures { IfOk result (λ text. text ≡ invoke_text (record { client = client; seq = seq; op = op.now })) }
 {
@@ -197,7 +203,12 @@ pub(crate) fn call_text(alloc: Global, client: u8, seq: u32, op: &Op) -> Result<
 }
 
 /// The commit text: 12 (hexadecimal), the position (4 bytes), the hash of the path there, the status (0 done, 1 aborted).
-fn commit_of(alloc: Global, position: u32, hash: &Digest32, done: bool) -> Result<Bytes, NoMemory>
+fn commit_text_of(
+    alloc: Global,
+    position: u32,
+    hash: &Digest32,
+    done: bool,
+) -> Result<Bytes, NoMemory>
     ensures { IfOk result (λ text. text ≡ commit_text position hash.now.bytes done) }
 {
     let mut text = Bytes::new(alloc);
@@ -209,7 +220,7 @@ fn commit_of(alloc: Global, position: u32, hash: &Digest32, done: bool) -> Resul
 }
 
 /// The seal text: 13 (hexadecimal), the position (4 bytes), the hash of the path there, the root.
-pub(crate) fn seal_of(
+pub(crate) fn seal_text_of(
     alloc: Global,
     position: u32,
     hash: &Digest32,
@@ -238,12 +249,12 @@ fn text_of(
     ensures { IfOk result (λ o. o ≡ made_by (hash_at hashes.now) client (Some request.now)) }
 {
     Ok(match request {
-        ToServer::Invoke { seq, op, .. } => Some(call_text(alloc, client, *seq, op)?),
+        ToServer::Invoke { seq, op, .. } => Some(invoke_text_of(alloc, client, *seq, op)?),
         ToServer::Commit { position, done, .. } => {
-            Some(commit_of(alloc, *position, &hash_with(hashes, *position), *done)?)
+            Some(commit_text_of(alloc, *position, &hash_with(hashes, *position), *done)?)
         }
         ToServer::Seal { position, root, .. } => {
-            Some(seal_of(alloc, *position, &hash_with(hashes, *position), root)?)
+            Some(seal_text_of(alloc, *position, &hash_with(hashes, *position), root)?)
         }
         ToServer::Hello(_, _) => None,
         ToServer::Poll => None,
@@ -300,7 +311,7 @@ fn is_seal_unmade(
     if seal.position == 0 {
         return Ok(false);
     }
-    let text = seal_of(
+    let text = seal_text_of(
         alloc,
         seal.position,
         &hash_with(hashes, seal.position),
@@ -315,7 +326,7 @@ fn are_entries_unmade(alloc: Global, entries: &[Tagged], made: &Texts) -> Result
     ensures { IfOk result (λ b. b ≡ has_unmade made.now (map (λ t. invoke_text t.entry) entries.now)) }
 {
     for item in entries {
-        let text = call_text(alloc, item.entry.client, item.entry.seq, &item.entry.op)?;
+        let text = invoke_text_of(alloc, item.entry.client, item.entry.seq, &item.entry.op)?;
         if !made.has(text.as_slice()) {
             return Ok(true);
         }
@@ -373,7 +384,8 @@ fn hashes_for(all: &[Hashes], client: u8) -> &[Digest32]
 /// step and the hashes along its path, and for each text the logarithm of those made.
 pub fn forged(alloc: Global, t: &Transcript) -> Result<bool, NoMemory>
     requires { IsLawful (group_of t.now) (history_of t.now) }
-    ensures { IfOk result (λ b. b ≡ is_forged (group_of t.now) (history_of t.now)) }
+    ensures is { IfOk result (λ b. b ≡ is_forged (group_of t.now) (history_of t.now)) }
+    ensures means { IfOk result (λ b. (b ≡ true) ↔ IsForged (group_of t.now) (history_of t.now)) }
 {
     let paths = all_paths(alloc, t)?;
     forged_along(alloc, t, paths.as_slice())

@@ -3,7 +3,7 @@
 //!
 //! A view is `view_of` of `vic_rules` (`specs/Views.antt`), which the contract of `view_of` carries. The lines that are
 //! printed are those of `vic_script` (`specs/Print.antt`), which the contract of `print_views` carries. Whether a text was taken
-//! whose tag no client had made is `is_forged` there, which `forged` carries; `vic_runs` has the law that this is `IsForged`.
+//! whose tag no client had made is `is_forged` there, and `IsForged` of `vic_rules`; both are in the contract of `forged`.
 //! `view_plainly` and `forged_plainly` have the contracts of `view_of` and `forged`, and are the definitions read off directly.
 #![tactic(auto)]
 

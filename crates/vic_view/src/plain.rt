@@ -18,7 +18,7 @@ ghost use Rattle.vic_view.specs.Replay.{completed_with, read_by, replayed};
 ghost use Rattle.vic_view.specs.Making.{hash_at, request_in, made_by, seal_texts_by, taken_with, has_unmade};
 ghost use Rattle.vic_view.specs.Plain.{prefix_of, completions_of, completed_on, completed_in};
 
-use crate::forgery::{call_text, hash_with, hashes_along, seal_of, text_made};
+use crate::forgery::{hash_with, hashes_along, invoke_text_of, seal_text_of, text_made};
 use crate::replay::{Place, Places, answer_taken, completed, path_in};
 use crate::transcript::Transcript;
 use crate::view::View;
@@ -195,7 +195,7 @@ fn put_seal_text(
         return Ok(());
     }
     let hash = hash_with(hashes, seal.position);
-    texts.push(seal_of(alloc, seal.position, &hash, &seal.root)?)
+    texts.push(seal_text_of(alloc, seal.position, &hash, &seal.root)?)
 }
 
 /// Puts the texts that go with the tags of entries to others.
@@ -204,7 +204,7 @@ fn put_entry_texts(alloc: Global, texts: &mut Names, entries: &[Tagged]) -> Resu
     ensures { OnOk result (texts.new ≡ texts.old ++ map (λ t. invoke_text t.entry) entries.now) }
 {
     for item in entries {
-        let text = call_text(alloc, item.entry.client, item.entry.seq, &item.entry.op)?;
+        let text = invoke_text_of(alloc, item.entry.client, item.entry.seq, &item.entry.op)?;
         texts.push(text)?;
     }
     Ok(())
