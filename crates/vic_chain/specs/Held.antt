@@ -1,8 +1,8 @@
 -- What a window of a path holds, and when it shows a path. The newest entry stands first.
-use Rattle.std.specs.Prelude.{◌≡◌, ℕ, ◌+◌, ◌-◌, List, [], ◌∷◌, length, take, drop, map, Option, Some, None, slice_get}
+use Rattle.std.specs.Prelude.{◌≡◌, ℕ, ◌+◌, ◌-◌, List, [], ◌∷◌, length, take, drop}
 use Rattle.vic_dict.specs.declared.op.Entry.{Entry}
 use Rattle.vic_wire.specs.declared.message.Digest32.{Digest32}
-use Rattle.vic_wire.specs.Hashes.{Group, chain, empty_root, hash}
+use Rattle.vic_wire.specs.Hashes.{Group, chain, hash}
 use Rattle.vic_wire.specs.Texts.{chain_text}
 use Rattle.vic_chain.specs.declared.window.Link.{Link}
 

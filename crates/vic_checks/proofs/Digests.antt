@@ -1,5 +1,5 @@
 -- Comparisons of digests.
-use Rattle.std.proofs.Common.{◌≡◌, ℕ, List, Bool, false, sym, arith, ◌∙◌, ap, subst}
+use Rattle.std.proofs.Common.{◌≡◌, ℕ, List, Bool, false, sym, arith, ◌∙◌, ap}
 use Rattle.std.specs.Prelude.{◌↔◌, IsTrue, ◌||◌, nat_eq, Some}
 use Rattle.std.specs.Str.{bytes_eq}
 use Rattle.std.proofs.lemmas.Bool.Decides.{same_from_decides, nat_tests}

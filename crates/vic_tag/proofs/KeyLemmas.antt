@@ -1,5 +1,5 @@
 -- Masked keys by index, and what decoding a key shows of its length.
-use Rattle.std.proofs.Common.{◌≡◌, ℕ, ◌+◌, ◌-◌, ◌*◌, ◌<◌, ◌≤◌, ◌%◌, true, List, [], ◌∷◌, ◌++◌, length, get_or, map, replicate, Result, Ok, Err, chars, refl, sym, ap, ◌∙◌, arith, length-append, bit_xor, subst, inl, inr, get_or-set_other, get_or-set_same, below_more, ◌≢◌, suc, zero, ◌⊎◌}
+use Rattle.std.proofs.Common.{◌≡◌, ℕ, ◌+◌, ◌-◌, ◌*◌, ◌<◌, ◌≤◌, ◌%◌, true, List, [], ◌∷◌, ◌++◌, length, get_or, replicate, Result, Ok, Err, chars, refl, sym, ap, ◌∙◌, arith, length-append, bit_xor, inl, inr, get_or-set_other, get_or-set_same, below_more, ◌≢◌, ◌⊎◌}
 use Rattle.std.specs.Str.{IsAscii}
 use Rattle.std.specs.List.{AllPass}
 use Rattle.std.specs.Int.Bits.{xor_zero_r}
@@ -11,7 +11,7 @@ use Rattle.std.proofs.lemmas.List.Elements.{All-head, All-tail}
 use Rattle.std.proofs.lemmas.Str.{chars-IsAscii}
 use Rattle.std.proofs.lemmas.Str.Ascii.{IsAscii-nil, IsAscii-cons}
 use Rattle.hex.specs.declared.error.FromHexError.{FromHexError}
-use Rattle.hex.specs.Hex.{decode_of, decode_pairs, is_hex_digit}
+use Rattle.hex.specs.Hex.{decode_of, is_hex_digit}
 use Rattle.hex.proofs.HexLemmas.{decode_pairs-ok, decode_of-even, decode_of-odd}
 use Rattle.vic_wire.specs.Hashes.{masked_key}
 

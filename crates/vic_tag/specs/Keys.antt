@@ -1,5 +1,5 @@
 -- Keys in hexadecimal text: which fault a text has, if it has one.
-use Rattle.std.specs.Prelude.{ℕ, ◌%◌, Bool, not, ◌&&◌, List, length, Option, Some, None, nat_le, ◌==◌, if◌then◌else◌, position, chars}
+use Rattle.std.specs.Prelude.{ℕ, ◌%◌, Bool, not, ◌&&◌, List, length, Option, Some, nat_le, ◌==◌, if◌then◌else◌, position}
 use Rattle.std.specs.Option.{option_map}
 use Rattle.hex.specs.Hex.{is_hex_digit}
 use Rattle.vic_tag.specs.declared.key.KeyFault.{KeyFault}

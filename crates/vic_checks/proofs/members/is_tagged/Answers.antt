@@ -1,4 +1,3 @@
-use Rattle.vic_wire.specs.Texts.{invoke_text}
 use Rattle.vic_checks.proofs.Digests.{same_as}
 use Rattle.vic_checks.proofs.members.is_tagged.Goals as goal
 

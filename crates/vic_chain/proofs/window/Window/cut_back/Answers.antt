@@ -1,6 +1,6 @@
-use Rattle.std.proofs.Common.{rules, sym, subst, ap, ◌∙◌, ◌≡◌, arith}
+use Rattle.std.proofs.Common.{rules, sym, subst, arith}
 use Rattle.std.proofs.lemmas.Grind.{common_steps}
-use Rattle.vic_chain.specs.Held.{ShowsPath, Held, held_length}
+use Rattle.vic_chain.specs.Held.{ShowsPath}
 use Rattle.vic_chain.proofs.Shown.{shows_cut}
 use Rattle.vic_chain.proofs.window.Window.cut_back.Goals as goal
 

@@ -1,6 +1,5 @@
-use Rattle.std.proofs.Common.{List, ℕ, Some, ◌+◌, ◌-◌, length, rules, sym, subst, ap, ◌∙◌, ◌≡◌, arith}
-use Rattle.std.proofs.lemmas.Grind.{common_steps}
-use Rattle.vic_chain.specs.Held.{ShowsPath, Held, held_length}
+use Rattle.std.proofs.Common.{List, ℕ, Some, ◌+◌, ◌-◌, length, sym, subst, ap, ◌≡◌, arith}
+use Rattle.vic_chain.specs.Held.{Held, held_length}
 use Rattle.vic_chain.proofs.Shown.{shows_entry, link_at}
 use Rattle.std.specs.Prelude.{slice_get}
 use Rattle.std.specs.Option.{option_map}

@@ -1,6 +1,5 @@
-use Rattle.std.proofs.Common.{rules, sym, subst, ap, ◌∙◌, ◌≡◌, arith}
+use Rattle.std.proofs.Common.{rules, ap, ◌∙◌, arith}
 use Rattle.std.proofs.lemmas.Grind.{common_steps}
-use Rattle.vic_chain.specs.Held.{ShowsPath, Held, held_length}
 use Rattle.vic_wire.specs.declared.message.Digest32.{Digest32}
 use Rattle.vic_chain.proofs.Shown.{shows_hash}
 use Rattle.vic_chain.proofs.window.Window.hash_at.Goals as goal

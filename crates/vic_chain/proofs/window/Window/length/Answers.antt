@@ -1,6 +1,5 @@
-use Rattle.std.proofs.Common.{rules, sym, subst, ap, ◌∙◌, ◌≡◌, arith}
+use Rattle.std.proofs.Common.{rules, ◌∙◌, arith}
 use Rattle.std.proofs.lemmas.Grind.{common_steps}
-use Rattle.vic_chain.specs.Held.{ShowsPath, Held, held_length}
 use Rattle.vic_chain.proofs.Shown.{shows_length}
 use Rattle.vic_chain.proofs.window.Window.length.Goals as goal
 

@@ -1,4 +1,4 @@
-use Rattle.std.proofs.Common.{arith, refl, length-set, bit_xor, length, ap, ℕ, ◌<◌, ◌≤◌, ◌∙◌}
+use Rattle.std.proofs.Common.{arith, refl, length-set, bit_xor, length, ap, ℕ, ◌<◌, ◌∙◌}
 use Rattle.std.proofs.lemmas.List.{get_or-replicate}
 use Rattle.vic_tag.proofs.KeyLemmas.{masked_from_same, join_more, behind_stays}
 use Rattle.vic_tag.proofs.key.GroupKey.masked.Goals as goal
