@@ -2,7 +2,8 @@
 //!
 //! A client that awaits an answer keeps a `State`. What it must make of the answer is `verdict_on` and `decision` of
 //! `vic_rules/specs/Client.antt`; the contracts of `judge` and `decide` carry them, for each standing that the state
-//! stands for (`StandsForState` of `specs/State.antt`). [`tags`] has the tags that clients make, by which the checks are made.
+//! stands for (`StandsForState` of `specs/State.antt`). [`tags`] has the tags that clients make; the checks of
+//! entries and of seals compare with them.
 #![tactic(auto)]
 
 pub mod deciding;

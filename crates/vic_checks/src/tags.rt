@@ -11,7 +11,7 @@ use vic_dict::Entry;
 use vic_tag::GroupKey;
 use vic_wire::Digest32;
 
-/// The tag of an entry's invoke text: 11 (hexadecimal) and the entry's bytes. It costs what the entry has.
+/// The tag of an entry's invoke text: 11 (hexadecimal) and the entry's bytes. It costs the entry's bytes.
 pub fn invoke_tag(key: &GroupKey, entry: &Entry) -> Digest32
     requires { Fits entry.now.op }
     ensures { result.bytes ≡ tag_of key.now (invoke_text entry.now) }

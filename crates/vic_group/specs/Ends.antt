@@ -111,9 +111,9 @@ pub record IsAsClaimed (script : List ℕ) : Type 0 where
   pub real_time : (IsForged (group_of script) (history_of script) → ⊥) → (me : ℕ) → IsInRealTime (group_of script) (history_of script) (view_of (group_of script) me (history_of script))
   -- a call has at most one completion
   pub once : CompletedOnceIn (group_of script) (history_of script)
-  -- a call that is done conflicts with no entry of another client above the seal of its Reply and below the call, so its answer is
-  -- the same whichever of those take effect
+  -- a call that is done conflicts with no entry of another client above the seal of its Reply and below the call
   pub no_conflict : DoneMeetsNoConflictIn (group_of script) (history_of script)
+  -- so its answer is that of the Reply's part after its client's own done calls above the seal, whichever of those entries take effect
   pub stands : AnswersStandIn (group_of script) (history_of script)
   -- each call that stands in two clients' views stands within the number that is printed for the two
   pub agreed : AgreementsCountIn (group_of script) (history_of script)

@@ -1,9 +1,10 @@
 //! A world of clients and servers, in which a script's lines happen.
 
-ghost use Rattle.std.specs.Prelude.{◌≡◌, ◌≢◌, ◌<◌, ◌≤◌, ◌+◌, ◌++◌, ◌&&◌, ℕ, true, false, nat_lt, nat_le, [], ◌∷◌, length, OnOk, OnErr, IfOk, Ok, Err, Some, None, MatchOption, IsTrue, is_some, slice_get, ◌-◌};
+ghost use Rattle.std.specs.Prelude.{◌≡◌, ◌≢◌, ◌<◌, ◌≤◌, ◌+◌, ◌++◌, ◌&&◌, ◌↔◌, ℕ, true, false, nat_lt, nat_le, [], ◌∷◌, length, OnOk, OnErr, IfOk, Ok, Err, Some, None, MatchOption, IsTrue, is_some, slice_get, ◌-◌};
 ghost use Rattle.vic_order.specs.Serving.{AnswersAs};
 ghost use Rattle.vic_rules.specs.declared.trace.Input.TheVariants as input;
 ghost use Rattle.vic_rules.specs.History.{IsLawful};
+ghost use Rattle.vic_rules.specs.Trust.{IsForged};
 ghost use Rattle.vic_rules.specs.Client.{first_failing};
 ghost use Rattle.vic_dict.specs.Dictionary.{Fits};
 ghost use Rattle.vic_order.specs.Order.{fresh_server, ready, same_mode};
@@ -445,6 +446,7 @@ impl<S: Serve + Drop> World<S> {
         requires { IsLawful (group_of self.now.transcript) (history_of self.now.transcript) }
         ensures text { IfOk result (λ v. v.text ≡ end_text (group_of self.now.transcript) (history_of self.now.transcript) None) }
         ensures forged { IfOk result (λ v. v.forged ≡ is_forged (group_of self.now.transcript) (history_of self.now.transcript)) }
+        ensures means { IfOk result (λ v. (v.forged ≡ true) ↔ IsForged (group_of self.now.transcript) (history_of self.now.transcript)) }
     {
         print_end(alloc, &self.transcript)
     }

@@ -71,7 +71,7 @@ same_completion g h steps c d hc hd e f p q ec ed same =
     (completion_owner g h steps c hc e p ec ∙ same.0 ∙ sym (completion_owner g h steps d hd f q ed))
     (ap number_of ec ∙ same.1 ∙ sym (ap number_of ed))
 
--- a call has one completion
+-- a call has at most one completion
 pub completed_once : CompletedOnce
 completed_once g h lawful c d hc hd e f p q ec ed same = same_completion g h lawful.steps c d hc hd e f p q ec ed same
 

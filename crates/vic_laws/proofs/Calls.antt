@@ -284,7 +284,7 @@ both_completions g past x steps c d (inr a) (inl b) client number older =
     absurd (omega arith)
 both_completions g past x steps c d (inr a) (inr b) client number older = sym a.1 ∙ completed_once g past x a.0 b.0 ∙ b.1
 
--- a call has one completion
+-- a call has at most one completion
 pub one_completion : (g : Group) (h : List TraceStep) → AreSteps g h → (c d : Completion) → IsIn (completions g h) c → IsIn (completions g h) d
     → c.client ≡ d.client → number_of c.prefix ≡ number_of d.prefix → c ≡ d
 unfolding completions

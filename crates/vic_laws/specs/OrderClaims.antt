@@ -11,7 +11,7 @@ use Rattle.vic_wire.specs.declared.message.Seal.{Seal}
 use Rattle.vic_wire.specs.declared.message.Tagged.{Tagged}
 use Rattle.vic_wire.specs.declared.message.ToClient.TheVariants as say
 use Rattle.vic_wire.specs.Hashes.{Group}
-use Rattle.vic_wire.specs.Parts.{read_part}
+use Rattle.vic_wire.specs.Parts.{Part, read_part, walked}
 use Rattle.vic_rules.specs.declared.trace.TraceStep.{TraceStep}
 use Rattle.vic_rules.specs.Client.{same_op, same_entry, least_above, is_in_the_way, is_done}
 use Rattle.vic_rules.specs.History.{IsLawful, path, Completion, completions}
@@ -84,16 +84,17 @@ abbrev pub was_done : Option Completion → Bool
 was_done None = false
 was_done (Some c) = is_done c.outcome
 
--- a choice by which a client's own entries take effect exactly where the client completed them as done
+-- a choice by which a client's own entries take effect exactly where the client completed them, on this very path, as done
 abbrev pub PicksOwn : List Completion → ℕ → (List Entry → Bool) → Type 0
 PicksOwn cs me picks = (e : Entry) (p : List Entry) → e.client ≡ me → picks (e ∷ p) ≡ was_done (confirmed cs (e ∷ p))
 
--- a call that is done is answered by the part of its Reply after the client's own done calls above the seal, with whichever entries of others above it
+-- a call that is done has the answer of its Reply's part after the client's own done calls that stand above the seal and below the call,
+-- whichever entries of others there take effect as well
 abbrev pub AnswersStandIn : Group → List TraceStep → Type 0
 AnswersStandIn g h = (later : List TraceStep) (x : TraceStep) (past : List TraceStep) → h ≡ later ++ x ∷ past
     → (seal : Seal) (entries : List Tagged) (bytes : List ℕ) → took g past x ≡ Some (say.Reply seal entries bytes) → (e : Entry) (below : List Entry) → path g x.client (x ∷ past) ≡ e ∷ below
-    → (a : Answer) → x.returned ≡ Some (outcome.Done a) → (part : Dictionary) → read_part bytes ≡ Some part
-    → (picks : List Entry → Bool) → PicksOwn (completions g h) x.client picks → a ≡ reply (effect_of picks seal.position part below) e.op
+    → (a : Answer) → x.returned ≡ Some (outcome.Done a) → (part : Part) → read_part bytes ≡ Some part
+    → (picks : List Entry → Bool) → PicksOwn (completions g h) x.client picks → a ≡ reply (effect_of picks seal.position (walked part e.op) below) e.op
 
 abbrev pub AnswersStand : Type 0
 AnswersStand = (g : Group) (h : List TraceStep) → IsLawful g h → AnswersStandIn g h

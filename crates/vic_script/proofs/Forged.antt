@@ -64,6 +64,10 @@ forged-from g (x ∷ past) (inr now) = or_right (is_forged g past) (takes_unmade
 pub is_forged-Decides : (g : Group) (h : List TraceStep) → (is_forged g h ≡ true) ↔ IsForged g h
 is_forged-Decides g h = (forged-found g h, forged-from g h)
 
+-- so what equals it means that
+pub forged_means : (g : Group) (h : List TraceStep) (b : Bool) → b ≡ is_forged g h → (b ≡ true) ↔ IsForged g h
+forged_means g h b e = subst (λ (x : Bool). (x ≡ true) ↔ IsForged g h) (sym e) (is_forged-Decides g h)
+
 -- where nothing is forged the test says so
 pub is_forged-none : (g : Group) (h : List TraceStep) → (IsForged g h → ⊥) → is_forged g h ≡ false
 is_forged-none g h honest = false_from_ne_true (is_forged g h) (λ e. honest (forged-found g h e))

@@ -381,7 +381,8 @@ fn hashes_for(all: &[Hashes], client: u8) -> &[Digest32]
 }
 
 /// Whether some client took a text whose tag no client had made before. It costs the transcript, for each client a look at each
-/// step and the hashes along its path, and for each text the logarithm of those made.
+/// step and the hashes along its path, and for each text that was tagged or taken the logarithm of the number of those
+/// tagged.
 pub fn forged(alloc: Global, t: &Transcript) -> Result<bool, NoMemory>
     requires { IsLawful (group_of t.now) (history_of t.now) }
     ensures is { IfOk result (λ b. b ≡ is_forged (group_of t.now) (history_of t.now)) }

@@ -2,9 +2,10 @@
 //! views agree, and whether a client took a tag that no client had made.
 //!
 //! A view is `view_of` of `vic_rules` (`specs/Views.antt`), which the contract of `view_of` carries. The lines that are
-//! printed are those of `vic_script` (`specs/Print.antt`), which the contract of `print_views` carries. Whether a text was taken
-//! whose tag no client had made is `is_forged` there, and `IsForged` of `vic_rules`; both are in the contract of `forged`.
-//! `view_plainly` and `forged_plainly` have the contracts of `view_of` and `forged`, and are the definitions read off directly.
+//! printed are those of `vic_script` (`specs/Print.antt`), which the contract of `print_end` carries. Whether a text was taken whose
+//! tag no client had made is `is_forged` there, and means `IsForged` of `vic_rules`; both are in the contract of `forged`.
+//! `view_plainly` has the contract of `view_of`, and `forged_plainly` the clause `is` of `forged`; they are the definitions read off
+//! directly.
 #![tactic(auto)]
 
 mod forgery;

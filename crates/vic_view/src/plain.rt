@@ -1,7 +1,7 @@
 //! The definitions of a view and of a forged text, read off directly. Both programs are slow on purpose: a view compares whole
 //! paths, entry by entry and anew at each position, with those of all calls that were completed, and the look for a forged text
-//! goes through all texts that were made for each text that was taken. They share no search with `view_of` and `forged`, whose
-//! contracts they have, so that a test can hold the two beside one another.
+//! goes through all texts that were made for each text that was taken. They share no search with `view_of` and `forged`,
+//! and have the contract of the one and the clause `is` of the other, so that a test can hold the two beside one another.
 
 ghost use Rattle.std.specs.Prelude.{◌≡◌, [], ◌∷◌, ◌++◌, map, reverse, IfOk, OnOk, OnErr, Some, None, option_map};
 ghost use Rattle.std.specs.Cmp.Lexicographic.{pointwise};

@@ -1,9 +1,10 @@
-//! What is printed of a transcript at its end: the views, and how far they agree.
+//! What is printed of a transcript at its end: the views, how far they agree, and what is said of tags.
 
-ghost use Rattle.std.specs.Prelude.{◌≡◌, ◌<◌, ◌≤◌, ◌+◌, ◌-◌, ◌^◌, [], ◌∷◌, ◌++◌, length, reverse, IfOk, OnOk, OnErr, slice_get, slice_index_or, Some, None};
+ghost use Rattle.std.specs.Prelude.{◌≡◌, ◌<◌, ◌≤◌, ◌+◌, ◌-◌, ◌^◌, ◌↔◌, true, [], ◌∷◌, ◌++◌, length, reverse, IfOk, OnOk, OnErr, slice_get, slice_index_or, Some, None};
 ghost use Rattle.std.specs.List.{flat_map};
 ghost use Rattle.std.specs.Fmt.{decimal};
 ghost use Rattle.vic_rules.specs.History.{IsLawful};
+ghost use Rattle.vic_rules.specs.Trust.{IsForged};
 ghost use Rattle.vic_script.specs.Print.{shown_line, agreement, tags_line, is_forged, all_views as every_view, all_agreements as every_agreement, end_text};
 ghost use Rattle.vic_view.specs.Transcripts.{group_of, history_of};
 ghost use Rattle.vic_view.specs.Replay.{AreReplayed};
@@ -208,13 +209,14 @@ fn print_along(
 }
 
 /// What is printed at the end of a run: the lines of all views, how far each two agree, and whether each tag that was taken
-/// was made, which it also tells. It costs the transcript; for each client a look at each step, and the hashes along its path; for
-/// each two clients a comparison of their paths and of their views; and for each text that was tagged or taken the logarithm of
-/// the number of those tagged.
+/// was made, which it also tells. It costs the transcript; for each client a look at each step, the hashes along its path, and what
+/// the calls of its view hold; for each two clients a comparison of their paths and of their views; and for each text that was
+/// tagged or taken the logarithm of the number of those tagged.
 pub fn print_end(alloc: Global, t: &Transcript) -> Result<Printed, NoMemory>
     requires { IsLawful (group_of t.now) (history_of t.now) }
     ensures text { IfOk result (λ p. p.text ≡ end_text (group_of t.now) (history_of t.now) None) }
     ensures forged { IfOk result (λ p. p.forged ≡ is_forged (group_of t.now) (history_of t.now)) }
+    ensures means { IfOk result (λ p. (p.forged ≡ true) ↔ IsForged (group_of t.now) (history_of t.now)) }
 {
     let paths = all_paths(alloc, t)?;
     let unmade = forged_along(alloc, t, paths.as_slice())?;
