@@ -30,16 +30,20 @@ pub enum KeyFault {
 #[derive(Debug, Drop)]
 pub struct GroupKey {
     items: Vec<u8>,
+    inner: Sha256,
+    outer: Sha256,
 }
 
 impl Model for GroupKey {
     ghost use Rattle.std.specs.Prelude.{ℕ, List, ◌<◌, ◌≤◌, length};
+    ghost use Rattle.sha2.specs.Hashers.{Holds256};
+    ghost use Rattle.vic_wire.specs.Hashes.{masked_key};
 
     ghost Value = { List ℕ };
 
     ghost view = { λ a. a.items.items };
 
-    ghost invariant = { λ a. (0 < length a.items.items) × (length a.items.items ≤ 64) };
+    ghost invariant = { λ a. (0 < length a.items.items) × ((length a.items.items ≤ 64) × (Holds256 a.inner (masked_key 0x36 a.items.items) × Holds256 a.outer (masked_key 0x5c a.items.items))) };
 }
 
 // The number of characters.
@@ -54,6 +58,53 @@ fn first_bad(text: &str) -> Option<usize>
     ensures { result ≡ position (λ c. not (is_hex_digit c)) (chars text.now) }
 {
     text.chars().position(|c| !c.is_ascii_hexdigit())
+}
+
+// The key filled up to a block with zeros, each byte joined with the mask.
+fn masked(key: &[u8], mask: u8) -> [u8; 64]
+    requires { length key.now ≤ 64 }
+    ensures { result ≡ masked_key mask key.now }
+{
+    let mut block = [mask; 64];
+    for (i, byte) in key.iter().enumerate() {
+        block[i] = mask ^ *byte;
+    }
+    block
+}
+
+fn keyed(key: &[u8], mask: u8) -> Sha256
+    requires { length key.now ≤ 64 }
+    ensures { Holds256 result (masked_key mask key.now) }
+{
+    let block = masked(key, mask);
+    let mut hasher = Sha256::new();
+    hasher.update(block.as_slice());
+    hasher
+}
+
+// The same hasher once more; it takes no memory.
+fn again(hasher: &Sha256) -> Sha256
+    ensures { result ≡ hasher.now }
+{
+    match hasher.clone() {
+        Ok(copy) => copy,
+        Err(_) => unreachable!(),
+    }
+}
+
+// The key of these bytes, with both hashers begun.
+fn from_bytes(items: Vec<u8>) -> GroupKey
+    requires some { 0 < length items.items }
+    requires block { length items.items ≤ 64 }
+    ensures { result ≡ items.items }
+{
+    let inner = keyed(items.as_slice(), 0x36);
+    let outer = keyed(items.as_slice(), 0x5c);
+    GroupKey {
+        items,
+        inner,
+        outer,
+    }
 }
 
 impl GroupKey {
@@ -72,7 +123,7 @@ impl GroupKey {
             return Err(KeyFault::Digit(place));
         }
         match hex::decode(alloc, text) {
-            Ok(items) => Ok(GroupKey { items }),
+            Ok(items) => Ok(from_bytes(items)),
             Err(_) => Err(KeyFault::NoMemory),
         }
     }
@@ -99,39 +150,25 @@ impl GroupKey {
     {
         Ok(GroupKey {
             items: Vec::from_slice(alloc, self.items.as_slice())?,
+            inner: again(&self.inner),
+            outer: again(&self.outer),
         })
-    }
-
-    // The key filled up to a block with zeros, each byte joined with the mask.
-    fn masked(&self, mask: u8) -> [u8; 64]
-        ensures { result ≡ masked_key mask self.now }
-    {
-        let key = self.as_slice();
-        let mut block = [mask; 64];
-        for (i, byte) in key.iter().enumerate() {
-            block[i] = mask ^ *byte;
-        }
-        block
     }
 
     /// The hasher with which a tag begins. The text is fed to it, in whatever pieces, and `end` makes the tag.
     pub fn begin(&self) -> Sha256
         ensures { Holds256 result (masked_key 0x36 self.now) }
     {
-        let block = self.masked(0x36);
-        let mut hasher = Sha256::new();
-        hasher.update(block.as_slice());
-        hasher
+        again(&self.inner)
     }
 
     /// The tag of the text that the hasher was fed with since `begin`.
+    #[tactic(auto, unfolding(vic_wire::specs::Hashes::tag_of))]
     pub fn end(&self, hasher: Sha256) -> Digest32
         ensures { (text : List ℕ) → Holds256 hasher (masked_key 0x36 self.now ++ text) → result.bytes ≡ tag_of self.now text }
     {
-        let block = self.masked(0x5c);
         let inside = hasher.finalize();
-        let mut outside = Sha256::new();
-        outside.update(block.as_slice());
+        let mut outside = again(&self.outer);
         outside.update(inside.as_slice());
         Digest32 {
             bytes: outside.finalize(),

@@ -1,7 +1,7 @@
 use Rattle.std.proofs.Common.{arith, refl, length-set, bit_xor, length, ap, ℕ, ◌<◌, ◌∙◌}
 use Rattle.std.proofs.lemmas.List.{get_or-replicate}
 use Rattle.vic_tag.proofs.KeyLemmas.{masked_from_same, join_more, behind_stays}
-use Rattle.vic_tag.proofs.key.GroupKey.masked.Goals as goal
+use Rattle.vic_tag.proofs.key.masked.Goals as goal
 
 pub loop-i-init : goal.loop-i-init
 loop-i-init c = record {
@@ -12,16 +12,16 @@ loop-i-init c = record {
 
 pub loop-i-preserved : goal.loop-i-preserved
 loop-i-preserved c =
-    let inside : c.loop-i.i < length c.loop-i.block = omega (arith, ap length c.as_slice-key.ensures.value) in
+    let inside : c.loop-i.i < length c.loop-i.block = omega arith in
     record {
       whole = length-set _ _ _ ∙ c.loop-i.invariant.whole;
-      joined = join_more (bit_xor c.args.mask) c.loop-i.block c.as_slice-key.result.now c.loop-i.i inside c.loop-i.invariant.joined;
+      joined = join_more (bit_xor c.args.mask) c.loop-i.block c.args.key.now c.loop-i.i inside c.loop-i.invariant.joined;
       behind = behind_stays c.loop-i.block c.loop-i.i _ c.args.mask c.loop-i.invariant.behind;
     }
 
 pub returns : goal.returns
 returns c =
-    masked_from_same c.args.mask c.as_slice-key.result.now c.args.self.now c.loop-i.block c.as_slice-key.ensures.value
-    c.loop-i.invariant.whole c.as_slice-key.ensures.block
+    masked_from_same c.args.mask c.args.key.now c.args.key.now c.loop-i.block refl
+    c.loop-i.invariant.whole (omega arith)
     (λ k lt. c.loop-i.invariant.joined k (omega arith))
     (λ k le lt. c.loop-i.invariant.behind k (omega arith) lt)

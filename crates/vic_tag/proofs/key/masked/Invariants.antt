@@ -1,5 +1,5 @@
 use Rattle.std.proofs.Common.{◌≡◌, ℕ, ◌<◌, ◌≤◌, get_or, bit_xor, length}
-use Rattle.vic_tag.proofs.key.GroupKey.masked.Given as goal
+use Rattle.vic_tag.proofs.key.masked.Given as goal
 
 -- the bytes so far are joined, and the mask stands behind them
 abbrev pub invariant-loop-i : goal.invariant-loop-i
