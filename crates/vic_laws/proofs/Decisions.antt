@@ -40,7 +40,7 @@ same_reply : (s z : Seal) (ts us : List Tagged) (p q : List ℕ) → say.Reply s
 same_reply s z ts us p q e = (cc, cc)
 
 -- a Reply that a client took is the Reply to its call
-reply_taken : (g : Group) (x : TraceStep) (past : List TraceStep) → Kind g x.client (standing g x.client past) x.input (move_of g past x) → (seal : Seal) (entries : List Tagged) (part : List ℕ)
+pub reply_taken : (g : Group) (x : TraceStep) (past : List TraceStep) → Kind g x.client (standing g x.client past) x.input (move_of g past x) → (seal : Seal) (entries : List Tagged) (part : List ℕ)
     → took g past x ≡ Some (say.Reply seal entries part) → (r : RepliedAt g past x) × ((r.seal ≡ seal) × (r.bytes ≡ part))
 unfolding took
 reply_taken g x past (is_quiet k) seal entries part t = absurd (none_is_some (sym (k.seals_nothing (say.Reply seal entries part) t).0))
@@ -55,7 +55,7 @@ pub record DecidedOver (cs : List Completion) (x : TraceStep) (position : ℕ) (
   pub is_part : read_part bytes ≡ Some part
   pub returned : x.returned ≡ Some (decided (in_the_way x.client e.op position below) (own_laid cs x.client position part below) e.op)
 
-same_parts : (a b : Entry) (p q : List Entry) → a ∷ p ≡ b ∷ q → (a ≡ b) × (p ≡ q)
+pub same_parts : (a b : Entry) (p q : List Entry) → a ∷ p ≡ b ∷ q → (a ≡ b) × (p ≡ q)
 same_parts a b p q e = (cc, cc)
 
 -- a step that took a Reply decided so

@@ -1,5 +1,6 @@
 //! The laws on tags, hashes and seals, and on what views answer and leave.
 
+ghost use Rattle.vic_laws.specs.Meanings.{AbortedByConflict, ApartIs, LegalIs, LawfulByClient, ListedAre, SealedAnswersStand};
 ghost use Rattle.vic_laws.specs.Claims.{DictionariesAreProper, HashesTellPaths, PartsAreProper, SealsHold, TagsHold, ViewsAreLegal, ViewsLeaveProper};
 
 /// One hash tells one path.
@@ -27,4 +28,34 @@ pub fn dictionaries_are_proper()
     ensures paths { DictionariesAreProper }
     ensures views { ViewsLeaveProper }
     ensures parts { PartsAreProper }
+{}
+
+/// A view is legal exactly where each of its calls was aborted, or has the answer of what the calls below it leave.
+pub fn legal_is()
+    ensures { LegalIs }
+{}
+
+/// The listed texts are those of a list that is worked out.
+pub fn listed_are()
+    ensures { ListedAre }
+{}
+
+/// A history is lawful exactly where its steps are members' and those of each client are a lawful history by themselves.
+pub fn lawful_by_client()
+    ensures { LawfulByClient }
+{}
+
+/// A call is aborted exactly by the least entry of another client, between the seal of its Reply and itself, that conflicts with it.
+pub fn aborted_by_conflict()
+    ensures { AbortedByConflict }
+{}
+
+/// Where the test of the listed texts finds no two that collide, there are none.
+pub fn apart_is()
+    ensures { ApartIs }
+{}
+
+/// The answer of a call that is done is that of what is sealed, whichever entries of others above the seal take effect.
+pub fn sealed_answers_stand()
+    ensures { SealedAnswersStand }
 {}

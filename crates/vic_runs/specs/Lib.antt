@@ -1,3 +1,4 @@
 pub mod Reached
 pub mod Claims
 pub mod Agreements
+pub mod Tampering

@@ -9,6 +9,8 @@
 
 ghost use Rattle.vic_runs.specs.Claims.{RunsAreLawful, NothingIsForged, ForgedIs, RunsAreHonest, ClaimsHold, OutcomesAreFates, NobodyHalts, NoLineIsHalted, PrintsAreReturns};
 
+ghost use Rattle.vic_runs.specs.Tampering.{HonestLineIs};
+
 pub mod agreements;
 
 /// The history of a script is one of clients that step by the rules.
@@ -54,4 +56,9 @@ pub fn no_line_is_halted()
 /// What the lines of a script print is what its steps returned, in their order.
 pub fn prints_are_returns()
     ensures { PrintsAreReturns }
+{}
+
+/// The lines that aren't honest are those that tamper.
+pub fn honest_line_is()
+    ensures { HonestLineIs }
 {}
