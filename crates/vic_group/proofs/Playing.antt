@@ -25,6 +25,7 @@ use Rattle.vic_group.specs.declared.play.Ran.{Ran}
 use Rattle.vic_group.specs.declared.play.Ran.TheVariants as ran
 use Rattle.vic_group.specs.declared.world.World.{World}
 use Rattle.vic_group.specs.World.{MemberStands, ShowsScene, MayDo}
+use Rattle.vic_server.specs.Replay.{Kept}
 use Rattle.vic_group.specs.Playing.{state, scene_of, Shows, Opens, Tries, tried_at, Follows, Leaves, ended_by, end_of}
 use Rattle.vic_group.proofs.Members.{stand_at}
 use Rattle.vic_group.proofs.Scenes.{same_scene}
@@ -32,11 +33,11 @@ use Rattle.vic_group.proofs.Scenes.{same_scene}
 -- ---- the world and its scene
 
 -- a world shows no other scene
-pub scene_same : (w : World Server) (s : Scene) → ShowsScene state w s → s ≡ scene_of w
+pub scene_same : (w : World Kept) (s : Scene) → ShowsScene state w s → s ≡ scene_of w
 scene_same w s h = same_scene s (scene_of w) (sym h.group) (sym h.history) (sym h.up) (sym h.down) (sym h.served_by) (sym h.servers)
 
 -- where so few lines were done, the client that a line calls may call once more
-pub may_of : (w : World Server) (n : ℕ) (l : Line) → Shows w → IsReached (scene_of w) n → n + 1 < 2 ^ 32 → MayDo w l
+pub may_of : (w : World Kept) (n : ℕ) (l : Line) → Shows w → IsReached (scene_of w) n → n + 1 < 2 ^ 32 → MayDo w l
 may_of w n (line.Call i o) shows r few = λ plain above m at.
     let so = stand_at (MemberStands (scene_of w).group (scene_of w).history) 1 (i - 1) w.members.items m shows.clients at in
     (ap (λ (x : Group). x.mode) so.group ∙ r.plain, omega (arith, few, r.calls (1 + (i - 1)), so.stands.calls))
@@ -61,7 +62,7 @@ may_of w n line.Skip shows r few = tt
 pub known_all : (n : ℕ) (script : List ℕ) → length script ≤ n → script ≡ take (n + 1) script
 known_all n script few = sym (take_all (n + 1) script (omega (arith, few)))
 
-pub opens_clients : (l : Option Line) (count : ℕ) (w : World Server) → l ≡ Some (line.Clients count) → 0 < count → count ≤ 64 → ShowsScene state w (opening (plain_group count)) → Opens (try_line None l) (Some w)
+pub opens_clients : (l : Option Line) (count : ℕ) (w : World Kept) → l ≡ Some (line.Clients count) → 0 < count → count ≤ 64 → ShowsScene state w (opening (plain_group count)) → Opens (try_line None l) (Some w)
 opens_clients l count w e above upto shows =
     subst (λ o. Opens (try_line None o) (Some w)) (sym e) (refl, (shows, reached-more (opening (plain_group count)) 0 1 (omega arith) (reached-opening count above upto)))
 
@@ -70,12 +71,12 @@ opens_clients l count w e above upto shows =
 none-some : (kind : ℕ) → None ≡ Some kind → ⊥
 none-some kind e = absurd cc
 
-follows-tried : (n : ℕ) (t : Tried) (w : World Server) (old new : List ℕ) → TriedReaches t (n + 1) → Tries t w old new None → Follows n t w old new None
+follows-tried : (n : ℕ) (t : Tried) (w : World Kept) (old new : List ℕ) → TriedReaches t (n + 1) → Tries t w old new None → Follows n t w old new None
 follows-tried n (Fails kind) w old new r h = absurd (none-some kind h.0)
 follows-tried n (Does s text) w old new r h = (refl, (h.1.0, (h.1.1, r)))
 
 -- a line within the limit that was done
-pub follows_none : (place n : ℕ) (s : Scene) (text : List ℕ) (w : World Server) (old new : List ℕ) → place ≤ limit → IsReached s n → n + 1 < 2 ^ 32
+pub follows_none : (place n : ℕ) (s : Scene) (text : List ℕ) (w : World Kept) (old new : List ℕ) → place ≤ limit → IsReached s n → n + 1 < 2 ^ 32
     → Tries (try_line (Some s) (line_of (Some mode.Plain) text)) w old new None → Follows n (tried_at place s text) w old new None
 follows_none place n s text w old new within r few h =
     let t : Tried = try_line (Some s) (line_of (Some s.group.mode) text) in
@@ -100,7 +101,7 @@ printed-twice : (a b : List ℕ) (p : Run) → printed_before a (printed_before 
 printed-twice a b p = ap (λ (t : List ℕ). record { scene = p.scene; text = t; bad = p.bad }) (sym (append_assoc a b p.text))
 
 -- a line was done, and the run goes on from there
-pub goes_on : (n : ℕ) (run : Run) (scene : Option Scene) (t : Tried) (rest : Scene → Run) (w : World Server) (old new : List ℕ) → run ≡ printed_before old (follow n scene t rest) → Follows n t w old new None
+pub goes_on : (n : ℕ) (run : Run) (scene : Option Scene) (t : Tried) (rest : Scene → Run) (w : World Kept) (old new : List ℕ) → run ≡ printed_before old (follow n scene t rest) → Follows n t w old new None
     → (Shows w × IsReached (scene_of w) (n + 1)) × (run ≡ printed_before new (rest (scene_of w)))
 goes_on n run scene (Fails kind) rest w old new e h = absurd cc
 goes_on n run scene (Does s text) rest w old new e h =
@@ -123,7 +124,7 @@ stopped-so : (run : Run) (out : List ℕ) (scene : Option Scene) (n kind : ℕ) 
 stopped-so run out scene n kind e = (ap (λ (r : Run). r.bad) e, ap (λ (r : Run). r.text) e ∙ append-nil out)
 
 -- a line was bad
-pub leaves_stop : (n : ℕ) (run : Run) (scene : Option Scene) (t : Tried) (rest : Scene → Run) (w : World Server) (old new : List ℕ) (b : BadLine) → run ≡ printed_before old (follow n scene t rest)
+pub leaves_stop : (n : ℕ) (run : Run) (scene : Option Scene) (t : Tried) (rest : Scene → Run) (w : World Kept) (old new : List ℕ) (b : BadLine) → run ≡ printed_before old (follow n scene t rest)
     → Follows n t w old new (Some b) → Leaves run (ran.Stopped new b)
 leaves_stop n run scene (Does s made) rest w old new b e h = absurd cc
 leaves_stop n run scene (Fails kind) rest w old new b e h =
@@ -136,7 +137,7 @@ unfolding play
 play-nil total before n s = refl
 
 -- no line is left
-pub leaves_end : (total before n : ℕ) (run : Run) (w : World Server) (out : List ℕ) → run ≡ printed_before out (play total before n (Some (scene_of w)) []) → Shows w → Leaves run (ran.Whole w out)
+pub leaves_end : (total before n : ℕ) (run : Run) (w : World Kept) (out : List ℕ) → run ≡ printed_before out (play total before n (Some (scene_of w)) []) → Shows w → Leaves run (ran.Whole w out)
 leaves_end total before n run w out e shows =
     let done : run ≡ printed_before out (record { scene = Some (scene_of w); text = []; bad = None }) = e ∙ ap (printed_before out) (play-nil total before n (scene_of w)) in
     (ap (λ (r : Run). r.bad) done, (ap (λ (r : Run). r.text) done ∙ append-nil out, (ap (λ (r : Run). r.scene) done, shows)))
@@ -157,7 +158,7 @@ leaves_long total text texts long =
     let other : Run = follow 1 None (try_line None (line_of None text)) (λ s. play total place 2 (Some s) texts) in
     subst (λ (b : Bool). Leaves (if b then stops None 1 7 else other) (ran.Stopped [] (record { number = 1; kind = 7 }))) (sym (lt-ltb limit place long)) (first_bad 7)
 
-follows-opened : (t : Tried) (rest : Scene → Run) (w : World Server) (r : Ran) → Opens t (Some w) → Leaves (rest (scene_of w)) r → Leaves (follow 1 None t rest) r
+follows-opened : (t : Tried) (rest : Scene → Run) (w : World Kept) (r : Ran) → Opens t (Some w) → Leaves (rest (scene_of w)) r → Leaves (follow 1 None t rest) r
 follows-opened (Fails kind) rest w r h leaves = absurd cc
 follows-opened (Does s text) rest w r h leaves =
     let same : scene_of w ≡ s = sym (scene_same w s h.1.0) in
@@ -167,7 +168,7 @@ follows-unopened : (t : Tried) (rest : Scene → Run) → Opens t None → Leave
 follows-unopened (Fails kind) rest h = subst (λ (k : ℕ). Leaves (stops None 1 k) (ran.Stopped [] (record { number = 1; kind = 1 }))) (sym h.0) (first_bad 1)
 follows-unopened (Does s made) rest h = absurd h
 
-pub leaves_opened : (total : ℕ) (text : List ℕ) (texts : List (List ℕ)) (w : World Server) (r : Ran) → place_behind total 0 text ≤ limit → Opens (try_line None (line_of None text)) (Some w)
+pub leaves_opened : (total : ℕ) (text : List ℕ) (texts : List (List ℕ)) (w : World Kept) (r : Ran) → place_behind total 0 text ≤ limit → Opens (try_line None (line_of None text)) (Some w)
     → Leaves (play total (place_behind total 0 text) 2 (Some (scene_of w)) texts) r → Leaves (play total 0 1 None (text ∷ texts)) r
 unfolding play
 leaves_opened total text texts w r within h leaves =
@@ -206,7 +207,7 @@ if_ok-map (Err e) P Q f h = tt
 -- ---- what is printed
 
 -- every line was done
-pub prints_whole : (r : Run) (w : World Server) (out : List ℕ) → Leaves r (ran.Whole w out) → (p : Played)
+pub prints_whole : (r : Run) (w : World Kept) (out : List ℕ) → Leaves r (ran.Whole w out) → (p : Played)
     → (p.text ≡ out ++ end_text (transcript_group w.transcript) (history_of w.transcript) None) × (p.end ≡ ended_by None (is_forged (transcript_group w.transcript) (history_of w.transcript))) → (p.text ≡ print_of r) × (p.end ≡ end_of r)
 unfolding print_of
 prints_whole r w out left p h = (

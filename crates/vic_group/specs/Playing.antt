@@ -1,6 +1,7 @@
 -- What trying a line makes of a world, and what is then printed.
 use Rattle.std.specs.Prelude.{◌≡◌, ℕ, ◌+◌, Bool, true, false, List, [], ◌++◌, map, Option, Some, None, nat_lt, if◌then◌else◌}
 use Rattle.vic_order.specs.Order.{Server}
+use Rattle.vic_server.specs.Replay.{Kept}
 use Rattle.vic_view.specs.Transcripts.{history_of, group_of as transcript_group}
 use Rattle.vic_script.specs.Lines.{line_of}
 use Rattle.vic_script.specs.Scenes.{Scene}
@@ -16,11 +17,11 @@ use Rattle.vic_group.specs.declared.world.World.{World}
 use Rattle.vic_group.specs.World.{ShowsScene, states}
 
 -- a server that follows the rule is what the rule says of it
-abbrev pub state : Server → Server
-state s = s
+abbrev pub state : Kept → Server
+state s = s.server
 
 -- the one scene that a world of such servers can show
-abbrev pub scene_of : World Server → Scene
+abbrev pub scene_of : World Kept → Scene
 scene_of w = record {
   group = transcript_group w.transcript;
   history = history_of w.transcript;
@@ -31,17 +32,17 @@ scene_of w = record {
 }
 
 -- it shows it
-abbrev pub Shows : World Server → Type 0
+abbrev pub Shows : World Kept → Type 0
 Shows w = ShowsScene state w (scene_of w)
 
 -- a world came of trying the first line, where that opens one
-abbrev pub Opens : Tried → Option (World Server) → Type 0
+abbrev pub Opens : Tried → Option (World Kept) → Type 0
 Opens (Fails kind) w = (kind ≡ 1) × (w ≡ None)
 Opens (Does scene text) None = ⊥
 Opens (Does scene text) (Some w) = (text ≡ []) × (ShowsScene state w scene × IsReached scene 1)
 
 -- what trying a line made of a world and of what was printed before
-abbrev pub Tries : Tried → World Server → List ℕ → List ℕ → Option ℕ → Type 0
+abbrev pub Tries : Tried → World Kept → List ℕ → List ℕ → Option ℕ → Type 0
 Tries (Fails kind) w old new bad = (bad ≡ Some kind) × (new ≡ old)
 Tries (Does scene text) w old new bad = (bad ≡ None) × ((new ≡ old ++ text) × ShowsScene state w scene)
 
@@ -50,7 +51,7 @@ abbrev pub tried_at : ℕ → Scene → List ℕ → Tried
 tried_at place s text = if nat_lt limit place then Fails 7 else try_line (Some s) (line_of (Some s.group.mode) text)
 
 -- the same for the line of a number
-abbrev pub Follows : ℕ → Tried → World Server → List ℕ → List ℕ → Option BadLine → Type 0
+abbrev pub Follows : ℕ → Tried → World Kept → List ℕ → List ℕ → Option BadLine → Type 0
 Follows n (Fails kind) w old new bad = (bad ≡ Some (record { number = n; kind = kind })) × (new ≡ old)
 Follows n (Does scene text) w old new bad = (bad ≡ None) × ((new ≡ old ++ text) × (ShowsScene state w scene × IsReached scene (n + 1)))
 

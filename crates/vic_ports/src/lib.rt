@@ -6,16 +6,32 @@
 //! output, which tell none.
 #![tactic(auto)]
 
+pub mod doors;
+pub mod link;
 pub mod memory;
+mod memory_calls;
+pub mod memory_doors;
+pub mod memory_link;
 pub mod never;
 pub mod ports;
 pub mod reading;
+pub mod sending;
 pub mod system;
+pub mod tcp;
 pub mod writing;
 
+pub use doors::{Came, Doors};
+pub use link::Link;
 pub use memory::{Calls, MemorySink, MemorySource};
+pub use memory_doors::{Lines, MemoryDoors};
+pub use memory_link::MemoryLink;
 pub use never::{NeverFails, Planned};
 pub use ports::{Got, Put, Sink, Source};
 pub use reading::{Input, LIMIT, read_input};
+pub use sending::send;
 pub use system::{StdSink, StdSource};
+pub use tcp::{TcpDoors, TcpLine};
 pub use writing::{Written, write_output};
+
+#[cfg(test)]
+mod tests;

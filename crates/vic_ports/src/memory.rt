@@ -122,7 +122,7 @@ impl MemorySource {
 }
 
 /// Copies as much of the front as fits.
-fn copy_front(from: &[u8], into: &mut [u8]) -> usize
+pub(crate) fn copy_front(from: &[u8], into: &mut [u8]) -> usize
     requires some { 0 < length from.now }
     requires room { 0 < length into.old }
     ensures some { 0 < result }

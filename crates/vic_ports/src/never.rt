@@ -1,8 +1,11 @@
 //! Forms in memory that never fail: their count of faults is the constant 0.
 
 ghost use Rattle.std.specs.Prelude.{◌≡◌, [], List, ℕ, drop, Some};
+ghost use Rattle.vic_ports.specs.Memory.{told_of};
 
+use crate::link::Link;
 use crate::memory::{MemorySink, MemorySource};
+use crate::memory_link::MemoryLink;
 use crate::ports::{Got, Put, Sink, Source};
 
 /// A form in memory, which is told the calls that are to fail.
@@ -17,6 +20,10 @@ impl Planned for MemorySource {
 
 impl Planned for MemorySink {
     ghost fails = { λ s. s.fails };
+}
+
+impl Planned for MemoryLink {
+    ghost fails = { λ l. l.fails };
 }
 
 /// A form in memory that is told to fail at no call.
@@ -58,6 +65,18 @@ impl Sink for NeverFails<MemorySink> {
     ghost held = { λ s. Some s.inner.bytes };
 
     ghost faults = { λ _. 0 };
+
+    fn write(&mut self, piece: &[u8]) -> Put {
+        self.inner.write(piece)
+    }
+}
+
+impl Link for NeverFails<MemoryLink> {
+    ghost told = { λ l. record (told_of l.inner) { faults = 0 } };
+
+    fn read(&mut self, into: &mut [u8]) -> Got {
+        self.inner.read(into)
+    }
 
     fn write(&mut self, piece: &[u8]) -> Put {
         self.inner.write(piece)

@@ -33,7 +33,7 @@ pub fn write_output<K: Sink>(sink: &mut K, text: &[u8]) -> Written
 }
 
 /// What stands behind the first n bytes.
-fn beyond(piece: &[u8], n: usize) -> &[u8]
+pub(crate) fn beyond(piece: &[u8], n: usize) -> &[u8]
     requires { n ≤ length piece.now }
     ensures { result.now ≡ drop n piece.now }
 {

@@ -5,3 +5,5 @@ pub mod Seen
 pub mod Caused
 pub mod Polls
 pub mod Refusals
+mod Replays
+mod Short

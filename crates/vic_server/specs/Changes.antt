@@ -1,7 +1,8 @@
 -- What a request changes, once it was accepted.
-use Rattle.std.specs.Prelude.{◌≡◌, ℕ, ◌+◌, ◌<◌, ◌≤◌, ◌∷◌, length, Some}
+use Rattle.std.specs.Prelude.{◌≡◌, ℕ, ◌+◌, ◌<◌, ◌≤◌, ◌∷◌, length, Some, Bool, true, false}
 use Rattle.vic_wire.specs.declared.message.ToClient.TheVariants as say
 use Rattle.vic_wire.specs.Messages.{HasSpelling, IsSeal}
+use Rattle.vic_bounds.specs.Bounds.{HasShortPart}
 use Rattle.vic_order.specs.declared.Stage.TheVariants as stage
 use Rattle.vic_order.specs.Order.{Server, Answered, set_member, set_stage, size, sealed_count, weight, op_weight, commit_at, with_commit, with_seal}
 use Rattle.vic_server.specs.declared.change.Change.{Change}
@@ -17,6 +18,15 @@ leaves s (change.Commits who position done tag) = set_stage (with_commit s posit
 leaves s (change.Seals seal done) = with_seal s seal
 leaves s (change.Leaves who) = set_stage s who stage.Left
 
+-- whether anything changes
+abbrev pub makes : Change → Bool
+makes change.Nothing = false
+makes (change.Enters client) = true
+makes (change.Orders who row) = true
+makes (change.Commits who position done tag) = true
+makes (change.Seals seal done) = true
+makes (change.Leaves who) = true
+
 abbrev pub IsSeat : Server → ℕ → Type 0
 IsSeat s who = (0 < who) × (who ≤ length s.members)
 
@@ -31,7 +41,7 @@ IsPossible s (change.Leaves who) = IsSeat s who
 
 -- a plan is what the rule says: the server that it leaves, and the answer, which has a spelling
 abbrev pub Follows : Answered → Server → Plan → Type 0
-Follows a s p = (leaves s p.change ≡ a.next) × ((p.answer ≡ a.answer) × (HasSpelling p.answer × IsPossible s p.change))
+Follows a s p = (leaves s p.change ≡ a.next) × ((p.answer ≡ a.answer) × (HasSpelling p.answer × (IsPossible s p.change × ((makes p.change ≡ a.change) × HasShortPart p.answer))))
 
 -- nothing changes, and the client is to wait
 abbrev pub to_wait : Plan

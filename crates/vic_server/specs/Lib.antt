@@ -1,3 +1,4 @@
 pub mod Keeping
 pub mod Changes
 pub mod Causes
+pub mod Replay

@@ -8,6 +8,7 @@
 #![tactic(auto)]
 
 mod change;
+pub mod machine;
 mod requests;
 mod rows;
 pub mod serve;

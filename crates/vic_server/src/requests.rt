@@ -11,13 +11,14 @@ ghost use Rattle.vic_wire.specs.Reading.{read_request};
 ghost use Rattle.vic_rules.specs.Client.{first_failing};
 ghost use Rattle.vic_server.specs.declared.change.Change.TheVariants as change;
 ghost use Rattle.vic_order.specs.Order.{is_ready, is_away, is_open_at, is_inside, is_put, same_mode, is_member, owns_committed, ordered_at, commit_at, size, sealed_count, op_weight, weight, turn, turn_on, set_stage, with_seal, on_request, on_hello, serve_read, serve, top_seal, entries_above};
+ghost use Rattle.vic_bounds.specs.Bounds.{HasShortPart};
 ghost use Rattle.vic_server.specs.Keeping.{IsWithin, IsAllowed, invoke_tests};
 ghost use Rattle.vic_server.specs.Changes.{Follows, IsSeat, IsPossible, leaves, to_wait};
 ghost use Rattle.vic_server.specs.Causes.{Causes};
 
 use crate::change::{Change, Plan};
+use crate::machine::{Machine, op_weight};
 use crate::rows::{Row, Seat};
-use crate::served::{Served, op_weight};
 use std::alloc::Global;
 use vic_dict::{Entry, Mode, NoMemory, Op};
 use vic_frames::decode_request;
@@ -110,7 +111,7 @@ fn only(answer: ToClient) -> Plan
     }
 }
 
-impl Served {
+impl Machine {
     /// Whether this client has come in and not left.
     fn is_member(&self, who: u8) -> bool
         ensures is { result ≡ is_member self.now who }
@@ -165,6 +166,7 @@ impl Served {
     fn turn_with(&self, alloc: Global, who: u8, status: Option<bool>) -> Result<ToClient, NoMemory>
         ensures is { IfOk result (λ a. a ≡ turn_on self.now who (ordered_at self.now (sealed_count self.now + 1)) status) }
         ensures spelled { IfOk result (λ a. HasSpelling a) }
+        ensures short { IfOk result (λ a. HasShortPart a) }
         ensures waits { turn_on self.now who (ordered_at self.now (sealed_count self.now + 1)) status ≡ say.Wait → result ≡ Ok say.Wait }
     {
         let sealed = self.sealed();
@@ -274,6 +276,7 @@ impl Served {
         requires { IsAllowed self.now known row.now.entry.op }
         ensures is { IfOk result (λ a. a ≡ say.Reply (top_seal self.now) (entries_above known (row.now ∷ self.now.log)) (part_for self.now.dictionary row.now.entry.op)) }
         ensures spelled { IfOk result (λ a. HasSpelling a) }
+        ensures short { IfOk result (λ a. HasShortPart a) }
     {
         let seal = self.seal_at(self.sealed());
         let mut entries = self.told(alloc, known, self.length())?;

@@ -4,6 +4,7 @@ ghost use Rattle.std.specs.Prelude.{◌≡◌, IfOk, OnErr};
 ghost use Rattle.vic_order.specs.Serving.{Serving, by_rule};
 
 use crate::change::Plan;
+use crate::machine::Machine;
 use crate::rows::{Commit, Row, SealRow, Seat};
 use crate::served::Served;
 use std::alloc::Global;
@@ -37,9 +38,9 @@ pub trait Serve {
 }
 
 impl Serve for Served {
-    type State = Served;
+    type State = Machine;
 
-    ghost state = { λ s. s };
+    ghost state = { λ s. s.server };
 
     ghost rule = { by_rule };
 
@@ -47,13 +48,13 @@ impl Serve for Served {
     fn serve(
         &mut self,
         alloc: Global,
-        _seat: u32,
+        seat: u32,
         who: u8,
         payload: &[u8],
     ) -> Result<Bytes, NoMemory> {
         let Plan { answer, change } = self.plan(alloc, who, payload)?;
         let bytes = encode_answer(alloc, &answer)?;
-        self.enact(alloc, change)?;
+        self.keep(alloc, seat, who, payload, change)?;
         Ok(bytes)
     }
 

@@ -1,0 +1,5 @@
+//! How long messages are.
+#![tactic(auto)]
+
+/// Nothing.
+pub fn nothing() {}

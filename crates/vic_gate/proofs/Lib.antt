@@ -1,0 +1,4 @@
+pub mod Chains
+pub mod Going
+pub mod Streams
+pub mod Told

@@ -1,0 +1,13 @@
+use Rattle.std.proofs.Common.{◌≡◌, ◌++◌, ℕ, List, ◌<◌, length}
+use Rattle.vic_ports.specs.Causes.{LeavesBehind}
+use Rattle.vic_gate.proofs.worker.next_frame.Given as goal
+
+-- what was read so far stands behind what was fed before; nothing was written, and no call failed
+abbrev pub invariant-loop : goal.invariant-loop
+invariant-loop g l = record {
+  so_far : (read : List ℕ) × (LeavesBehind read (g.L.Link.told l.initial.link).left (g.L.Link.told l.link).left × (l.reader ≡ l.initial.reader ++ read));
+  written : (g.L.Link.told l.link).written ≡ (g.L.Link.told l.initial.link).written;
+  quiet : (g.L.Link.told l.link).faults ≡ (g.L.Link.told l.initial.link).faults;
+  room : 0 < length l.buffer;
+  can : (goal.iterator-loop g).can_next l.iterator' × (goal.iterator-loop g).is_finite l.iterator';
+}

@@ -1,0 +1,3 @@
+pub mod Lones
+pub mod Places
+pub mod Recorded

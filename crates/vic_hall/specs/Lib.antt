@@ -1,0 +1,4 @@
+pub mod Lones
+pub mod Recording
+pub mod Runs
+pub mod Steps

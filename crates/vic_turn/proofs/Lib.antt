@@ -1,0 +1,10 @@
+pub mod Histories
+pub mod Views
+pub mod Tickets
+pub mod Looks
+pub mod Ends
+pub mod Parts
+pub mod Closing
+pub mod Turn
+pub mod Meeting
+pub mod Lists
