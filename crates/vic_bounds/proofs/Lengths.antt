@@ -1,10 +1,9 @@
 -- How long the texts of messages are.
 use Rattle.std.proofs.Common.{◌≡◌, ℕ, ◌+◌, ◌*◌, ◌<◌, ◌≤◌, List, [], ◌∷◌, ◌++◌, length, Bool, true, false, cond, refl, ap, sym, subst, arith}
 use Rattle.std.specs.Prelude.{◌==◌, if◌then◌else◌}
-use Rattle.std.specs.List.{flat_map, sum_by, AllByRecursion}
+use Rattle.std.specs.List.{flat_map, AllByRecursion}
 use Rattle.std.specs.Int.{w16, w32, to_be_bytes}
 use Rattle.std.proofs.lemmas.List.{length-append}
-use Rattle.std.proofs.lemmas.List.Sums.{sum_by-cons}
 use Rattle.vic_dict.specs.declared.op.Op.{Op}
 use Rattle.vic_dict.specs.declared.op.Op.TheVariants as op
 use Rattle.vic_dict.specs.declared.op.Entry.{Entry}
@@ -16,9 +15,6 @@ use Rattle.vic_wire.specs.declared.message.ToServer.TheVariants as ask
 use Rattle.vic_wire.specs.declared.message.ToClient.{ToClient}
 use Rattle.vic_wire.specs.declared.message.ToClient.TheVariants as say
 use Rattle.vic_wire.specs.Texts.{short_text, op_text, entry_text, status_byte}
-use Rattle.vic_wire.specs.Trees.{Pair}
-use Rattle.std.specs.FinMap as map
-use Rattle.vic_wire.specs.Parts.{Part, pair_text, part_text}
 use Rattle.vic_wire.specs.Messages.{IsEntry, IsSeal, IsTagged, HasSpelling, tagged_field, seal_field, entries_field, answer_text, HasRequestSpelling, request_text}
 use Rattle.vic_bounds.specs.Bounds.{HasShortPart}
 
@@ -34,10 +30,6 @@ tagged_short t is = omega (arith, op_short t.entry.op is.entry.op.0, is.tag, len
 entries_short : (ts : List Tagged) → AllByRecursion IsTagged ts → length (flat_map tagged_field ts) ≤ 359 * length ts
 entries_short [] a = omega arith
 entries_short (t ∷ ts) a = omega (arith, tagged_short t a.0, entries_short ts a.1, length-append (tagged_field t) (flat_map tagged_field ts))
-
-pub pairs_short : (ps : List Pair) → length (flat_map pair_text ps) ≤ sum_by (λ p. length p.0 + length p.1 + 16) ps
-pairs_short [] = omega arith
-pairs_short (p ∷ ps) = omega (arith, pairs_short ps, length-append (pair_text p) (flat_map pair_text ps), length-append (short_text p.0) (short_text p.1), sum_by-cons (λ (q : Pair). length q.0 + length q.1 + 16) p ps)
 
 seal_short : (s : Seal) → IsSeal s → length (seal_field s) ≤ 68
 seal_short s is = by_test (s.position == 0)
@@ -72,10 +64,6 @@ answer_some say.Kept = omega arith
 answer_some (say.Content content) = omega arith
 answer_some say.Gone = omega arith
 answer_some say.Absent = omega arith
-
--- the text of a dictionary's pairs
-pub part_short : (d : Part) → length (part_text d) ≤ 5 + sum_by (λ p. length p.0 + length p.1 + 16) (map.entries d)
-part_short d = omega (arith, pairs_short (map.entries d), length-append (to_be_bytes w32 (map.len d)) (flat_map pair_text (map.entries d)))
 
 -- a request, likewise, and none is empty
 pub request_short : (m : ToServer) → HasRequestSpelling m → length (request_text m) ≤ 16777210

@@ -120,8 +120,8 @@ unfolding decision
 aborts me s below base part o u e = ap (λ (x : Option ℕ). decided x (laid s.own base (walked part o)) o) e
 
 pub ends_done : (me : ℕ) (s : Standing) (below : List Entry) (base : ℕ) (part : Part) (o : Op) (own : List Own) (d : Dictionary) (a : Answer)
-    → None ≡ in_the_way me o base below → s.own ≡ own → d ≡ laid own base part → a ≡ reply d o → outcome.Done a ≡ decision me s below base part o
+    → None ≡ in_the_way me o base below → s.own ≡ own → d ≡ laid own base (walked part o) → a ≡ reply d o → outcome.Done a ≡ decision me s below base part o
 unfolding decision
 ends_done me s below base part o own d a e same is h =
-    ap outcome.Done (h ∙ ap (λ (x : Dictionary). reply x o) (is ∙ ap (λ (l : List Own). laid l base part) (sym same)))
+    ap outcome.Done (h ∙ ap (λ (x : Dictionary). reply x o) (is ∙ ap (λ (l : List Own). laid l base (walked part o)) (sym same)))
     ∙ ap (λ (x : Option ℕ). decided x (laid s.own base (walked part o)) o) e

@@ -2,18 +2,28 @@
 use Rattle.std.specs.Prelude.{ℕ, ◌+◌, ◌≤◌, length, Option, Some, None}
 use Rattle.vic_wire.specs.declared.message.ToClient.{ToClient}
 use Rattle.vic_wire.specs.declared.message.ToClient.TheVariants as say
-use Rattle.vic_wire.specs.Parts.{Part, read_part}
+use Rattle.vic_wire.specs.Parts.{Part, IsPart, read_part}
+use Rattle.vic_prune.specs.declared.pruned.Pruned.{Pruned}
+use Rattle.vic_prune.specs.Parts.{part}
 use Rattle.vic_rules.specs.Client.{Standing}
 
 -- what the bytes of its part spell, if it carries bytes that spell one
 abbrev pub part_of : ToClient → Option Part
-part_of (say.Reply seal entries part) = read_part part
-part_of (say.Update seal part) = read_part part
+part_of (say.Reply seal entries bytes) = read_part bytes
+part_of (say.Update seal bytes) = read_part bytes
 part_of m = None
 
 abbrev pub part_in : Option ToClient → Option Part
 part_in None = None
 part_in (Some m) = part_of m
+
+-- what a part in memory stands for, if there is one
+abbrev pub seen : Option Pruned → Option Part
+seen None = None
+seen (Some p) = Some (part p)
+
+abbrev pub IsGrammar : Pruned → Type 0
+IsGrammar p = IsPart (part p)
 
 -- the seal that the answer carries stands at most at the new length, for a path of this length
 abbrev pub IsWithin : ℕ → ToClient → Type 0

@@ -1,10 +1,12 @@
 //! The decision on a call.
 
-ghost use Rattle.std.specs.Prelude.{◌≡◌, ◌+◌, ◌-◌, ◌<◌, ◌≤◌, ℕ, List, Some, length, drop, nat_lt, if◌then◌else◌, IfOk, OnOk};
+ghost use Rattle.std.specs.Prelude.{◌≡◌, ◌+◌, ◌-◌, ◌<◌, ◌≤◌, ℕ, List, Some, length, drop, nat_lt, if◌then◌else◌, IfOk, OnOk, true};
 ghost use Rattle.vic_dict.specs.declared.op.Entry.{Entry as AnEntry};
 ghost use Rattle.vic_dict.specs.Dictionary.{Fits, after};
 ghost use Rattle.vic_dict.specs.Lists.{front, newest};
 ghost use Rattle.vic_wire.specs.Hashes.{Group};
+ghost use Rattle.vic_wire.specs.Parts.{IsPart, reaches, walked};
+ghost use Rattle.vic_prune.specs.Parts.{part as shown};
 ghost use Rattle.vic_chain.specs.Held.{held_length, ShowsPath};
 ghost use Rattle.vic_rules.specs.Client.{Standing, onto, in_the_way, is_in_the_way as in_way, laid, decision, done_op};
 ghost use Rattle.vic_checks.specs.Owns.{IsOwn};
@@ -15,6 +17,7 @@ use std::alloc::Global;
 use vic_chain::Window;
 use vic_commute::conflicts;
 use vic_dict::{Entry, NoMemory, Op, Outcome, PlainDict};
+use vic_prune::Pruned;
 use vic_rules::Own;
 use vic_wire::TaggedList;
 
@@ -90,29 +93,44 @@ fn lay_all(alloc: Global, dict: &mut PlainDict, own: &OwnList, base: u32) -> Res
     Ok(())
 }
 
+// The dictionary of what the operation walks over.
+fn walked_over(alloc: Global, part: &Pruned, op: &Op) -> Result<PlainDict, NoMemory>
+    requires grammar { IsPart (shown part.now) }
+    requires fits { Fits op.now }
+    requires reached { reaches (shown part.now) op.now ≡ true }
+    ensures { IfOk result (λ d. d ≡ walked (shown part.now) op.now) }
+{
+    match part.walked(alloc, op) {
+        Ok(dict) => Ok(dict),
+        Err(_) => Err(NoMemory),
+    }
+}
+
 /// What a client decides of its operation at the position that is the new length, given the entries of the Reply, the
-/// position of its seal and its part. The part is taken, since the client's own calls are done again on it: no copy is made.
-/// It costs what the entries above `base` and the own calls cost, each own call the logarithm or the number of the part's
-/// rows.
+/// position of its seal and its part. What the operation walks over is copied, and the client's own calls are done again on the
+/// copy. It costs what the entries above `base`, the walk and the own calls cost, each own call the logarithm or the number of
+/// the walk's rows.
 pub fn decide(
     alloc: Global,
     state: &State,
     entries: &TaggedList,
     base: u32,
-    part: PlainDict,
+    part: &Pruned,
     op: &Op,
 ) -> Result<Outcome, NoMemory>
     requires fits { Fits op.now }
+    requires grammar { IsPart (shown part.now) }
+    requires reached { reaches (shown part.now) op.now ≡ true }
     requires above { state.now.window.sealed ≤ base }
     requires below { base < held_length state.now.window + length entries.now }
     requires room { held_length state.now.window + length entries.now ≤ 1048576 }
     ensures { (s : Standing) → StandsForState state.now s
-        → IfOk result (λ o. o ≡ decision state.now.id s (below_last s entries.now) base part op.now) }
+        → IfOk result (λ o. o ≡ decision state.now.id s (below_last s entries.now) base (shown part.now) op.now) }
 {
     if let Some(position) = first_in_the_way(state.id, op, &state.window, entries, base) {
         return Ok(Outcome::Aborted(position));
     }
-    let mut laid_over = part;
+    let mut laid_over = walked_over(alloc, part, op)?;
     lay_all(alloc, &mut laid_over, &state.own, base)?;
     Ok(Outcome::Done(laid_over.do_op(alloc, op)?))
 }

@@ -5,14 +5,14 @@ ghost use Rattle.vic_wire.specs.Messages.{HasSpelling};
 ghost use Rattle.vic_rules.specs.Client.{Standing, verdict_on, goes_on as base_holds, keeps_own as own_kept, has_turn as turn, is_next as next, seal_of};
 ghost use Rattle.vic_checks.specs.State.{group_of, StandsForState, failed_at};
 ghost use Rattle.vic_chain.specs.Held.{held_length};
-ghost use Rattle.vic_checks.specs.Parted.{part_of, part_in, IsAbove, IsLow};
-ghost use Rattle.vic_checks.specs.Passing.{IsFormed, HasTurn, IsTurn};
+ghost use Rattle.vic_checks.specs.Parted.{part_of, part_in, seen, IsGrammar, IsAbove, IsLow};
+ghost use Rattle.vic_checks.specs.Passing.{IsFormed, HasTurn, IsTurn, IsShownTo, AwaitsFit};
 
 use crate::form::has_form;
 use crate::members::{has_members, has_tags};
 use crate::seals::{is_proved, is_sealed};
 use crate::state::{OwnList, State, Verdict};
-use vic_dict::PlainDict;
+use vic_prune::Pruned;
 use vic_wire::ToClient;
 
 // Whether the seal isn't older than the highest one.
@@ -63,13 +63,16 @@ fn has_turn(own: &OwnList, message: &ToClient) -> bool
 }
 
 // The verdict on an answer that could be read.
-fn judge_message(state: &State, message: &ToClient, part: Option<&PlainDict>) -> Verdict
+fn judge_message(state: &State, message: &ToClient, part: Option<&Pruned>) -> Verdict
     requires spelled { HasSpelling message.now }
-    requires part { option_copied part ≡ part_of message.now }
+    requires part { seen (option_copied part) ≡ part_of message.now }
+    requires grammar { IfSome (option_copied part) IsGrammar }
+    requires fits { AwaitsFit state.now.awaiting }
     ensures exact { (s : Standing) → StandsForState state.now s → failed_at result ≡ verdict_on (group_of state.now) state.now.id s (Some message.now) }
     ensures formed { result ≡ Verdict.Pass → IsFormed (held_length state.now.window) state.now.awaiting (is_some part.entry) message.now }
     ensures above { result ≡ Verdict.Pass → IsAbove state.now.window.sealed message.now }
     ensures turn { result ≡ Verdict.Pass → IsTurn state.now message.now }
+    ensures shown { result ≡ Verdict.Pass → IsShownTo (seen (option_copied part.entry)) state.now message.now }
 {
     let length = state.window.length();
     let is_part = part.is_some();
@@ -91,7 +94,7 @@ fn judge_message(state: &State, message: &ToClient, part: Option<&PlainDict>) ->
     if !keeps_own(&state.own, message) {
         return Verdict::Halt(6);
     }
-    if !is_proved(message, part) {
+    if !is_proved(part, &state.awaiting, &state.own, message) {
         return Verdict::Halt(7);
     }
     if !has_turn(&state.own, message) {
@@ -103,14 +106,17 @@ fn judge_message(state: &State, message: &ToClient, part: Option<&PlainDict>) ->
 /// The verdict on an answer: `message` is what its bytes spell, if they spell one, and `part` what the bytes of the part that
 /// it carries spell, if they do. It takes no memory. It costs what the answer's entries, its part and the own calls that
 /// aren't sealed cost.
-pub fn judge(state: &State, message: Option<&ToClient>, part: Option<&PlainDict>) -> Verdict
+pub fn judge(state: &State, message: Option<&ToClient>, part: Option<&Pruned>) -> Verdict
     requires spelled { IfSome (option_copied message) HasSpelling }
-    requires part { option_copied part ≡ part_in (option_copied message) }
+    requires part { seen (option_copied part) ≡ part_in (option_copied message) }
+    requires grammar { IfSome (option_copied part) IsGrammar }
+    requires fits { AwaitsFit state.now.awaiting }
     ensures exact { (s : Standing) → StandsForState state.now s → failed_at result ≡ verdict_on (group_of state.now) state.now.id s (option_copied message.entry) }
     // What is known of an answer that passes, by what is kept alone.
     ensures formed { result ≡ Verdict.Pass → IfSome (option_copied message.entry) (IsFormed (held_length state.now.window) state.now.awaiting (is_some part.entry)) }
     ensures above { result ≡ Verdict.Pass → IfSome (option_copied message.entry) (IsAbove state.now.window.sealed) }
     ensures turn { result ≡ Verdict.Pass → IfSome (option_copied message.entry) (IsTurn state.now) }
+    ensures shown { result ≡ Verdict.Pass → IfSome (option_copied message.entry) (IsShownTo (seen (option_copied part.entry)) state.now) }
 {
     match message {
         Some(message) => judge_message(state, message, part),

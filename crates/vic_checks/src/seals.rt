@@ -1,6 +1,6 @@
 //! The seal of an answer: that it holds on the client's path, and that the part has its root.
 
-ghost use Rattle.std.specs.Prelude.{◌≡◌, ◌+◌, ◌<◌, ◌≤◌, ◌||◌, ℕ, List, length, nat_eq, Option, Some, option_copied};
+ghost use Rattle.std.specs.Prelude.{◌≡◌, ◌+◌, ◌<◌, ◌≤◌, ◌||◌, ℕ, List, length, nat_eq, ◌&&◌, not, Option, Some, option_copied, IfSome, IsTrue};
 ghost use Rattle.std.specs.List.{AllByRecursion};
 ghost use Rattle.std.specs.Str.{bytes_eq};
 ghost use Rattle.vic_dict.specs.declared.op.Entry.{Entry as AnEntry};
@@ -9,13 +9,18 @@ ghost use Rattle.vic_wire.specs.Hashes.{Group, chain, tag_of};
 ghost use Rattle.vic_wire.specs.Texts.{seal_text};
 ghost use Rattle.vic_wire.specs.Messages.{HasSpelling, IsTagged};
 ghost use Rattle.vic_chain.specs.Held.{held_length, ShowsPath};
-ghost use Rattle.vic_rules.specs.Client.{Standing, onto, seal_of, entries_of, is_sealed as sealed, is_proved as proved, shows};
-ghost use Rattle.vic_checks.specs.Parted.{part_of, IsWithin, IsAbove};
+ghost use Rattle.vic_rules.specs.Client.{Standing, onto, seal_of, entries_of, is_sealed as sealed, is_proved as proved, shows, shows_walk as walk_shown, shows_open as open_shown, shows_own as own_shown, is_write as writes};
+ghost use Rattle.vic_dict.specs.Dictionary.{Fits};
+ghost use Rattle.vic_checks.specs.Parted.{part_of, seen, IsGrammar, IsWithin, IsAbove};
+ghost use Rattle.vic_checks.specs.Owns.{IsOwn};
+ghost use Rattle.vic_checks.specs.Passing.{AwaitsFit, IsShown};
 
+use crate::state::OwnList;
 use crate::tags::seal_tag;
 use vic_chain::{Window, chain_step};
-use vic_dict::PlainDict;
-use vic_proof::plain_root;
+use vic_dict::Op;
+use vic_prune::Pruned;
+use vic_rules::{Awaiting, Own};
 use vic_tag::GroupKey;
 use vic_tag::key::same_digest;
 use vic_wire::{Digest32, Seal, Tagged, ToClient};
@@ -97,23 +102,80 @@ pub fn is_sealed(key: &GroupKey, window: &Window, message: &ToClient) -> bool
 }
 
 // Whether the part has this root.
-fn has_root(part: Option<&PlainDict>, root: &Digest32) -> bool
-    ensures { result ≡ shows (option_copied part.entry) root.now.bytes }
+fn has_root(found: Option<&Pruned>, root: &Digest32) -> bool
+    requires { IfSome (option_copied found) IsGrammar }
+    ensures { result ≡ shows (seen (option_copied found.entry)) root.now.bytes }
 {
-    match part {
-        Some(part) => same_digest(&plain_root(part), root),
+    match found {
+        Some(part) => same_digest(&part.root(), root),
         None => false,
     }
 }
 
-/// Whether the part, if the answer carries one, has the root of the answer's seal. A whole list of pairs shows every
-/// operation. `part` is what the bytes of the answer's part spell. It costs what the part costs.
-pub fn is_proved(message: &ToClient, part: Option<&PlainDict>) -> bool
-    requires { option_copied part ≡ part_of message.now }
-    ensures { (s : Standing) → result ≡ proved s message.now }
+// Whether the part shows what the operation walks over.
+fn shows_walk(found: Option<&Pruned>, op: &Op) -> bool
+    requires grammar { IfSome (option_copied found) IsGrammar }
+    requires fits { Fits op.now }
+    ensures { result ≡ walk_shown (seen (option_copied found.entry)) op.now }
+{
+    match found {
+        Some(part) => part.reaches(op),
+        None => false,
+    }
+}
+
+// Whether it shows what the open call walks over.
+fn shows_open(found: Option<&Pruned>, awaiting: &Awaiting) -> bool
+    requires grammar { IfSome (option_copied found) IsGrammar }
+    requires fits { AwaitsFit awaiting.now }
+    ensures { result ≡ open_shown (seen (option_copied found.entry)) awaiting.now }
+{
+    match awaiting {
+        Awaiting::Reply(_, op, _) => shows_walk(found, op),
+        _ => true,
+    }
+}
+
+/// Whether an operation may change the dictionary.
+pub fn is_write(op: &Op) -> bool
+    ensures { result ≡ writes op.now }
+{
+    matches!(op, Op::Put(_, _) | Op::Del(_))
+}
+
+// Whether it shows what an own call that is sealed next walks over, where this changes the dictionary.
+fn shows_call(found: Option<&Pruned>, call: &Own) -> bool
+    requires grammar { IfSome (option_copied found) IsGrammar }
+    requires fits { IsOwn call.now }
+    ensures { result ≡ (not (call.now.done && writes call.now.op) || walk_shown (seen (option_copied found.entry)) call.now.op) }
+{
+    !(call.done && is_write(&call.op)) || shows_walk(found, &call.op)
+}
+
+// The same of the oldest own call that isn't sealed.
+fn shows_own(found: Option<&Pruned>, own: &OwnList) -> bool
+    requires { IfSome (option_copied found) IsGrammar }
+    ensures { result ≡ own_shown (seen (option_copied found.entry)) own.now }
+{
+    match own.first() {
+        Some(call) => shows_call(found, call),
+        None => true,
+    }
+}
+
+/// Whether the part, if the answer carries one, has the root of the answer's seal and shows what is walked over: in a Reply by
+/// the open call, in an Update by the call that is sealed next. `found` is what the bytes of the answer's part spell. It costs
+/// what the part costs.
+pub fn is_proved(found: Option<&Pruned>, awaiting: &Awaiting, own: &OwnList, message: &ToClient) -> bool
+    requires part { seen (option_copied found) ≡ part_of message.now }
+    requires grammar { IfSome (option_copied found) IsGrammar }
+    requires fits { AwaitsFit awaiting.now }
+    ensures exact { (s : Standing) → s.own ≡ own.now → s.awaiting ≡ awaiting.now → result ≡ proved s message.now }
+    ensures shown { IsTrue result → IsShown (seen (option_copied found.entry)) awaiting.now own.now message.now }
 {
     match message {
-        ToClient::Reply { seal, .. } | ToClient::Update { seal, .. } => has_root(part, &seal.root),
+        ToClient::Reply { seal, .. } => has_root(found, &seal.root) && shows_open(found, awaiting),
+        ToClient::Update { seal, .. } => has_root(found, &seal.root) && shows_own(found, own),
         _ => true,
     }
 }

@@ -1,6 +1,6 @@
 //! What a client keeps between two answers.
 
-ghost use Rattle.std.specs.Prelude.{◌≡◌, ◌<◌, ◌-◌, ◌↔◌, IsTrue, [], ◌∷◌, ◌++◌, length, take, drop, OnOk, OnErr, slice_get, nat_lt, option_copied};
+ghost use Rattle.std.specs.Prelude.{◌≡◌, ◌<◌, ◌-◌, ◌↔◌, IsTrue, [], ◌∷◌, ◌++◌, length, take, drop, OnOk, OnErr, slice_get, nat_lt, option_copied, IfSome};
 ghost use Rattle.std.specs.List.{list_all};
 ghost use Rattle.vic_checks.specs.Owns.{IsOwn};
 
@@ -65,7 +65,8 @@ impl OwnList {
 
     /// The oldest call.
     pub fn first(&self) -> Option<&Own>
-        ensures { option_copied result ≡ slice_get self.now 0 }
+        ensures item { option_copied result ≡ slice_get self.now 0 }
+        ensures fits { IfSome (option_copied result) IsOwn }
     {
         self.items.get(0)
     }

@@ -5,7 +5,8 @@ use crate::{Awaiting, Own, OwnList, State, Verdict, decide, judge};
 use std::alloc::Global;
 use std::test::Fail;
 use vic_chain::Window;
-use vic_dict::{Answer, Bytes, Entry, Mode, NoMemory, Op, Outcome, PlainDict};
+use vic_prune::Pruned;
+use vic_dict::{Answer, Bytes, Entry, Mode, NoMemory, Op, Outcome};
 use vic_tag::GroupKey;
 use vic_wire::{Digest32, Tagged, TaggedList, ToClient};
 
@@ -97,7 +98,7 @@ fn decisions(rt: HostRuntime) -> Result<(), Fail> {
         &state,
         &list,
         0,
-        PlainDict::new(rt.alloc()),
+        &Pruned::Empty,
         &own,
     )?;
     match &found {
@@ -109,7 +110,7 @@ fn decisions(rt: HostRuntime) -> Result<(), Fail> {
         &state,
         &list,
         0,
-        PlainDict::new(rt.alloc()),
+        &Pruned::Empty,
         &other,
     )?;
     assert!(rt; matches!(&aborted, Outcome::Aborted(1)));

@@ -4,17 +4,8 @@ use Rattle.std.specs.List.{AllByRecursion}
 use Rattle.vic_dict.specs.Dictionary.{Fits}
 use Rattle.vic_rules.specs.declared.state.Own.{Own}
 use Rattle.vic_rules.specs.declared.state.Awaiting.{Awaiting}
-use Rattle.vic_rules.specs.declared.state.Awaiting.TheVariants as awaits
 use Rattle.vic_chain.specs.Held.{Held, held_length}
-
--- the operation that is awaited is within the limits
-abbrev pub AwaitsFit : Awaiting → Type 0
-AwaitsFit (awaits.Reply n o load) = Fits o
-AwaitsFit awaits.Nothing = Unit {0}
-AwaitsFit awaits.Turn = Unit {0}
-AwaitsFit awaits.Entries = Unit {0}
-AwaitsFit awaits.Kept = Unit {0}
-AwaitsFit (awaits.Content h n) = Unit {0}
+use Rattle.vic_checks.specs.Passing.{AwaitsFit}
 
 -- each own call stands on the path
 abbrev pub OwnWithin : ℕ → List Own → Type 0

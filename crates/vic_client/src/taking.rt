@@ -1,13 +1,15 @@
 //! What a client makes of an answer that passed the checks.
 
-ghost use Rattle.std.specs.Prelude.{◌≡◌, ◌+◌, ◌≤◌, ◌<◌, ◌∷◌, [], ◌++◌, List, length, IfOk, OnOk, OnErr};
+ghost use Rattle.std.specs.Prelude.{◌≡◌, ◌+◌, ◌≤◌, ◌<◌, ◌∷◌, [], ◌++◌, List, length, not, ◌&&◌, ◌||◌, true, Some, IfOk, OnOk, OnErr};
 ghost use Rattle.std.specs.List.{AllByRecursion};
 ghost use Rattle.vic_dict.specs.Dictionary.{Fits};
 ghost use Rattle.vic_wire.specs.Hashes.{Group};
+ghost use Rattle.vic_wire.specs.Parts.{IsPart, reaches};
+ghost use Rattle.vic_prune.specs.Parts.{part as shown};
 ghost use Rattle.vic_wire.specs.Messages.{IsTagged};
 ghost use Rattle.vic_chain.specs.Held.{ShowsPath, held_length, cut_to};
 ghost use Rattle.vic_wire.specs.Messages.{request_text};
-ghost use Rattle.vic_rules.specs.Client.{Standing, onto, grown, request_of, Commits, sealed_to, listed_to, new_root, is_write as writes, is_done as done_of};
+ghost use Rattle.vic_rules.specs.Client.{Standing, onto, grown, request_of, Commits, sealed_to, listed_to, new_root, shows_own, is_write as writes, is_done as done_of};
 ghost use Rattle.vic_rules.specs.declared.state.Own.{Own as AnOwn};
 ghost use Rattle.vic_checks.specs.State.{group_of, StandsForState};
 ghost use Rattle.vic_client.specs.Hearing.{IsSoundState, IsPendingIn, Hears, reply_move};
@@ -17,9 +19,10 @@ use crate::sending::{commit_payload, seal_payload};
 use crate::step::Step;
 use std::alloc::Global;
 use vic_chain::Window;
+use vic_checks::seals::is_write;
 use vic_checks::{State, decide};
-use vic_dict::{Bytes, NoMemory, Op, Outcome, PlainDict};
-use vic_proof::plain_root;
+use vic_dict::{Bytes, NoMemory, Op, Outcome};
+use vic_prune::Pruned;
 use vic_rules::Own;
 use vic_wire::{Digest32, Seal, Tagged, TaggedList};
 
@@ -77,11 +80,13 @@ pub(crate) fn take_reply(
     state: &mut State,
     seal: &Seal,
     entries: &TaggedList,
-    part: PlainDict,
+    part: &Pruned,
     op: Op,
 ) -> Result<Pending, NoMemory>
     requires sound { IsSoundState state.old }
     requires fits { Fits op }
+    requires grammar { IsPart (shown part.now) }
+    requires reached { reaches (shown part.now) op ≡ true }
     requires spelled { AllByRecursion IsTagged entries.now }
     requires some { 0 < length entries.now }
     requires above { state.old.window.sealed ≤ seal.now.position }
@@ -89,7 +94,7 @@ pub(crate) fn take_reply(
     requires room { held_length state.old.window + length entries.now ≤ 1048576 }
     ensures sound { IsSoundState state.new }
     ensures pending { IfOk result (λ p. IsPendingIn state.old p.effect state.new) }
-    ensures taken { (s : Standing) → StandsForState state.old s → IfOk result (λ p. Hears state.old p state.new s (reply_move state.old.id s seal.now entries.now part op)) }
+    ensures taken { (s : Standing) → StandsForState state.old s → IfOk result (λ p. Hears state.old p state.new s (reply_move state.old.id s seal.now entries.now (shown part.now) op)) }
     ensures err { OnErr result (state.new ≡ state.old) }
 {
     let outcome = decide(alloc, state, entries, seal.position, part, &op)?;
@@ -114,52 +119,45 @@ pub(crate) fn take_reply(
     }
 }
 
-// Whether an operation may change the dictionary.
-fn is_write(op: &Op) -> bool
-    ensures { result ≡ writes op.now }
-{
-    matches!(op, Op::Put(_, _) | Op::Del(_))
-}
-
 // The root after an own call is sealed, from the seal's part and root.
-fn root_after(
-    alloc: Global,
-    call: &Own,
-    part: PlainDict,
-    root: Digest32,
-) -> Result<Digest32, NoMemory>
-    requires { Fits call.now.op }
-    ensures { IfOk result (λ r. r.bytes ≡ new_root call.now part root.bytes) }
+fn root_after(call: &Own, part: &Pruned, root: Digest32) -> Digest32
+    requires fits { Fits call.now.op }
+    requires grammar { IsPart (shown part.now) }
+    requires reached { (not (call.now.done && writes call.now.op) || reaches (shown part.now) call.now.op) ≡ true }
+    ensures { result.bytes ≡ new_root call.now (shown part.now) root.bytes }
 {
     if call.done && is_write(&call.op) {
-        let mut after = part;
-        let _ = after.do_op(alloc, &call.op)?;
-        return Ok(plain_root(&after));
+        return match part.after(&call.op) {
+            Ok(after) => after,
+            Err(_) => root,
+        };
     }
-    Ok(root)
+    root
 }
 
 /// After an Update that passed the checks: the first own call is to be sealed at the position above the seal, and the Seal to be
-/// sent. The part is taken, since the call is done on it.
+/// sent.
 pub(crate) fn take_update(
     alloc: Global,
     state: &State,
     seal: &Seal,
-    part: PlainDict,
+    part: &Pruned,
 ) -> Result<Pending, NoMemory>
     requires sound { IsSoundState state.now }
     requires some { 0 < length state.now.own }
+    requires grammar { IsPart (shown part.now) }
+    requires reached { shows_own (Some (shown part.now)) state.now.own ≡ true }
     requires above { state.now.window.sealed ≤ seal.now.position }
     requires within { seal.now.position + 1 ≤ held_length state.now.window }
     ensures pending { IfOk result (λ p. IsPendingIn state.now p.effect state.now) }
     ensures taken { (s : Standing) (o : AnOwn) (others : List AnOwn) → StandsForState state.now s → s.own ≡ o ∷ others
-        → IfOk result (λ p. Hears state.now p state.now s (sealed_to s (seal.now.position + 1) (new_root o part seal.now.root.bytes) others)) }
+        → IfOk result (λ p. Hears state.now p state.now s (sealed_to s (seal.now.position + 1) (new_root o (shown part.now) seal.now.root.bytes) others)) }
 {
     let length = state.window.length();
     let within = seal.position < length;
     prove!(within);
     let call = state.own.at(0);
-    let root = root_after(alloc, call, part, seal.root)?;
+    let root = root_after(call, part, seal.root);
     let position = seal.position + 1;
     let sent = seal_payload(alloc, state, position, root)?;
     Ok(Pending {

@@ -22,13 +22,13 @@ type Taken = (&'static [u8], &'static [u8], Ends);
 type Row = (u8, &'static [Taken]);
 
 /// The honest Reply to put `a` = `x`, the first call of client 1, and the client's step: it sends its Commit.
-const R: &[u8] = b"\x42\0\0\0\0\0\x01\x01\0\0\0\x01\x01\x01a\x01x\xf1\0\0\0\0\0";
+const R: &[u8] = b"\x42\0\0\0\0\0\x01\x01\0\0\0\x01\x01\x01a\x01x\xf1\x01\0";
 
 const STORED: Taken = (R, b"\x23\0\0\0\x01\0\xf2", Ends::Stored);
 
 /// An Update with the seal of position 0, and the client's step: it seals its put.
 const SEALED: Taken = (
-    b"\x44\0\0\0\0\0\0\0\0\0",
+    b"\x44\0\0\0\0\x01\0",
     b"\x25\0\0\0\x01\xf4\xf5",
     Ends::Nothing,
 );
@@ -38,7 +38,7 @@ const ROWS: [Row; 10] = [
     (
         1,
         &[(
-            b"\x42\0\0\0\0\0\x01\x01\0\0\0\x01\x01\x01a\x01x\xf1\0\0\0\0",
+            b"\x42\0\0\0\0\0\x01\x01\0\0\0\x01\x01\x01a\x01x\xf1\x01",
             b"",
             Ends::Halted(1),
         )],
@@ -47,7 +47,7 @@ const ROWS: [Row; 10] = [
     (
         1,
         &[(
-            b"\x42\0\0\0\0\0\x01\x02\0\0\0\x01\x01\x01a\x01x\xf1\0\0\0\0\0",
+            b"\x42\0\0\0\0\0\x01\x02\0\0\0\x01\x01\x01a\x01x\xf1\x01\0",
             b"",
             Ends::Halted(2),
         )],
@@ -56,7 +56,7 @@ const ROWS: [Row; 10] = [
     (
         1,
         &[(
-            b"\x42\0\0\0\0\0\x01\x01\0\0\0\x01\x01\x01a\x01x\xf3\0\0\0\0\0",
+            b"\x42\0\0\0\0\0\x01\x01\0\0\0\x01\x01\x01a\x01x\xf3\x01\0",
             b"",
             Ends::Halted(3),
         )],
@@ -65,7 +65,7 @@ const ROWS: [Row; 10] = [
     (
         1,
         &[(
-            b"\x42\0\0\0\0\0\x01\x01\0\0\0\x01\x01\x01a\x01x\xf1\0\0\0\0\x01\x01b\x01y",
+            b"\x42\0\0\0\0\0\x01\x01\0\0\0\x01\x01\x01a\x01x\xf1\x01\x01\x01b\x01y",
             b"",
             Ends::Halted(7),
         )],
@@ -77,7 +77,7 @@ const ROWS: [Row; 10] = [
         &[
             STORED,
             (
-                b"\x44\0\0\0\x01\xf4\xf0\0\0\0\0\x01\x01a\x01x",
+                b"\x44\0\0\0\x01\xf4\xf0\x01\x01\x01a\x01x",
                 b"",
                 Ends::Halted(5),
             ),
@@ -88,7 +88,7 @@ const ROWS: [Row; 10] = [
         &[
             STORED,
             (
-                b"\x44\0\0\0\x01\xf4\xf5\0\0\0\0\x01\x01a\x01x",
+                b"\x44\0\0\0\x01\xf4\xf5\x01\x01\x01a\x01x",
                 b"",
                 Ends::Halted(6),
             ),
@@ -103,7 +103,7 @@ const ROWS: [Row; 10] = [
             SEALED,
             (b"\x43", b"", Ends::Nothing),
             (
-                b"\x42\0\0\0\0\0\x01\x01\0\0\0\x02\x02\x01a\xf6\0\0\0\0\0",
+                b"\x42\0\0\0\0\0\x01\x01\0\0\0\x02\x02\x01a\xf6\x01\0",
                 b"",
                 Ends::Halted(4),
             ),
@@ -114,11 +114,11 @@ const ROWS: [Row; 10] = [
         2,
         &[
             (
-                b"\x42\0\0\0\0\0\x02\x01\0\0\0\x01\x01\x01a\x01x\xf1\x02\0\0\0\x01\x01\x01b\x01y\xf7\0\0\0\0\0",
+                b"\x42\0\0\0\0\0\x02\x01\0\0\0\x01\x01\x01a\x01x\xf1\x02\0\0\0\x01\x01\x01b\x01y\xf7\x01\0",
                 b"\x23\0\0\0\x02\0\xf8",
                 Ends::Stored,
             ),
-            (b"\x44\0\0\0\0\0\0\0\0\0", b"", Ends::Halted(8)),
+            (b"\x44\0\0\0\0\x01\0", b"", Ends::Halted(8)),
         ],
     ),
 ];

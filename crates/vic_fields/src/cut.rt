@@ -1,6 +1,6 @@
 //! Bytes that are read field by field.
 
-ghost use Rattle.std.specs.Prelude.{◌≡◌, OnErr, IsErrOf};
+ghost use Rattle.std.specs.Prelude.{◌≡◌, length, OnErr, IsErrOf};
 ghost use Rattle.std.specs.Int.{w16, w32};
 ghost use Rattle.vic_wire.specs.Reading.{byte_at, number_at, digest_at, bytes_at, op_at, entry_at};
 ghost use Rattle.vic_fields.specs.Giving.{Gives};
@@ -133,6 +133,13 @@ impl<'a> Cut<'a> {
         let (entry, rest) = entry_of(alloc, self.bytes)?;
         self.bytes = rest;
         Ok(entry)
+    }
+
+    /// How many bytes aren't taken yet.
+    pub fn left(&self) -> usize
+        ensures { result ≡ length self.now }
+    {
+        self.bytes.len()
     }
 
     /// The bytes not yet taken.

@@ -107,12 +107,12 @@ const ROWS: [Row; 41] = [
     ),
     // The answer has 54 bytes: behind its last one there is none to change.
     (
-        "clients 1 / call 1 put a x / serve 1 / flip 1 54",
+        "clients 1 / call 1 put a x / serve 1 / flip 1 51",
         "line 4: nothing waiting",
         5,
     ),
     (
-        "clients 1 / call 1 put a x / serve 1 / flip 1 53",
+        "clients 1 / call 1 put a x / serve 1 / flip 1 50",
         "1 halted 1 / view 1 / tags made",
         0,
     ),
@@ -436,7 +436,7 @@ fn forged_script(alloc: Global) -> Result<Bytes, NoMemory> {
     script.append(hex::encode(alloc, other.bytes)?.as_bytes())?;
     script.append(b"01000000010101610178")?;
     script.append(hex::encode(alloc, own.bytes)?.as_bytes())?;
-    script.append(b"0000000000\n")?;
+    script.append(b"0100\n")?;
     Ok(script)
 }
 

@@ -80,9 +80,6 @@ top_is g s k = seal_at-is g s [] k.base (sealed_count s) k.seals (count_is g s k
 pub base_is : (g : Group) (s : Server) (k : ServerKnows g s) (newer below : List Ordered) → s.log ≡ newer ++ below → sealed_count s ≡ length below → k.base ≡ below
 base_is g s k newer below is count = same_end k.over k.base newer below (sym k.is ∙ is) (sym (count_is g s k) ∙ count)
 
-update_part-is : (d : Dictionary) (o : Op) (done : Bool) → update_part d o done ≡ part_text d
-update_part-is d o done = elim (done && is_write o) as (λ b. (if b then part_for d o else bare_part d) ≡ part_text d) [ true ↦ refl | false ↦ refl ]
-
 module _ (g : Group) (me : ℕ) (u : Server) (k : ServerKnows g u) (t : Standing) (seen newer : List Ordered) (log : u.log ≡ newer ++ seen) (awaiting : t.awaiting ≡ awaits.Turn) (calm : Calm me u t newer) where
   turn_by : (o : Option Ordered) (status : Option Bool) → ordered_at u (sealed_count u + 1) ≡ o → commit_at u (sealed_count u + 1) ≡ status → Does g me u t seen newer (Gets (turn_on u me o status))
   turn_by None status at committed = (awaiting, calm)
@@ -107,7 +104,7 @@ module _ (g : Group) (me : ℕ) (u : Server) (k : ServerKnows g u) (t : Standing
               committed = ap (commit_at u) (sym next) ∙ committed;
               calm = calm;
               message = ap (λ x. say.Update x (update_part u.dictionary o.entry.op done)) (top_is g u k ∙ ap (seal_on g) base)
-                  ∙ ap (say.Update (seal_on g below)) (update_part-is u.dictionary o.entry.op done ∙ ap part_text (k.dictionary ∙ ap dictionary_by base));
+                  ∙ ap (λ d. say.Update (seal_on g below) (update_part d o.entry.op done)) (k.dictionary ∙ ap dictionary_by base);
             }
         | false ↦ λ other. (awaiting, calm)
       ] refl

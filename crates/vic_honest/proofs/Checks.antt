@@ -1,6 +1,6 @@
 -- The answers of an honest server pass the eight checks.
 use Rattle.std.proofs.Common.{◌≡◌, ℕ, suc, zero, ◌+◌, ◌-◌, ◌≤◌, Bool, true, false, cond, not, ◌&&◌, List, [], ◌∷◌, ◌++◌, length, Some, None, is_some, refl, sym, ap, subst, ◌∙◌, arith, length-append, append_assoc}
-use Rattle.std.specs.Prelude.{if◌then◌else◌, nat_eq, nat_lt, nat_le}
+use Rattle.std.specs.Prelude.{if◌then◌else◌, nat_eq, nat_lt, nat_le, ◌||◌, not, ◌&&◌}
 use Rattle.std.specs.List.{AllByRecursion, list_all}
 use Rattle.std.specs.Str.{bytes_eq}
 use Rattle.std.specs.FinMap as map
@@ -19,9 +19,11 @@ use Rattle.vic_wire.specs.declared.message.ToClient.TheVariants as say
 use Rattle.vic_wire.specs.Texts.{invoke_text}
 use Rattle.vic_wire.specs.Hashes.{Group, tag_of, empty_root}
 use Rattle.vic_wire.specs.Trees.{tree_of, tree_by, root_of, dictionary_root}
-use Rattle.vic_wire.specs.Parts.{Part, read_part, part_text}
+use Rattle.vic_wire.specs.Cuts.{cut_for}
+use Rattle.vic_wire.specs.Parts.{Part, read_part, part_for, part_root, reaches}
+use Rattle.vic_order.specs.Order.{update_part}
+use Rattle.vic_honest.proofs.SentParts.{IsSent, sent_for, sent_update, for_reaches}
 use Rattle.vic_roots.proofs.Proper.{proper-nothing, proper-after}
-use Rattle.vic_roots.proofs.Again.{part_again}
 use Rattle.vic_rules.specs.declared.state.Own.{Own}
 use Rattle.vic_rules.specs.declared.state.Awaiting.TheVariants as awaits
 use Rattle.vic_rules.specs.Client.{Standing, grown, same_entry, is_awaited, has_form, is_open, is_other, is_reply_to, has_members, is_tagged, has_tags, entries_of, seal_of, goes_on, is_sealed, seal_text_on, keeps_own, shows, shows_open, shows_own, is_proved, is_next, has_turn, first_failing, verdict_on, is_done, is_write}
@@ -75,9 +77,13 @@ len_by (o ∷ below) =
       | false ↦ omega (arith, rest)
     ])
 
--- its part is read again
-pub part_is : (made : List (List ℕ)) (log : List Ordered) → AllByRecursion (EntryFits made) log → length log ≤ 1048576 → read_part (part_text (dictionary_by log)) ≡ Some (dictionary_by log)
-part_is made log h few = part_again (dictionary_by log) (proper_by made log h) (omega (arith, len_by log))
+-- the parts that are cut from its tree
+pub part_is : (made : List (List ℕ)) (log : List Ordered) → AllByRecursion (EntryFits made) log → (o : Op) → IsSent (dictionary_by log) (part_for (dictionary_by log) o) (cut_for (tree_of (dictionary_by log)) o)
+part_is made log h o = sent_for (dictionary_by log) (proper_by made log h) o
+
+pub update_is : (made : List (List ℕ)) (log : List Ordered) → AllByRecursion (EntryFits made) log → (o : Op) (done : Bool)
+    → (part : Part) × IsSent (dictionary_by log) (update_part (dictionary_by log) o done) part × ((not (done && is_write o) || reaches part o) ≡ true)
+update_is made log h o done = sent_update (dictionary_by log) (proper_by made log h) o done
 
 empty_tree : (n : ℕ) → n ≡ 0 → root_of (tree_by n (map.entries nothing)) ≡ empty_root
 unfolding tree_by
@@ -150,11 +156,11 @@ pub grown_told : (t : Standing) (between seen : List Ordered) → t.path ≡ ent
 grown_told t between seen path =
     onto_is (told between) t.path ∙ ap (λ p. p ++ t.path) (newest-told between) ∙ ap (λ p. entries between ++ p) path ∙ sym (entries-joined between seen)
 
-shown : (made : List (List ℕ)) (g : Group) (base : List Ordered) → AllByRecursion (EntryFits made) base → length base ≤ 1048576
-    → shows (read_part (part_text (dictionary_by base))) (seal_on g base).root.bytes ≡ true
+shown : (g : Group) (base : List Ordered) (bytes : List ℕ) (part : Part) → IsSent (dictionary_by base) bytes part
+    → shows (read_part bytes) (seal_on g base).root.bytes ≡ true
 unfolding root_on
-shown made g base fits few =
-    ap (λ p. shows p (seal_on g base).root.bytes) (part_is made base fits few) ∙ (bytes_eq-Decides (dictionary_root (dictionary_by base)) (seal_on g base).root.bytes).1 (sym (seal_on-root g base))
+shown g base bytes part is =
+    ap (λ p. shows p (seal_on g base).root.bytes) is.read ∙ (bytes_eq-Decides (part_root part) (seal_on g base).root.bytes).1 (is.root ∙ sym (seal_on-root g base))
 
 read_some : (part : List ℕ) (d : Part) → read_part part ≡ Some d → is_some (read_part part) ≡ true
 read_some part d e = ap is_some e
@@ -166,17 +172,19 @@ module _ (g : Group) (made : List (List ℕ)) (me : ℕ) (t : Standing) (seen : 
   pub reply_passes : (o : Ordered) (between over base : List Ordered) (number : ℕ) (call : Op) (load : Bool) → between ++ seen ≡ over ++ base → t.awaiting ≡ awaits.Reply number call load
       → o.entry ≡ record { client = me; seq = number; op = call } → AllOn (IsOrdered g) (o ∷ between) → NoneOf me between → o.sealed_then ≡ length base → t.sealed ≤ length base
       → length (o ∷ (between ++ seen)) ≤ o.sealed_then + 1024 → length (o ∷ (between ++ seen)) ≤ 1048576 → AllByRecursion (EntryFits made) base → AllByRecursion (IsAbove (length base)) t.own
-      → verdict_on g me t (Some (say.Reply (seal_on g base) (told (o ∷ between)) (part_text (dictionary_by base)))) ≡ None
+      → verdict_on g me t (Some (say.Reply (seal_on g base) (told (o ∷ between)) (part_for (dictionary_by base) o.entry.op))) ≡ None
   reply_passes o between over base number call load cut awaiting entry ordered none then_is from near few fits own =
       let seal : Seal = seal_on g base in
-      let part : List ℕ = part_text (dictionary_by base) in
+      let part : List ℕ = part_for (dictionary_by base) o.entry.op in
       let ts : List Tagged = told (o ∷ between) in
       let m : ToClient = say.Reply seal ts part in
       let n : ℕ = length t.path + length ts in
       let long : n ≡ length (o ∷ (between ++ seen)) = omega (arith, same_length, length-told (o ∷ between), length-append between seen) in
       let pos : seal.position ≡ length base = seal_on-position g base in
       let within : length base ≤ length (between ++ seen) = omega (arith, ap length cut, length-append over base) in
-      let is_part = part_is made base fits (omega arith) in
+      let is_sent = part_is made base fits o.entry.op in
+      let is_part = is_sent.read in
+      let call_is : o.entry.op ≡ call = ap (λ e. e.op) entry in
       none_fails g me t m
       (and_from (is_awaited t.awaiting m) (is_some (read_part part) && (nat_le n 1048576 && (nat_lt seal.position n && nat_le (n - seal.position) 1024))) (ap (λ a. is_awaited a m) awaiting)
       (and_from (is_some (read_part part)) (nat_le n 1048576 && (nat_lt seal.position n && nat_le (n - seal.position) 1024)) (ap is_some is_part)
@@ -191,20 +199,22 @@ module _ (g : Group) (made : List (List ℕ)) (me : ℕ) (t : Standing) (seen : 
       (le-leb t.sealed seal.position (omega arith))
       (ap (λ p. is_sealed g p (Some seal)) (grown_told t (o ∷ between) seen path ∙ ap (λ l. entries (o ∷ l)) cut) ∙ seal_holds g (o ∷ over) base)
       (own_hold seal.position t.own (subst (λ k. AllByRecursion (IsAbove k) t.own) (sym pos) own))
-      (and_from (shows (read_part part) seal.root.bytes) (shows_open (read_part part) t.awaiting) (shown made g base fits (omega arith))
-      (ap (λ p. shows_open p t.awaiting) is_part ∙ ap (shows_open (Some (dictionary_by base))) awaiting))
+      (and_from (shows (read_part part) seal.root.bytes) (shows_open (read_part part) t.awaiting) (shown g base part (cut_for (tree_of (dictionary_by base)) o.entry.op) is_sent)
+      (ap (λ p. shows_open p t.awaiting) is_part ∙ ap (shows_open (Some (cut_for (tree_of (dictionary_by base)) o.entry.op))) awaiting
+      ∙ ap (reaches (cut_for (tree_of (dictionary_by base)) o.entry.op)) (sym call_is) ∙ for_reaches (dictionary_by base) (proper_by made base fits) o.entry.op))
       refl
 
-  pub update_passes : (above : List Ordered) (o : Ordered) (below : List Ordered) (rest : List Own) → seen ≡ above ++ o ∷ below → t.awaiting ≡ awaits.Turn → t.sealed ≤ length below
+  pub update_passes : (above : List Ordered) (o : Ordered) (below : List Ordered) (rest : List Own) (done : Bool) → done ≡ (own_of o below).done → seen ≡ above ++ o ∷ below → t.awaiting ≡ awaits.Turn → t.sealed ≤ length below
       → length seen ≤ 1048576 → AllByRecursion (EntryFits made) below → AllByRecursion (IsAbove (length below)) t.own → t.own ≡ own_of o below ∷ rest
-      → verdict_on g me t (Some (say.Update (seal_on g below) (part_text (dictionary_by below)))) ≡ None
-  update_passes above o below rest split awaiting from few fits own next =
+      → verdict_on g me t (Some (say.Update (seal_on g below) (update_part (dictionary_by below) o.entry.op done))) ≡ None
+  update_passes above o below rest done status split awaiting from few fits own next =
       let seal : Seal = seal_on g below in
-      let part : List ℕ = part_text (dictionary_by below) in
+      let part : List ℕ = update_part (dictionary_by below) o.entry.op done in
       let m : ToClient = say.Update seal part in
       let pos : seal.position ≡ length below = seal_on-position g below in
       let within : length below ≤ length seen = omega (arith, ap length split, length-append above (o ∷ below)) in
-      let is_part = part_is made below fits (omega arith) in
+      let is_sent = update_is made below fits o.entry.op done in
+      let is_part = is_sent.1.read in
       none_fails g me t m
       (and_from (is_awaited t.awaiting m) (is_some (read_part part) && (nat_le (length t.path) 1048576 && nat_le seal.position (length t.path))) (ap (λ a. is_awaited a m) awaiting)
       (and_from (is_some (read_part part)) (nat_le (length t.path) 1048576 && nat_le seal.position (length t.path)) (ap is_some is_part)
@@ -214,8 +224,8 @@ module _ (g : Group) (made : List (List ℕ)) (me : ℕ) (t : Standing) (seen : 
       (le-leb t.sealed seal.position (omega arith))
       (ap (λ p. is_sealed g p (Some seal)) (path ∙ ap entries (split ∙ sym (append_assoc above (o ∷ []) below))) ∙ seal_holds g (above ++ o ∷ []) below)
       (own_hold seal.position t.own (subst (λ k. AllByRecursion (IsAbove k) t.own) (sym pos) own))
-      (and_from (shows (read_part part) seal.root.bytes) (shows_own (read_part part) t.own) (shown made g below fits (omega arith))
-      (ap (λ p. shows_own p t.own) is_part ∙ ap (shows_own (Some (dictionary_by below))) next ∙ or_right (not ((own_of o below).done && is_write (own_of o below).op)) true refl))
+      (and_from (shows (read_part part) seal.root.bytes) (shows_own (read_part part) t.own) (shown g below part is_sent.0 is_sent.1)
+      (ap (λ p. shows_own p t.own) is_part ∙ ap (shows_own (Some is_sent.0)) next ∙ ap (λ b. not (b && is_write o.entry.op) || reaches is_sent.0 o.entry.op) (sym status) ∙ is_sent.2))
       (ap (is_next (seal.position + 1)) next ∙ eq-eqb (length (o ∷ below)) (seal.position + 1) (omega arith))
 
   pub entries_pass : (between over base : List Ordered) → between ++ seen ≡ over ++ base → t.awaiting ≡ awaits.Entries → AllOn (IsOrdered g) between → NoneOf me between → t.sealed ≤ length base

@@ -10,6 +10,8 @@ use Rattle.vic_dict.specs.declared.op.Outcome.TheVariants as outcome
 use Rattle.vic_dict.specs.Dictionary.{Dictionary, reply, after}
 use Rattle.vic_wire.specs.Conflict.{conflicts}
 use Rattle.vic_commute.proofs.Commuting.{Alike, alike_itself, after_same, other_after, reply_alike}
+use Rattle.vic_wire.specs.Parts.{Part, walked}
+use Rattle.vic_rules.specs.declared.state.Own.{Own}
 use Rattle.vic_rules.specs.Client.{Standing, or_this, least_above, is_in_the_way, in_the_way, done_op, laid, decided, decision, is_done}
 use Rattle.vic_order.specs.Order.{Ordered}
 use Rattle.vic_order.specs.Fates.{entries, fate, dictionary_by}
@@ -75,14 +77,24 @@ same_decided : (w : Option ℕ) (d e : Dictionary) (o : Op) → (w ≡ None → 
 same_decided None d e o same = ap outcome.Done (same refl)
 same_decided (Some u) d e o same = refl
 
+-- calls laid over what is alike leave what is alike
+done_alike : (o x : Op) (d e : Dictionary) (done : Bool) → Alike o d e → Alike o (if done then after d x else d) (if done then after e x else e)
+done_alike o x d e true alike = after_same o x d e alike
+done_alike o x d e false alike = alike
+
+fold_alike : (o : Op) (xs : List Own) (d e : Dictionary) → Alike o d e → Alike o (fold done_op d xs) (fold done_op e xs)
+fold_alike o [] d e alike = alike
+fold_alike o (x ∷ xs) d e alike = fold_alike o xs (done_op d x) (done_op e x) (done_alike o x.op d e x.done alike)
+
 -- a client that lays its own calls above the base on the base's dictionary decides as the log does
-pub decides : (me : ℕ) (t : Standing) (x : Ordered) (over base : List Ordered) → x.entry.client ≡ me → x.sealed_then ≡ length base
+pub decides : (me : ℕ) (t : Standing) (x : Ordered) (over base : List Ordered) (part : Part) → Alike x.entry.op (walked part x.entry.op) (dictionary_by base) → x.entry.client ≡ me → x.sealed_then ≡ length base
     → filter (above (length base)) t.own ≡ owns me (length base) (over ++ base)
-    → decision me t (entries (over ++ base)) (length base) (dictionary_by base) x.entry.op ≡ fate x (over ++ base)
+    → decision me t (entries (over ++ base)) (length base) part x.entry.op ≡ fate x (over ++ base)
 unfolding decision fate
-decides me t x over base client at_base own =
-    same_decided (in_the_way me x.entry.op (length base) (entries (over ++ base))) (laid t.own (length base) (dictionary_by base)) (dictionary_by (over ++ base)) x.entry.op
-    (λ free. reply_alike x.entry.op (laid t.own (length base) (dictionary_by base)) (dictionary_by (over ++ base))
-    (subst (λ xs. Alike x.entry.op (fold done_op (dictionary_by base) xs) (dictionary_by (over ++ base))) (sym own) (walk me x.entry.op over base free)))
+decides me t x over base part shows client at_base own =
+    same_decided (in_the_way me x.entry.op (length base) (entries (over ++ base))) (laid t.own (length base) (walked part x.entry.op)) (dictionary_by (over ++ base)) x.entry.op
+    (λ free. reply_alike x.entry.op (laid t.own (length base) (walked part x.entry.op)) (dictionary_by (over ++ base))
+    (λ k looks. fold_alike x.entry.op (filter (above (length base)) t.own) (walked part x.entry.op) (dictionary_by base) shows k looks
+    ∙ subst (λ xs. Alike x.entry.op (fold done_op (dictionary_by base) xs) (dictionary_by (over ++ base))) (sym own) (walk me x.entry.op over base free) k looks))
     ∙ ap (λ i. decided (in_the_way i x.entry.op (length base) (entries (over ++ base))) (dictionary_by (over ++ base)) x.entry.op) (sym client)
     ∙ ap (λ n. decided (in_the_way x.entry.client x.entry.op n (entries (over ++ base))) (dictionary_by (over ++ base)) x.entry.op) (sym at_base)

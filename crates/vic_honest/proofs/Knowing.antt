@@ -8,11 +8,11 @@ use Rattle.vic_wire.specs.declared.message.ToClient.TheVariants as say
 use Rattle.vic_wire.specs.Texts.{invoke_text}
 use Rattle.vic_wire.specs.Hashes.{Group, tag_of}
 use Rattle.vic_wire.specs.Messages.{HasSpelling}
-use Rattle.vic_wire.specs.Parts.{part_text}
+use Rattle.vic_wire.specs.Parts.{part_for}
 use Rattle.vic_rules.specs.declared.state.Awaiting.TheVariants as awaits
 use Rattle.vic_rules.specs.Client.{Standing, Invokes, Commits, Polls, Seals, Syncs, is_done}
 use Rattle.vic_order.specs.declared.Stage.TheVariants as stage
-use Rattle.vic_order.specs.Order.{Ordered, Server, size, sealed_count, commit_at, member}
+use Rattle.vic_order.specs.Order.{Ordered, Server, size, sealed_count, commit_at, member, update_part}
 use Rattle.vic_order.specs.Fates.{entries, fate, dictionary_by}
 use Rattle.vic_honest.proofs.Words.{told}
 use Rattle.vic_honest.proofs.Standing.{Doing, Rests, Sends, Gets, up_by, down_by}
@@ -121,7 +121,7 @@ pub record ReplyComes (g : Group) (me : ℕ) (s : Server) (t : Standing) (seen n
   pub upto : length base ≤ sealed_count s
   pub higher : sealed_count s < length (o ∷ (between ++ seen))
   pub stage : (member s me).stage ≡ stage.Open (length (o ∷ (between ++ seen)))
-  pub message : m ≡ say.Reply (seal_on g base) (told (o ∷ between)) (part_text (dictionary_by base))
+  pub message : m ≡ say.Reply (seal_on g base) (told (o ∷ between)) (part_for (dictionary_by base) o.entry.op)
 
 -- the turn: only this client can seal next, so the sealed count stays while the Update is under way
 pub record UpdateComes (g : Group) (me : ℕ) (s : Server) (t : Standing) (seen newer : List Ordered) (m : ToClient) : Type 0 where
@@ -135,7 +135,7 @@ pub record UpdateComes (g : Group) (me : ℕ) (s : Server) (t : Standing) (seen 
   pub count : sealed_count s ≡ length below
   pub committed : commit_at s (length (o ∷ below)) ≡ Some done
   pub calm : Calm me s t newer
-  pub message : m ≡ say.Update (seal_on g below) (part_text (dictionary_by below))
+  pub message : m ≡ say.Update (seal_on g below) (update_part (dictionary_by below) o.entry.op done)
 
 -- the answer to a Sync
 pub record EntriesCome (g : Group) (me : ℕ) (s : Server) (t : Standing) (seen newer : List Ordered) (m : ToClient) : Type 0 where

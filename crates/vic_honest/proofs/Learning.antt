@@ -1,6 +1,6 @@
 -- A client takes an answer of an honest server: it goes on, and what it returns is what the log makes of its call.
 use Rattle.std.proofs.Common.{◌≡◌, ℕ, suc, ◌+◌, ◌<◌, ◌≤◌, Bool, true, false, ◌&&◌, List, [], ◌∷◌, ◌++◌, length, Option, Some, None, refl, sym, ap, subst, ◌∙◌, arith, length-append, append_assoc}
-use Rattle.std.specs.Prelude.{if◌then◌else◌, nat_eq}
+use Rattle.std.specs.Prelude.{if◌then◌else◌, nat_eq, not, ◌||◌, ◌&&◌}
 use Rattle.std.specs.List.{AllByRecursion, filter}
 use Rattle.std.proofs.lemmas.Bool.{eq-eqb}
 use Rattle.vic_dict.specs.declared.op.Op.{Op}
@@ -13,8 +13,16 @@ use Rattle.vic_wire.specs.declared.message.Seal.{Seal}
 use Rattle.vic_wire.specs.declared.message.ToClient.{ToClient}
 use Rattle.vic_wire.specs.declared.message.ToClient.TheVariants as say
 use Rattle.vic_wire.specs.Hashes.{Group}
-use Rattle.vic_wire.specs.Trees.{dictionary_root}
-use Rattle.vic_wire.specs.Parts.{Part, read_part, part_text, root_after}
+use Rattle.vic_wire.specs.Trees.{dictionary_root, tree_of}
+use Rattle.vic_wire.specs.Cuts.{IsCut, cut_for}
+use Rattle.vic_wire.specs.Parts.{Part, read_part, part_for, reaches, root_after}
+use Rattle.vic_wire.specs.Messages.{IsEntry}
+use Rattle.vic_dict.specs.Dictionary.{IsProper, AreBytesIn}
+use Rattle.vic_order.specs.Order.{update_part}
+use Rattle.vic_roots.proofs.Proper.{byte_keys-proper}
+use Rattle.vic_tree.proofs.Alike.{byte_entries, byte_words, alike as alike_on_cut}
+use Rattle.vic_tree.proofs.Reached.{root-after}
+use Rattle.vic_honest.proofs.SentParts.{for_reaches}
 use Rattle.vic_wire.specs.Reading.{read_answer}
 use Rattle.vic_rules.specs.declared.state.Own.{Own}
 use Rattle.vic_rules.specs.declared.state.Awaiting.{Awaiting}
@@ -31,7 +39,7 @@ use Rattle.vic_honest.proofs.Standing.{EntryFits, Rests, Sends, Gets}
 use Rattle.vic_honest.proofs.Owns.{AllOn, AllOn-second, NoneOf, NoneOf-first, NoneOf-second, root_on, seal_on, seal_on-position, owns, own_of, owns-mine, owns-others, owns-filter, owns-higher, owns-next, owns-above, above, IsAbove}
 use Rattle.vic_honest.proofs.Deciding.{dictionary-next, decides}
 use Rattle.vic_honest.proofs.Knowing.{IsOrdered, ServerKnows, Keeps, Calm, ReplyComes, UpdateComes, EntriesCome, RefusalComes, Does, ClientKnows}
-use Rattle.vic_honest.proofs.Checks.{part_is, seal_on-root, grown_told, reply_passes, update_passes, entries_pass, wait_passes, refusal_passes}
+use Rattle.vic_honest.proofs.Checks.{part_is, update_is, proper_by, seal_on-root, grown_told, reply_passes, update_passes, entries_pass, wait_passes, refusal_passes}
 
 -- ---- what is shown of a move
 
@@ -110,18 +118,19 @@ update_moves : (t : Standing) (seal : Seal) (found : Option Part) (part : Part) 
 update_moves t seal found part first rest position root e1 e2 e3 e4 =
     ap (λ f. updated t seal f t.own) e1 ∙ ap (updated t seal (Some part)) e2 ∙ ap (λ k. sealed_to t k (new_root first part seal.root.bytes) rest) e3 ∙ ap (λ r. sealed_to t position r rest) e4
 
-root_chosen : (done : Bool) (o : Op) (d : Dictionary) → (if done && is_write o then root_after d o else dictionary_root d) ≡ dictionary_root (if done then after d o else d)
-root_chosen true (op.Put k v) d = refl
-root_chosen true (op.Get k) d = refl
-root_chosen true (op.Del k) d = refl
-root_chosen true (op.List p) d = refl
-root_chosen false o d = refl
+root_chosen : (done : Bool) (o : Op) (d : Dictionary) (part : Part) → IsProper d → AreBytesIn o → IsCut part (tree_of d) → (not (done && is_write o) || reaches part o) ≡ true → (if done && is_write o then root_after part o else dictionary_root d) ≡ dictionary_root (if done then after d o else d)
+root_chosen true (op.Put k v) d part proper bytes cut shown = root-after d (byte_entries d (byte_keys-proper d proper)) part cut (op.Put k v) (byte_words (op.Put k v) bytes) shown
+root_chosen true (op.Get k) d part proper bytes cut shown = refl
+root_chosen true (op.Del k) d part proper bytes cut shown = root-after d (byte_entries d (byte_keys-proper d proper)) part cut (op.Del k) (byte_words (op.Del k) bytes) shown
+root_chosen true (op.List p) d part proper bytes cut shown = refl
+root_chosen false o d part proper bytes cut shown = refl
 
 -- the root that a client computes is that of the log
-new_root-is : (g : Group) (o : Ordered) (below : List Ordered) → new_root (own_of o below) (dictionary_by below) (seal_on g below).root.bytes ≡ root_on (o ∷ below)
+new_root-is : (g : Group) (o : Ordered) (below : List Ordered) (part : Part) → IsProper (dictionary_by below) → AreBytesIn o.entry.op → IsCut part (tree_of (dictionary_by below)) → (not ((own_of o below).done && is_write o.entry.op) || reaches part o.entry.op) ≡ true
+    → new_root (own_of o below) part (seal_on g below).root.bytes ≡ root_on (o ∷ below)
 unfolding root_on
-new_root-is g o below =
-    ap (λ r. new_root (own_of o below) (dictionary_by below) r) (seal_on-root g below) ∙ root_chosen (is_done (fate o below)) o.entry.op (dictionary_by below) ∙ ap dictionary_root (sym (dictionary-next o below))
+new_root-is g o below part proper bytes cut shown =
+    ap (λ r. new_root (own_of o below) part r) (seal_on-root g below) ∙ root_chosen (is_done (fate o below)) o.entry.op (dictionary_by below) part proper bytes cut shown ∙ ap dictionary_root (sym (dictionary-next o below))
 
 -- ---- the answers
 
@@ -186,7 +195,8 @@ module _ (g : Group) (made : List (List ℕ)) (s : Server) (k : ServerKnows g s)
         let o : Ordered = c.o in
         let base : List Ordered = c.base in
         let below : List Ordered = c.between ++ seen in
-        let message : ToClient = say.Reply (seal_on g base) (told (o ∷ c.between)) (part_text (dictionary_by base)) in
+        let message : ToClient = say.Reply (seal_on g base) (told (o ∷ c.between)) (part_for (dictionary_by base) o.entry.op) in
+        let part : Part = cut_for (tree_of (dictionary_by base)) o.entry.op in
         let log_is : s.log ≡ c.later ++ o ∷ below = keeps.log ∙ ap (λ n. n ++ seen) c.split ∙ append_assoc c.later (o ∷ c.between) seen in
         let base_log : s.log ≡ (c.later ++ o ∷ c.over) ++ base = log_is ∙ ap (λ l. c.later ++ o ∷ l) c.cut ∙ sym (append_assoc c.later (o ∷ c.over) base) in
         let ordered : AllOn (IsOrdered g) (o ∷ below) = ordered_at c.later (o ∷ below) log_is in
@@ -198,14 +208,17 @@ module _ (g : Group) (made : List (List ℕ)) (s : Server) (k : ServerKnows g s)
         let mine : nat_eq o.entry.client me ≡ true = eq-eqb o.entry.client me client in
         let passes = reply_passes g made me t seen keeps.path o c.between c.over base c.number c.op c.load c.cut c.awaiting c.entry (all_on_first (o ∷ c.between) seen ordered) c.others c.sealed_then c.from
         ordered.0.near few base_fits (own_above (length base) c.upto) in
-        let ends : decision me t (entries below) (length base) (dictionary_by base) o.entry.op ≡ fate o below =
-        ap (λ l. decision me t (entries l) (length base) (dictionary_by base) o.entry.op) c.cut
-        ∙ decides me t o c.over base client c.sealed_then (own_over base c.between le c.others ∙ ap (owns me (length base)) c.cut)
+        let proper = proper_by made base base_fits in
+        let spelled : IsEntry o.entry = (fits_at c.later (o ∷ below) log_is).0.spelled in
+        let shows = alike_on_cut (dictionary_by base) (byte_keys-proper (dictionary_by base) proper) part (part_is made base base_fits o.entry.op).cut o.entry.op spelled.op.1 (for_reaches (dictionary_by base) proper o.entry.op) in
+        let ends : decision me t (entries below) (length base) part o.entry.op ≡ fate o below =
+        ap (λ l. decision me t (entries l) (length base) part o.entry.op) c.cut
+        ∙ decides me t o c.over base part shows client c.sealed_then (own_over base c.between le c.others ∙ ap (owns me (length base)) c.cut)
         ∙ ap (fate o) (sym c.cut) in
         let moved : taken me t message ≡ reply_move t o.entry (entries below) (length (o ∷ below)) (length base) (root_on base) o.entry.op (fate o below) =
-        reply_moves me t (seal_on g base) (grown t (told (o ∷ c.between))) (entries below) o.entry (read_part (part_text (dictionary_by base))) (dictionary_by base) t.awaiting c.number c.op c.load
+        reply_moves me t (seal_on g base) (grown t (told (o ∷ c.between))) (entries below) o.entry (read_part (part_for (dictionary_by base) o.entry.op)) part t.awaiting c.number c.op c.load
         (length (o ∷ below)) (length base) (root_on base) o.entry.op (fate o below)
-        (grown_told t (o ∷ c.between) seen keeps.path) (part_is made base base_fits few_base) c.awaiting (ap suc (length-entries below)) (seal_on-position g base) (seal_on-root g base) (sym (ap (λ e. e.op) c.entry)) ends in
+        (grown_told t (o ∷ c.between) seen keeps.path) (part_is made base base_fits o.entry.op).read c.awaiting (ap suc (length-entries below)) (seal_on-position g base) (seal_on-root g base) (sym (ap (λ e. e.op) c.entry)) ends in
         let own : List Own = t.own ++ own_of o below ∷ [] in
         let next : Standing = record t { path = entries (o ∷ below); sealed = length base; root = root_on base; awaiting = awaits.Turn; own = own } in
         let higher : length base < length (o ∷ below) = omega (arith, ap length c.cut, length-append c.over base) in
@@ -242,7 +255,7 @@ module _ (g : Group) (made : List (List ℕ)) (s : Server) (k : ServerKnows g s)
     update_learnt m read c =
         let o : Ordered = c.o in
         let below : List Ordered = c.below in
-        let message : ToClient = say.Update (seal_on g below) (part_text (dictionary_by below)) in
+        let message : ToClient = say.Update (seal_on g below) (update_part (dictionary_by below) o.entry.op c.done) in
         let rest : List Own = owns me (length (o ∷ below)) seen in
         let in_log : s.log ≡ ((newer ++ c.above) ++ o ∷ []) ++ below = keeps.log ∙ ap (λ l. newer ++ l) c.split ∙ sym (append_assoc newer c.above (o ∷ below)) ∙ sym (append_assoc (newer ++ c.above) (o ∷ []) below) in
         let below_fits : AllByRecursion (EntryFits made) below = fits_at ((newer ++ c.above) ++ o ∷ []) below in_log in
@@ -251,10 +264,14 @@ module _ (g : Group) (made : List (List ℕ)) (s : Server) (k : ServerKnows g s)
         let few : length below ≤ 1048576 = omega (arith, few_seen, ap length c.split, length-append c.above (o ∷ below)) in
         let own : t.own ≡ own_of o below ∷ rest =
         own_is below [] le (omega (arith, c.count)) tt ∙ ap (owns me (length below)) c.split ∙ owns-next me (length below) c.above o below c.mine refl ∙ ap (λ l. own_of o below ∷ owns me (length (o ∷ below)) l) (sym c.split) in
-        let passes = update_passes g made me t seen keeps.path c.above o below rest c.split c.awaiting (omega (arith, keeps.sealed)) few_seen below_fits (own_above (length below) (omega (arith, c.count))) own in
+        let status : c.done ≡ is_done (fate o below) = k.fates (newer ++ c.above) o below c.done (keeps.log ∙ ap (λ l. newer ++ l) c.split ∙ sym (append_assoc newer c.above (o ∷ below))) c.committed in
+        let sent = update_is made below below_fits o.entry.op c.done in
+        let spelled : IsEntry o.entry = (fits_at (newer ++ c.above) (o ∷ below) (keeps.log ∙ ap (λ l. newer ++ l) c.split ∙ sym (append_assoc newer c.above (o ∷ below)))).0.spelled in
+        let passes = update_passes g made me t seen keeps.path c.above o below rest c.done status c.split c.awaiting (omega (arith, keeps.sealed)) few_seen below_fits (own_above (length below) (omega (arith, c.count))) own in
         let moved : taken me t message ≡ sealed_to t (length (o ∷ below)) (root_on (o ∷ below)) rest =
-        update_moves t (seal_on g below) (read_part (part_text (dictionary_by below))) (dictionary_by below) (own_of o below) rest (length (o ∷ below)) (root_on (o ∷ below))
-        (part_is made below below_fits few) own (omega (arith, seal_on-position g below)) (new_root-is g o below) in
+        update_moves t (seal_on g below) (read_part (update_part (dictionary_by below) o.entry.op c.done)) sent.0 (own_of o below) rest (length (o ∷ below)) (root_on (o ∷ below))
+        sent.1.read own (omega (arith, seal_on-position g below))
+        (new_root-is g o below sent.0 (proper_by made below below_fits) spelled.op.1 sent.1.cut (ap (λ b. not (b && is_write o.entry.op) || reaches sent.0 o.entry.op) (sym status) ∙ sent.2)) in
         let next : Standing = record t { sealed = length (o ∷ below); root = root_on (o ∷ below); own = rest; awaiting = awaits.Turn } in
         let next_keeps : Keeps me s next seen newer = record {
           over = c.above;

@@ -1,3 +1,4 @@
+pub mod SentParts
 pub mod Words
 pub mod Standing
 pub mod Spoken

@@ -376,7 +376,7 @@ module _ (g : Group) (s : Server) (k : ServerKnows g s) (me : ℕ) (above : 0 < 
           higher = omega (arith, count, length-base, ap length keeps.log);
           stage = ap (λ m. m.stage) member_is ∙ ap stage.Open (omega (arith, ap length keeps.log));
           message = ap (λ y. say.Reply y (entries_above (length t.path) (x ∷ s.log)) (part_for s.dictionary o)) (top_is g s k)
-              ∙ ap (λ ts. say.Reply (seal_on g k.base) ts (part_text s.dictionary)) told_is ∙ ap (λ d. say.Reply (seal_on g k.base) (told (x ∷ newer)) (part_text d)) k.dictionary;
+              ∙ ap (λ ts. say.Reply (seal_on g k.base) ts (part_for s.dictionary o)) told_is ∙ ap (λ d. say.Reply (seal_on g k.base) (told (x ∷ newer)) (part_for d o)) k.dictionary;
         };
         others = λ j higher apart. record {
           new = x ∷ [];

@@ -16,14 +16,14 @@ use Rattle.vic_wire.specs.declared.message.ToClient.TheVariants as say
 use Rattle.vic_wire.specs.Texts.{invoke_text, seal_text}
 use Rattle.vic_wire.specs.Hashes.{Group, IsGroup, chain, tag_of}
 use Rattle.vic_wire.specs.Messages.{IsEntry, IsTagged, HasSpelling, request_text, answer_text, seal_field, entries_field}
-use Rattle.vic_wire.specs.Parts.{part_text, part_for, bare_part}
+use Rattle.vic_wire.specs.Parts.{part_for, bare_part}
 use Rattle.vic_rules.specs.Client.{Standing, Sending, Invokes, Commits, Polls, Seals, Syncs, request_of, seal_of, entries_of, seal_text_on, commit_text_on, digest, tag_for, first_failing, is_write}
 use Rattle.vic_spellings.proofs.Bytes.{bytes-cons, bytes-append, bytes-replicate, bytes-sha256}
 use Rattle.vic_spellings.proofs.Steps.{bytes-nil}
 use Rattle.vic_spellings.proofs.Seals.{first_is_seal}
 use Rattle.vic_spellings.proofs.SpelledRequests.{request_again}
 use Rattle.vic_roots.proofs.Proper.{proper-after}
-use Rattle.vic_roots.proofs.Again.{part-bytes}
+use Rattle.vic_honest.proofs.SentParts.{IsSent, sent_for, sent_update}
 use Rattle.vic_laws.proofs.Words.{all_weaker, all_append, in_either}
 use Rattle.vic_order.specs.declared.Stage.TheVariants as stage
 use Rattle.vic_order.specs.Order.{Ordered, Server, Answered, says, becomes, guarded, unless_refused, size, sealed_count, no_seal, seal_at_position, top_seal, ordered_at, commit_at, member, set_stage, is_ready, is_open_at, is_put, is_member, op_weight, weight, tagged, entries_above, turn, turn_on, update_part, with_commit, with_seal, owns_committed, applied_to, ordered_next, on_request, serve_read, serve}
@@ -129,29 +129,29 @@ module _ (g : Group) (made : List (List ℕ)) (log seen newer : List Ordered) wh
     seal = subst (OfSeal (SealFits g made log)) (sym no_seal_here) tt;
   }
 
-  update_comes : (x : Seal) (d : Dictionary) → SealFits g made log x → IsProper d → AnswerComes g made log seen newer (say.Update x (part_text d))
-  update_comes x d fits proper = record {
+  update_comes : (x : Seal) (part : List ℕ) → SealFits g made log x → AreBytes part → AnswerComes g made log seen newer (say.Update x part)
+  update_comes x part fits part_bytes = record {
     later = newer;
     between = [];
     split = sym (append-nil newer);
     listed = refl;
     spelled = fits.spelled;
-    bytes = bytes-append (0x44 ∷ seal_field x) (part_text d) (bytes-cons 0x44 (seal_field x) (omega arith) (seal_bytes x fits.root_bytes fits.tag_bytes)) (part-bytes d proper);
+    bytes = bytes-append (0x44 ∷ seal_field x) part (bytes-cons 0x44 (seal_field x) (omega arith) (seal_bytes x fits.root_bytes fits.tag_bytes)) part_bytes;
     texts = λ text i. absurd i;
     seal = fits;
   }
 
-  reply_comes : (later between : List Ordered) (x : Seal) (d : Dictionary) → newer ≡ later ++ between → SealFits g made log x → IsProper d → AllByRecursion (EntryFits made) between
-      → 0 < length between → length between ≤ 8192 → AnswerComes g made log seen newer (say.Reply x (told between) (part_text d))
-  reply_comes later between x d split fits proper all some few = record {
+  reply_comes : (later between : List Ordered) (x : Seal) (part : List ℕ) → newer ≡ later ++ between → SealFits g made log x → AreBytes part → AllByRecursion (EntryFits made) between
+      → 0 < length between → length between ≤ 8192 → AnswerComes g made log seen newer (say.Reply x (told between) part)
+  reply_comes later between x part split fits part_bytes all some few = record {
     later = later;
     between = between;
     split = split;
     listed = refl;
     spelled = (fits.spelled, (omega (arith, length-told between), (omega (arith, length-told between), tagged_told made between all)));
-    bytes = bytes-append (0x42 ∷ seal_field x ++ entries_field (told between)) (part_text d)
+    bytes = bytes-append (0x42 ∷ seal_field x ++ entries_field (told between)) part
         (bytes-append (0x42 ∷ seal_field x) (entries_field (told between)) (bytes-cons 0x42 (seal_field x) (omega arith) (seal_bytes x fits.root_bytes fits.tag_bytes)) (entries_bytes (told between) (bytes_told made between all)))
-        (part-bytes d proper);
+        part_bytes;
     texts = made_told made between all;
     seal = fits;
   }
@@ -189,10 +189,8 @@ turn_on_comes g made s who seen newer None status stands = plain_comes g made s.
 turn_on_comes g made s who seen newer (Some o) None stands = plain_comes g made s.log seen newer say.Wait refl refl tt (bytes-cons 0x43 [] (omega arith) bytes-nil)
 turn_on_comes g made s who seen newer (Some o) (Some done) stands =
     elim (nat_eq o.entry.client who) as (λ b. AnswerComes g made s.log seen newer (if b then say.Update (top_seal s) (update_part s.dictionary o.entry.op done) else say.Wait)) [
-      | true ↦ elim (done && is_write o.entry.op) as (λ b. AnswerComes g made s.log seen newer (say.Update (top_seal s) (if b then part_for s.dictionary o.entry.op else bare_part s.dictionary))) [
-        | true ↦ update_comes g made s.log seen newer (top_seal s) s.dictionary (seal_fits g made s (sealed_count s) stands) stands.dictionary
-        | false ↦ update_comes g made s.log seen newer (top_seal s) s.dictionary (seal_fits g made s (sealed_count s) stands) stands.dictionary
-      ]
+      | true ↦ update_comes g made s.log seen newer (top_seal s) (update_part s.dictionary o.entry.op done) (seal_fits g made s (sealed_count s) stands)
+          (sent_update s.dictionary stands.dictionary o.entry.op done).1.are_bytes
       | false ↦ plain_comes g made s.log seen newer say.Wait refl refl tt (bytes-cons 0x43 [] (omega arith) bytes-nil)
     ]
 
@@ -274,9 +272,9 @@ module _ (g : Group) (group : IsGroup g) (made : List (List ℕ)) (s : Server) (
           dictionary = stands.dictionary;
           room = grown_room (length s.log) stands.room full;
         };
-        answer = subst (λ ts. AnswerComes g made (x ∷ s.log) seen (x ∷ newer) (say.Reply (top_seal s) ts (part_text s.dictionary))) (sym told_is)
-            (reply_comes g made (x ∷ s.log) seen (x ∷ newer) [] (x ∷ newer) (top_seal s) s.dictionary refl
-            (seal-grows g made (x ∷ []) s.log (top_seal s) (seal_fits g made s (sealed_count s) stands)) stands.dictionary (new_fits, all_newer)
+        answer = subst (λ ts. AnswerComes g made (x ∷ s.log) seen (x ∷ newer) (say.Reply (top_seal s) ts (part_for s.dictionary o))) (sym told_is)
+            (reply_comes g made (x ∷ s.log) seen (x ∷ newer) [] (x ∷ newer) (top_seal s) (part_for s.dictionary o) refl
+            (seal-grows g made (x ∷ []) s.log (top_seal s) (seal_fits g made s (sealed_count s) stands)) (sent_for s.dictionary stands.dictionary o).are_bytes (new_fits, all_newer)
             (omega arith) (few_new (length s.log) (length newer) (length seen) (length t.path) length-log length-path few));
       })
     where

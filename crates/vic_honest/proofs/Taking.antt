@@ -32,6 +32,9 @@ use Rattle.vic_laws.proofs.Words.{all_weaker, all_append, in_either, in_left}
 use Rattle.vic_laws.proofs.Steps.{Kind, Quiet, Replied, Updated, Listed, call_of, is_quiet, is_called, is_replied, is_updated, is_listed}
 use Rattle.vic_laws.proofs.StepKinds.{step_kind}
 use Rattle.vic_honest.proofs.Words.{entries-joined, length-entries, told, newest-told, AreMade}
+use Rattle.vic_wire.specs.Walks.{tree_after}
+use Rattle.vic_spellings.proofs.SpelledParts.{part_takes, parts_are_spelled}
+use Rattle.vic_laws.proofs.PartRoots.{part_stubs, after_stubs, root_digest}
 use Rattle.vic_honest.proofs.Serving.{length-tag, seal_text-joined}
 use Rattle.vic_honest.proofs.Standing.{SealFits, StandingFits, AnswerComes, IsWithin, Rests, Sends, ClientFits}
 
@@ -59,10 +62,12 @@ bytes-root : (d : Dictionary) → AreBytes (dictionary_root d)
 unfolding dictionary_root tree_of
 bytes-root d = bytes-tree _ _
 
-new_root_fits : (first : Own) (part : Part) (root : List ℕ) → length root ≡ 32 → AreBytes root → (length (new_root first part root) ≡ 32) × AreBytes (new_root first part root)
-new_root_fits first part root long bytes =
+new_root_fits : (first : Own) (bytes : List ℕ) (part : Part) (root : List ℕ) → AreBytes bytes → read_part bytes ≡ Some part → length root ≡ 32 → AreBytes root → (length (new_root first part root) ≡ 32) × AreBytes (new_root first part root)
+new_root_fits first text part root are read long bytes =
+    let t = part_takes text part are read in
+    let stubs = after_stubs part first.op (part_stubs part t.0 ((parts_are_spelled.in_bytes part t.0).0 (subst AreBytes t.1 are))) in
     elim (first.done && is_write first.op) as (λ b. (length (if b then root_after part first.op else root) ≡ 32) × AreBytes (if b then root_after part first.op else root)) [
-      | true ↦ (length-root _, bytes-root _)
+      | true ↦ root_digest (tree_after part first.op) stubs
       | false ↦ (long, bytes)
     ]
 
@@ -254,7 +259,7 @@ module _ (g : Group) (made : List (List ℕ)) (me : ℕ) (log seen newer : List 
       let answer : ToClient = say.Update u.seal u.bytes in
       let c : AnswerComes g made log seen newer answer = subst (AnswerComes g made log seen newer) (taken_is v.next payload m answer read u.takes) comes in
       let root : List ℕ = new_root u.first u.part u.seal.root.bytes in
-      let root_fits = new_root_fits u.first u.part u.seal.root.bytes u.sealing.spelled.root c.seal.root_bytes in
+      let root_fits = new_root_fits u.first u.bytes u.part u.seal.root.bytes u.are_bytes u.is_part u.sealing.spelled.root c.seal.root_bytes in
       let own = subst (AllByRecursion (IsWithin (length t.path))) u.own_is fits.own in
       let next : Standing = record t { sealed = u.seal.position + 1; root = root; own = u.rest; awaiting = awaits.Turn } in
       let within : u.seal.position + 1 ≤ length t.path = omega (arith, own.0, u.next_is) in

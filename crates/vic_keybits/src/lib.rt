@@ -4,7 +4,7 @@
 //! takes memory. The words of the two laws at the end stand in `specs/Order.antt`.
 #![tactic(auto)]
 
-ghost use Rattle.std.specs.Prelude.{◌≡◌, ℕ, ◌+◌, ◌/◌, ◌^◌, ◌<◌, ◌≤◌, Bool, List, ◌++◌, length, MatchOption, nat_eq};
+ghost use Rattle.std.specs.Prelude.{◌≡◌, ℕ, ◌+◌, ◌/◌, ◌^◌, ◌<◌, ◌≤◌, Bool, List, ◌++◌, length, MatchOption, IfSome, nat_eq};
 ghost use Rattle.std.specs.List.{starts_with};
 ghost use Rattle.vic_wire.specs.Bits.{is_odd, key_bits, key_bit, common, shared};
 ghost use Rattle.vic_keybits.specs.LowBits.{low_bits};
@@ -64,7 +64,8 @@ fn bit_apart(x: u8, y: u8, left: u32) -> u32
 pub fn first_difference(a: &[u8], b: &[u8]) -> Option<u32>
     requires first { length a.now < 256 }
     requires second { length b.now < 256 }
-    ensures { MatchOption result (a.now ≡ b.now) (λ i. (a.now ≡ b.now → ⊥) × (i ≡ shared a.now b.now)) }
+    ensures first { MatchOption result (a.now ≡ b.now) (λ i. (a.now ≡ b.now → ⊥) × (i ≡ shared a.now b.now)) }
+    ensures few { IfSome result (λ i. i < 2296) }
 {
     let place = first_apart(a, b);
     let before = 9 * place as u32;

@@ -8,6 +8,7 @@ use Rattle.vic_dict.specs.declared.op.Answer.{Answer}
 use Rattle.vic_dict.specs.declared.op.Outcome.TheVariants as outcome
 use Rattle.vic_dict.specs.Dictionary.{Dictionary, reply, after}
 use Rattle.vic_wire.specs.Conflict.{conflicts}
+use Rattle.vic_wire.specs.Parts.{walked}
 use Rattle.vic_rules.specs.Client.{or_this, least_above, is_in_the_way, in_the_way, decided}
 use Rattle.vic_rules.specs.History.{Completion, completions}
 use Rattle.vic_rules.specs.Views.{confirmed}
@@ -83,6 +84,12 @@ walk o me base cs d picks own (e ∷ p) none = now (cases_lt base (length (e ∷
     now (inl above) alike = subst (Alike o (own_laid cs me base d (e ∷ p))) (sym (effect_above picks base d e p above)) (step above (cases_eq e.client me) alike)
     now (inr up) alike = subst₂ (Alike o) (sym (laid_below cs me base d (e ∷ p) up)) (sym (effect_below picks base d (e ∷ p) up)) (alike_itself o d)
 
+-- what is alike to an operation stays so under any choice
+pub effects_alike : (o : Op) (picks : List Entry → Bool) (base : ℕ) (a b : Dictionary) → Alike o a b → (p : List Entry) → Alike o (effect_of picks base a p) (effect_of picks base b p)
+unfolding effect_of
+effects_alike o picks base a b alike [] = alike
+effects_alike o picks base a b alike (e ∷ p) = both_done o (effect_of picks base a p) (effect_of picks base b p) e (nat_lt base (length (e ∷ p)) && picks (e ∷ p)) (effects_alike o picks base a b alike p)
+
 -- so they answer alike
 pub reply_stands : (o : Op) (me base : ℕ) (cs : List Completion) (d : Dictionary) (picks : List Entry → Bool) → PicksOwn cs me picks → (p : List Entry) → in_the_way me o base p ≡ None
     → reply (own_laid cs me base d p) o ≡ reply (effect_of picks base d p) o
@@ -98,9 +105,9 @@ done_answers (Some u) d o a e = absurd cc
 pub answers_stand : AnswersStand
 answers_stand g h lawful later x past whole seal entries bytes t e below path_is a returned part is_part picks own =
     let d = decided_over g h lawful.steps later x past whole seal entries bytes t e below path_is in
-    let laid = own_laid (completions g h) x.client seal.position d.part below in
+    let laid = own_laid (completions g h) x.client seal.position (walked d.part e.op) below in
     let u = in_the_way x.client e.op seal.position below in
     let done : decided u laid e.op ≡ outcome.Done a = some_same (sym d.returned ∙ returned) in
     done_answers u laid e.op a done
-    ∙ (reply_stands e.op x.client seal.position (completions g h) d.part picks own below (done_by_none u laid e.op a done)
-    ∙ ap (λ w. reply (effect_of picks seal.position w below) e.op) (some_same (sym d.is_part ∙ is_part)))
+    ∙ (reply_stands e.op x.client seal.position (completions g h) (walked d.part e.op) picks own below (done_by_none u laid e.op a done)
+    ∙ ap (λ w. reply (effect_of picks seal.position (walked w e.op) below) e.op) (some_same (sym d.is_part ∙ is_part)))

@@ -13,7 +13,7 @@ use Rattle.vic_rules.specs.declared.trace.TraceStep.{TraceStep}
 use Rattle.vic_rules.specs.Client.{in_the_way, decided, decision}
 use Rattle.vic_rules.specs.History.{standing, path, move_of, AreSteps, IsStep, Completion, completions}
 use Rattle.vic_rules.specs.Trust.{took, taken_by}
-use Rattle.vic_wire.specs.Parts.{Part, read_part}
+use Rattle.vic_wire.specs.Parts.{Part, read_part, walked}
 use Rattle.vic_laws.specs.OrderClaims.{DoneMeetsNoConflict, AbortedByTheLeast}
 use Rattle.vic_laws.proofs.Words.{some_same, none_is_some}
 use Rattle.vic_laws.proofs.Steps.{Kind, is_quiet, is_called, is_replied, is_updated, is_listed, call_of}
@@ -53,7 +53,7 @@ reply_taken g x past (is_listed k) seal entries part t = absurd (let e = some_sa
 pub record DecidedOver (cs : List Completion) (x : TraceStep) (position : ℕ) (bytes : List ℕ) (e : Entry) (below : List Entry) : Type 0 where
   pub part : Part
   pub is_part : read_part bytes ≡ Some part
-  pub returned : x.returned ≡ Some (decided (in_the_way x.client e.op position below) (own_laid cs x.client position part below) e.op)
+  pub returned : x.returned ≡ Some (decided (in_the_way x.client e.op position below) (own_laid cs x.client position (walked part e.op) below) e.op)
 
 pub same_parts : (a b : Entry) (p q : List Entry) → a ∷ p ≡ b ∷ q → (a ≡ b) × (p ≡ q)
 same_parts a b p q e = (cc, cc)
@@ -87,13 +87,13 @@ pub done_meets_no_conflict : DoneMeetsNoConflict
 done_meets_no_conflict g h lawful later x past whole seal entries part t e below path_is a returned =
     let d = decided_over g h lawful.steps later x past whole seal entries part t e below path_is in
     (none_above_tells seal.position _ below).0
-    (done_by_none (in_the_way x.client e.op seal.position below) (own_laid (completions g h) x.client seal.position d.part below) e.op a (some_same (sym d.returned ∙ returned)))
+    (done_by_none (in_the_way x.client e.op seal.position below) (own_laid (completions g h) x.client seal.position (walked d.part e.op) below) e.op a (some_same (sym d.returned ∙ returned)))
 
 -- a call is aborted exactly by the least position of a conflict above the seal of its Reply
 pub aborted_by_the_least : AbortedByTheLeast
 aborted_by_the_least g h lawful later x past whole seal entries part t e below path_is u =
     let d = decided_over g h lawful.steps later x past whole seal entries part t e below path_is in
     let tells = least_above_tells seal.position _ below u in (
-      λ returned. tells.0 (aborted_by_some (in_the_way x.client e.op seal.position below) (own_laid (completions g h) x.client seal.position d.part below) e.op u (some_same (sym d.returned ∙ returned))),
-      λ least. d.returned ∙ ap (λ w. Some (decided w (own_laid (completions g h) x.client seal.position d.part below) e.op)) (tells.1 least),
+      λ returned. tells.0 (aborted_by_some (in_the_way x.client e.op seal.position below) (own_laid (completions g h) x.client seal.position (walked d.part e.op) below) e.op u (some_same (sym d.returned ∙ returned))),
+      λ least. d.returned ∙ ap (λ w. Some (decided w (own_laid (completions g h) x.client seal.position (walked d.part e.op) below) e.op)) (tells.1 least),
     )

@@ -5,7 +5,16 @@ use Rattle.std.proofs.lemmas.Bool.{cases_lt}
 use Rattle.vic_dict.specs.declared.op.Op.{Op}
 use Rattle.vic_dict.specs.declared.op.Entry.{Entry}
 use Rattle.vic_dict.specs.Lists.{IsIn, front}
-use Rattle.vic_dict.specs.Dictionary.{Dictionary, reply}
+use Rattle.std.specs.List.{AllByRecursion}
+use Rattle.vic_dict.specs.Dictionary.{Dictionary, reply, IsProper}
+use Rattle.vic_wire.specs.Messages.{IsEntry}
+use Rattle.vic_wire.specs.Trees.{tree_of}
+use Rattle.vic_wire.specs.Cuts.{IsCut}
+use Rattle.vic_wire.specs.Parts.{walked}
+use Rattle.vic_commute.proofs.Commuting.{Alike, reply_alike}
+use Rattle.vic_tree.proofs.Alike.{alike as alike_on_cut}
+use Rattle.vic_roots.proofs.Proper.{byte_keys-proper}
+use Rattle.vic_laws.proofs.Paths.{all_drop, path_spelled}
 use Rattle.vic_wire.specs.Hashes.{Group}
 use Rattle.vic_rules.specs.declared.trace.TraceStep.{TraceStep}
 use Rattle.vic_rules.specs.declared.trace.Shown.{Shown}
@@ -19,11 +28,11 @@ use Rattle.vic_laws.proofs.Steps.{call_of}
 use Rattle.vic_laws.proofs.Standings.{standing_moved, earlier_steps}
 use Rattle.vic_laws.proofs.Calls.{RepliedAt, completed_by, completion_after}
 use Rattle.vic_laws.proofs.Agreement.{confirmed_tells}
-use Rattle.vic_laws.proofs.Dictionaries.{leaves_done}
+use Rattle.vic_laws.proofs.Dictionaries.{leaves_done, left_proper}
 use Rattle.vic_laws.proofs.Growth.{front_grows, front_whole, confirmed_calls_stay, completions_grow}
 use Rattle.vic_laws.proofs.SealsHeld.{all_hold, part_is_left, taken_at}
 use Rattle.vic_laws.proofs.OwnLaid.{own_op, own_laid, lays_at}
-use Rattle.vic_laws.proofs.AnswersStand.{effect_above, effect_below, reply_stands}
+use Rattle.vic_laws.proofs.AnswersStand.{effect_above, effect_below, effects_alike, reply_stands}
 
 -- ---- what the calls of a path leave
 
@@ -83,7 +92,7 @@ module _ (g : Group) (whole : List TraceStep) (lawful : AreSteps g whole) (hones
       → Explains (left_by (confirmed_calls (completions g whole) (r.others ++ path g x.client past))) shown (completed_by r).outcome
   unfolding decision
   reply_explains later x past e r shown same =
-      decided_explains (in_the_way x.client r.op r.seal.position below) (laid s.own r.seal.position r.part) (left_by (confirmed_calls (completions g whole) below)) shown r.op same alike
+      decided_explains (in_the_way x.client r.op r.seal.position below) (laid s.own r.seal.position (walked r.part r.op)) (left_by (confirmed_calls (completions g whole) below)) shown r.op same alike
     where
       s : Standing
       s = standing g x.client past
@@ -118,23 +127,40 @@ module _ (g : Group) (whole : List TraceStep) (lawful : AreSteps g whole) (hones
       more : (ds : List Completion) × (completions g (later ++ x ∷ past) ≡ ds ++ completions g (x ∷ past))
       more = completions_grow g later (x ∷ past)
 
-      -- the part is what the calls up to the seal leave, in the whole history
-      told : r.part ≡ left_by (confirmed_calls (completions g whole) (front r.seal.position below))
-      told = part_is_left g whole lawful honest apart later x past e r.bytes r.part r.seal.position r.seal.root.bytes
-          (subst (λ o. IsIn (parts_in o) r.bytes) (sym (taken_at g past x _ r.takes)) (inl refl)) r.are_bytes r.is_part r.root_is (subst (λ n. r.seal.position ≤ n) (sym sealed_is) (le_refl r.seal.position)) p path_is holds
-          ∙ ap left_by (sym (confirmed_calls_stay more.0 (completions g (x ∷ past)) (front r.seal.position p) holds.all)
+      -- what the calls up to the seal leave is one, in the whole history
+      same_left : left_by (confirmed_calls (completions g (x ∷ past)) (front r.seal.position p)) ≡ left_by (confirmed_calls (completions g whole) (front r.seal.position below))
+      same_left = ap left_by (sym (confirmed_calls_stay more.0 (completions g (x ∷ past)) (front r.seal.position p) holds.all)
           ∙ (ap (λ cs. confirmed_calls cs (front r.seal.position p)) (sym more.1 ∙ ap (completions g) (sym e))
           ∙ ap (confirmed_calls (completions g whole)) (front_grows (call_of x.client r.seq r.op ∷ []) below r.seal.position (le_of_suc-le-suc r.below))))
 
+      -- the part is a cut of the tree of that
+      told : IsCut r.part (tree_of (left_by (confirmed_calls (completions g whole) (front r.seal.position below))))
+      told = subst (λ d. IsCut r.part (tree_of d)) same_left (part_is_left g whole lawful honest apart later x past e r.bytes r.part r.seal.position r.seal.root.bytes
+          (subst (λ o. IsIn (parts_in o) r.bytes) (sym (taken_at g past x _ r.takes)) (inl refl)) r.are_bytes r.is_part r.root_is (subst (λ n. r.seal.position ≤ n) (sym sealed_is) (le_refl r.seal.position)) p path_is holds)
+
       -- what is laid over it is laid by the path
-      laid_is : laid s.own r.seal.position r.part ≡ own_laid (completions g whole) x.client r.seal.position r.part below
+      laid_is : laid s.own r.seal.position (walked r.part r.op) ≡ own_laid (completions g whole) x.client r.seal.position (walked r.part r.op) below
       laid_is = lays_at g whole lawful later x past e r
 
-      alike : in_the_way x.client r.op r.seal.position below ≡ None → reply (laid s.own r.seal.position r.part) r.op ≡ reply (left_by (confirmed_calls (completions g whole) below)) r.op
+      alike : in_the_way x.client r.op r.seal.position below ≡ None → reply (laid s.own r.seal.position (walked r.part r.op)) r.op ≡ reply (left_by (confirmed_calls (completions g whole) below)) r.op
       alike none =
           ap (λ d. reply d r.op) laid_is
-          ∙ (reply_stands r.op x.client r.seal.position (completions g whole) r.part (λ q. was_done (confirmed (completions g whole) q)) (λ c p mine. refl) below none
-          ∙ ap (λ d. reply d r.op) (left_chosen (completions g whole) r.seal.position r.part below told))
+          ∙ (reply_stands r.op x.client r.seal.position (completions g whole) (walked r.part r.op) (λ q. was_done (confirmed (completions g whole) q)) (λ c p mine. refl) below none
+          ∙ (reply_alike r.op _ _ (effects_alike r.op (λ q. was_done (confirmed (completions g whole) q)) r.seal.position (walked r.part r.op) base_left shows_base below)
+          ∙ ap (λ d. reply d r.op) (left_chosen (completions g whole) r.seal.position base_left below refl)))
+        where
+          base_left : Dictionary
+          base_left = left_by (confirmed_calls (completions g whole) (front r.seal.position below))
+
+          spelled : AllByRecursion IsEntry p
+          spelled = subst (AllByRecursion IsEntry) path_is (path_spelled g (x ∷ past) steps x.client)
+
+          proper : IsProper base_left
+          proper = left_proper (completions g whole) (front r.seal.position below) (all_drop IsEntry _ below spelled.1)
+
+          -- the walk shows what the calls up to the seal leave wherever the operation looks
+          shows_base : Alike r.op (walked r.part r.op) base_left
+          shows_base = alike_on_cut base_left (byte_keys-proper base_left proper) r.part told r.op spelled.0.op.1 r.reached
 
   -- each confirmed call is explained by the confirmed calls below it
   confirmed_explains : (e : Entry) (p : List Entry) (c : Completion) → confirmed (completions g whole) (e ∷ p) ≡ Some c

@@ -9,6 +9,7 @@ use Rattle.vic_dict.specs.Dictionary.{Dictionary, after}
 use Rattle.vic_wire.specs.Hashes.{Group}
 use Rattle.vic_rules.specs.declared.state.Own.{Own}
 use Rattle.vic_rules.specs.declared.trace.TraceStep.{TraceStep}
+use Rattle.vic_wire.specs.Parts.{walked}
 use Rattle.vic_rules.specs.Client.{Standing, is_done, done_op, laid, decision}
 use Rattle.vic_rules.specs.History.{standing, path, move_of, AreSteps, Completion, completions}
 use Rattle.vic_rules.specs.Views.{confirmed}
@@ -234,12 +235,12 @@ lays g (x ∷ past) steps me = now (cases_eq x.client me) (lays g past steps.0 x
 
 -- what a client lays over the part of its Reply is laid by the path below the call, in the whole history
 pub lays_at : (g : Group) (whole : List TraceStep) → AreSteps g whole → (later : List TraceStep) (x : TraceStep) (past : List TraceStep) → whole ≡ later ++ x ∷ past → (r : RepliedAt g past x)
-    → laid (standing g x.client past).own r.seal.position r.part ≡ own_laid (completions g whole) x.client r.seal.position r.part (r.others ++ path g x.client past)
+    → laid (standing g x.client past).own r.seal.position (walked r.part r.op) ≡ own_laid (completions g whole) x.client r.seal.position (walked r.part r.op) (r.others ++ path g x.client past)
 lays_at g whole lawful later x past e r =
     let p = path g x.client past in
     let steps = earlier_steps g later (x ∷ past) (subst (AreSteps g) e lawful) in
     let more = completions_grow g (later ++ x ∷ []) past in
-    lays g past steps.0 x.client r.seal.position r.part r.sealing.goes
-    ∙ (sym (laid_stays more.0 (completions g past) x.client r.seal.position r.part p (own_ones g past steps.0 x.client))
-    ∙ (ap (λ cs. own_laid cs x.client r.seal.position r.part p) (sym more.1 ∙ ap (completions g) (append_assoc later (x ∷ []) past ∙ sym e))
-    ∙ sym (laid_others (completions g whole) g.count x.client r.seal.position r.part r.others p r.from_others)))
+    lays g past steps.0 x.client r.seal.position (walked r.part r.op) r.sealing.goes
+    ∙ (sym (laid_stays more.0 (completions g past) x.client r.seal.position (walked r.part r.op) p (own_ones g past steps.0 x.client))
+    ∙ (ap (λ cs. own_laid cs x.client r.seal.position (walked r.part r.op) p) (sym more.1 ∙ ap (completions g) (append_assoc later (x ∷ []) past ∙ sym e))
+    ∙ sym (laid_others (completions g whole) g.count x.client r.seal.position (walked r.part r.op) r.others p r.from_others)))

@@ -8,14 +8,16 @@ use Rattle.vic_dict.specs.declared.op.Entry.{Entry}
 use Rattle.vic_dict.specs.Lists.{IsIn, AreBytes}
 use Rattle.vic_wire.specs.Hashes.{Group}
 use Rattle.vic_wire.specs.Messages.{IsEntry}
-use Rattle.vic_wire.specs.Parts.{Part, read_part}
+use Rattle.vic_wire.specs.Parts.{Part, read_part, part_text, node_field}
 use Rattle.vic_rules.specs.declared.trace.Input.{Input}
 use Rattle.vic_rules.specs.declared.trace.TraceStep.{TraceStep}
 use Rattle.vic_rules.specs.Client.{Standing, Move}
 use Rattle.vic_rules.specs.History.{standing, path, move_of, AreSteps, Completion, completion, completions}
 use Rattle.vic_rules.specs.Trust.{took, taken_by, parts_in, parts_taken}
 use Rattle.vic_rules.specs.Views.{last_prefix, view_of}
-use Rattle.vic_roots.proofs.Proper.{proper-read_part}
+use Rattle.vic_spellings.specs.Spellings.{PartHoldsBytes}
+use Rattle.vic_spellings.proofs.Steps.{bytes-rest}
+use Rattle.vic_spellings.proofs.SpelledParts.{part_takes, node_holds_bytes}
 use Rattle.vic_laws.specs.Claims.{DictionariesAreProper, ViewsLeaveProper, IsProperPart, PartsAreProper}
 use Rattle.vic_laws.proofs.Words.{all_append, in_either}
 use Rattle.vic_laws.proofs.Steps.{Kind, is_quiet, is_called, is_replied, is_updated, is_listed}
@@ -58,8 +60,11 @@ views_leave_proper g h lawful me = left_proper (completions g h) (last_prefix me
 
 -- ---- parts
 
+part_holds : (part : Part) → AreBytes (part_text part) → PartHoldsBytes part
+part_holds part h = node_holds_bytes part (bytes-rest 1 (node_field part) h)
+
 proper_part : (read : List ℕ) (part : Part) (bytes : List ℕ) → AreBytes read → read_part read ≡ Some part → IsIn (read ∷ []) bytes → IsProperPart bytes
-proper_part read part bytes are_bytes is (inl e) = subst IsProperPart e (record { part = part; is = is; proper = proper-read_part read part are_bytes is })
+proper_part read part bytes are_bytes is (inl e) = subst IsProperPart e (let t = part_takes read part are_bytes is in record { part = part; is = is; proper = t.0; holds = part_holds part (subst AreBytes t.1 are_bytes) })
 proper_part read part bytes are_bytes is (inr i) = absurd i
 
 kind_parts : (g : Group) (me : ℕ) (s : Standing) (i : Input) (v : Move) → Kind g me s i v → (bytes : List ℕ) → IsIn (parts_in (taken_by v.next i)) bytes → IsProperPart bytes

@@ -1,10 +1,11 @@
 -- Each seal that a client takes or makes holds of its path, unless a tag was forged or two texts collide.
-use Rattle.std.specs.Prelude.{◌≡◌, ◌≢◌, ℕ, ◌+◌, ◌<◌, ◌≤◌, ◌⊎◌, List, [], ◌∷◌, ◌++◌, length, Some}
+use Rattle.std.specs.Prelude.{◌≡◌, ◌≢◌, ℕ, ◌+◌, ◌<◌, ◌≤◌, ◌⊎◌, true, not, ◌&&◌, ◌||◌, List, [], ◌∷◌, ◌++◌, length, Some}
 use Rattle.std.specs.List.{AllByRecursion}
 use Rattle.std.proofs.Common.{refl, ap, subst, sym, ◌∙◌, inl, inr, arith, add-one, append_assoc, le_refl, le_trans}
 use Rattle.std.proofs.lemmas.Bool.{cases_eq}
 use Rattle.vic_dict.specs.declared.op.Entry.{Entry}
 use Rattle.vic_dict.specs.Lists.{IsIn, AreBytes, front}
+use Rattle.vic_dict.specs.Dictionary.{IsProper, AreBytesIn}
 use Rattle.vic_wire.specs.declared.message.Seal.{Seal}
 use Rattle.vic_wire.specs.declared.message.ToClient.{ToClient}
 use Rattle.vic_wire.specs.declared.message.ToClient.TheVariants as say
@@ -12,14 +13,16 @@ use Rattle.vic_wire.specs.Texts.{seal_text}
 use Rattle.vic_wire.specs.Hashes.{Group, chain}
 use Rattle.vic_wire.specs.Trees.{dictionary_root, tree_of, node_texts}
 use Rattle.vic_wire.specs.Messages.{IsEntry}
-use Rattle.vic_wire.specs.Parts.{Part, read_part, part_root}
+use Rattle.vic_wire.specs.Cuts.{IsCut}
+use Rattle.vic_wire.specs.Parts.{Part, read_part, part_root, reaches}
 use Rattle.vic_rules.specs.declared.state.Own.{Own}
 use Rattle.vic_rules.specs.declared.trace.Input.{Input}
 use Rattle.vic_rules.specs.declared.trace.TraceStep.{TraceStep}
-use Rattle.vic_rules.specs.Client.{Standing, Move, Seals, is_done, new_root, seal_of, seal_text_on, commit_text_on}
+use Rattle.vic_rules.specs.Client.{Standing, Move, Seals, is_done, is_write, new_root, seal_of, seal_text_on, commit_text_on}
 use Rattle.vic_rules.specs.History.{standing, path, move_of, AreSteps, Completion, completions}
 use Rattle.vic_rules.specs.Views.{confirmed, confirmed_calls, left_by, outcome_leaves}
 use Rattle.vic_rules.specs.Trust.{IsForged, Collides, IsListed, of_genesis, of_part, of_sealed, texts_made, texts_taken, text_sent, taken_by, took, checked_texts, chain_texts, parts_in, parts_taken, applied}
+use Rattle.vic_spellings.proofs.SpelledParts.{part_takes}
 use Rattle.vic_laws.specs.Claims.{AllConfirmed, SealHolds, SealsHold, SealAt, of_answer, of_its_own}
 use Rattle.vic_laws.proofs.Words.{some_same, tail_same, none_is_some, in_left, in_either}
 use Rattle.vic_laws.proofs.Steps.{Sealing, Kind, is_quiet, is_called, is_replied, is_updated, is_listed, call_of}
@@ -38,14 +41,14 @@ use Rattle.vic_laws.proofs.MadeSeals.{seal_checked, MadeSeal, made_stays, made_h
 -- the seal of an own call that stands above a seal that holds
 seal_next : (cs : List Completion) (p below : List Entry) (e : Entry) (by : Completion) (first : Own) (part : Part) (root : List ℕ) (n : ℕ)
     → n + 1 ≤ length p → front (n + 1) p ≡ e ∷ below → below ≡ front n p → confirmed cs (e ∷ below) ≡ Some by → e.op ≡ first.op → is_done by.outcome ≡ first.done
-    → SealHolds cs p n root → part ≡ left_by (confirmed_calls cs (front n p)) → SealHolds cs p (n + 1) (new_root first part root)
-seal_next cs p below e by first part root n within is rest found op status holds told = record {
+    → SealHolds cs p n root → IsProper (left_by (confirmed_calls cs (front n p))) → AreBytesIn first.op → IsCut part (tree_of (left_by (confirmed_calls cs (front n p)))) → (not (first.done && is_write first.op) || reaches part first.op) ≡ true
+    → SealHolds cs p (n + 1) (new_root first part root)
+seal_next cs p below e by first part root n within is rest found op status holds proper bytes cut reached = record {
   within = within;
   all = subst (AllConfirmed cs) (sym is) ((by, found), subst (AllConfirmed cs) (sym rest) holds.all);
-  is_root = ap (λ d. new_root first d root) told
-      ∙ (root_written first (left_by (confirmed_calls cs (front n p))) root (record { entry = e; outcome = by.outcome }) holds.is_root op status
+  is_root = root_written first (left_by (confirmed_calls cs (front n p))) part root (record { entry = e; outcome = by.outcome }) proper bytes cut reached holds.is_root op status
       ∙ ap dictionary_root (ap (λ q. outcome_leaves (left_by (confirmed_calls cs q)) (record { entry = e; outcome = by.outcome }) by.outcome) (sym rest)
-      ∙ (sym (left_next cs e below by found) ∙ ap (λ q. left_by (confirmed_calls cs q)) (sym is))));
+      ∙ (sym (left_next cs e below by found) ∙ ap (λ q. left_by (confirmed_calls cs q)) (sym is)));
 }
 
 -- the text of a seal that was sent
@@ -187,13 +190,13 @@ module _ (g : Group) (whole : List TraceStep) (lawful : AreSteps g whole) (hones
       let more = completions_grow g (x ∷ []) past in
       subst (λ cs. SealHolds cs (news ++ p) n root) (sym more.1) (seal_stays more.0 (completions g past) news p n root s)
 
-  -- the part of an answer is what its seal's front leaves
+  -- the part of an answer is a cut of the tree of what its seal's front leaves
   pub part_is_left : (later : List TraceStep) (x : TraceStep) (past : List TraceStep) → whole ≡ later ++ x ∷ past → (bytes : List ℕ) (part : Part) (n : ℕ) (root : List ℕ)
       → IsIn (parts_in (took g past x)) bytes → AreBytes bytes → read_part bytes ≡ Some part → part_root part ≡ root → n ≤ (standing g x.client (x ∷ past)).sealed
-      → (p : List Entry) → path g x.client (x ∷ past) ≡ p → SealHolds (completions g (x ∷ past)) p n root → part ≡ left_by (confirmed_calls (completions g (x ∷ past)) (front n p))
+      → (p : List Entry) → path g x.client (x ∷ past) ≡ p → SealHolds (completions g (x ∷ past)) p n root → IsCut part (tree_of (left_by (confirmed_calls (completions g (x ∷ past)) (front n p))))
   unfolding parts_taken
   part_is_left later x past e bytes part n root there are_bytes is_part root_is le p path_is holds =
-      part_told (IsListed g whole) two_apart bytes part (left_by (confirmed_calls (completions g (x ∷ past)) (front n p))) are_bytes is_part
+      part_told (IsListed g whole) two_apart part (left_by (confirmed_calls (completions g (x ∷ past)) (front n p))) (part_takes bytes part are_bytes is_part).0
       (left_proper (completions g (x ∷ past)) (front n p) (all_drop IsEntry _ p (subst (AllByRecursion IsEntry) path_is (path_spelled g (x ∷ past) (steps_of later (x ∷ past) e) x.client))))
       (λ t i. of_part bytes part (subst (λ w. IsIn (parts_taken g w) bytes) (sym e) (parts_later g later (x ∷ past) bytes (in_left (parts_in (took g past x)) (parts_taken g past) bytes there))) is_part i)
       (subst (λ q. (t : List ℕ) → IsIn (node_texts (tree_of (left_by (confirmed_calls (completions g (x ∷ past)) (front n q))))) t → IsListed g whole t) path_is
@@ -243,11 +246,15 @@ module _ (g : Group) (whole : List TraceStep) (lawful : AreSteps g whole) (hones
       let found : confirmed (completions g (x ∷ past)) (mine.entry ∷ mine.below) ≡ Some mine.by =
       ap (λ cs. confirmed cs (mine.entry ∷ mine.below)) more.1 ∙ confirmed_stays more.0 (completions g past) (mine.entry ∷ mine.below) mine.by mine.found in
       let here : path g x.client (x ∷ past) ≡ s.path = ap (λ w. w.path) (standing_moved g x.client x past refl) ∙ path_is in
+      let spelled_path : AllByRecursion IsEntry s.path = subst (AllByRecursion IsEntry) here (path_spelled g (x ∷ past) steps x.client) in
+      let spelled_front : AllByRecursion IsEntry (front n s.path) = all_drop IsEntry _ s.path spelled_path in
+      let spelled_entry : IsEntry mine.entry = (subst (AllByRecursion IsEntry) is (all_drop IsEntry _ s.path spelled_path)).0 in
       let sealed_is : (standing g x.client (x ∷ past)).sealed ≡ n + 1 = ap (λ w. w.sealed) (standing_moved g x.client x past refl) ∙ ap (λ v. v.next.sealed) k.moved in
       let told = part_is_left later x past e k.bytes k.part n root (subst (λ o. IsIn (parts_in o) k.bytes) (sym (taken_at g past x _ k.takes)) (inl refl)) k.are_bytes k.is_part k.root_is
       (subst (λ j. n ≤ j) (sym sealed_is) (omega arith)) s.path here holds in
       subst (λ v. SealHolds (completions g (x ∷ past)) v.next.path v.next.sealed v.next.root) (sym k.moved)
-      (seal_next (completions g (x ∷ past)) s.path mine.below mine.entry mine.by k.first k.part root n within is (tail_same mine.entry up.0 mine.below (front n s.path) (sym is ∙ up.1)) found mine.op mine.done holds told)
+      (seal_next (completions g (x ∷ past)) s.path mine.below mine.entry mine.by k.first k.part root n within is (tail_same mine.entry up.0 mine.below (front n s.path) (sym is ∙ up.1)) found mine.op mine.done holds
+      (left_proper (completions g (x ∷ past)) (front n s.path) spelled_front) (subst AreBytesIn mine.op spelled_entry.op.1) told k.reached)
   own_stands later x past e made before (is_listed k) =
       let s = standing g x.client past in
       let p : List Entry = k.others ++ s.path in

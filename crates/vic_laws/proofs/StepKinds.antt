@@ -1,5 +1,5 @@
 -- Each step that a client may make is of one of the five kinds.
-use Rattle.std.specs.Prelude.{◌≡◌, ℕ, ◌+◌, ◌-◌, ◌≤◌, ◌⊎◌, Bool, true, false, ◌&&◌, List, [], ◌∷◌, ◌++◌, length, map, Option, Some, None, is_some, is_none, nat_le, nat_lt, nat_eq, if◌then◌else◌}
+use Rattle.std.specs.Prelude.{◌≡◌, ℕ, ◌+◌, ◌-◌, ◌≤◌, ◌⊎◌, Bool, true, false, ◌&&◌, List, [], ◌∷◌, ◌++◌, length, map, Option, Some, None, is_some, is_none, nat_le, nat_lt, nat_eq, if◌then◌else◌, not, ◌||◌}
 use Rattle.std.specs.List.{AllByRecursion}
 use Rattle.std.specs.Str.{bytes_eq}
 use Rattle.std.proofs.Common.{refl, ap, subst, sym, ◌∙◌, inl, inr, true≢false, arith, append_assoc}
@@ -16,14 +16,14 @@ use Rattle.vic_wire.specs.declared.message.ToClient.TheVariants as say
 use Rattle.vic_wire.specs.Texts.{invoke_text}
 use Rattle.vic_wire.specs.Hashes.{Group, tag_of}
 use Rattle.vic_wire.specs.Messages.{HasSpelling, IsEntry, IsSeal, IsTagged, answer_text, seal_field, entries_field}
-use Rattle.vic_wire.specs.Parts.{Part, read_part, part_root}
+use Rattle.vic_wire.specs.Parts.{Part, read_part, part_root, reaches}
 use Rattle.vic_wire.specs.Reading.{read_answer}
 use Rattle.vic_rules.specs.declared.state.Own.{Own}
 use Rattle.vic_rules.specs.declared.state.Awaiting.{Awaiting}
 use Rattle.vic_rules.specs.declared.state.Awaiting.TheVariants as awaits
 use Rattle.vic_rules.specs.declared.trace.Input.{Input}
 use Rattle.vic_rules.specs.declared.trace.Input.TheVariants as input
-use Rattle.vic_rules.specs.Client.{Standing, Move, Sending, Polls, Syncs, moves, IsIdle, MayStep, awaits_nothing, onto, newest_first, grown, is_awaited, has_form, has_members, has_tags, has_turn, is_other, is_reply_to, goes_on, is_sealed, keeps_own, shows, shows_open, shows_own, is_next, is_proved, entries_of, seal_of, seal_text_on, first_failing, verdict_on, verdict, halts, replied, replied_to, updated, sealed_to, listed_to, new_root, decision, is_done, taken, taken_or_halts, on_payload, step}
+use Rattle.vic_rules.specs.Client.{is_write, Standing, Move, Sending, Polls, Syncs, moves, IsIdle, MayStep, awaits_nothing, onto, newest_first, grown, is_awaited, has_form, has_members, has_tags, has_turn, is_other, is_reply_to, goes_on, is_sealed, keeps_own, shows, shows_open, shows_own, is_next, is_proved, entries_of, seal_of, seal_text_on, first_failing, verdict_on, verdict, halts, replied, replied_to, updated, sealed_to, listed_to, new_root, decision, is_done, taken, taken_or_halts, on_payload, step}
 use Rattle.vic_rules.specs.Trust.{taken_by, checked_texts, seal_texts, parts_in, text_sent}
 use Rattle.vic_rules.specs.Views.{IsCall}
 use Rattle.vic_rules.specs.History.{completion}
@@ -195,6 +195,13 @@ update_moves : (s : Standing) (seal : Seal) (found : Option Part) (part : Part) 
     → found ≡ Some part → own ≡ first ∷ rest → updated s seal found own ≡ sealed_to s (seal.position + 1) (new_root first part seal.root.bytes) rest
 update_moves s seal found part own first rest e1 e2 = ap (λ f. updated s seal f own) e1 ∙ ap (λ w. updated s seal (Some part) w) e2
 
+-- the part shows the walk of the call that is open, and that of the first own call where this is a done put or del
+open_shown : (found : Option Part) (part : Part) (a : Awaiting) (n : ℕ) (o : Op) (load : Bool) → found ≡ Some part → a ≡ awaits.Reply n o load → shows_open found a ≡ true → reaches part o ≡ true
+open_shown found part a n o load e f h = sym (ap (λ x. shows_open x a) e ∙ ap (shows_open (Some part)) f) ∙ h
+
+own_shown : (found : Option Part) (part : Part) (own : List Own) (first : Own) (rest : List Own) → found ≡ Some part → own ≡ first ∷ rest → shows_own found own ≡ true → (not (first.done && is_write first.op) || reaches part first.op) ≡ true
+own_shown found part own first rest e f h = sym (ap (λ x. shows_own x own) e ∙ ap (shows_own (Some part)) f) ∙ h
+
 part_shown : (bytes : List ℕ) (part : Part) (root : List ℕ) → read_part bytes ≡ Some part → shows (read_part bytes) root ≡ true → part_root part ≡ root
 part_shown bytes part root e h = bytes_same _ _ (subst (λ f. shows f root ≡ true) e h)
 
@@ -244,6 +251,7 @@ reply_kind g me s b seal entries bytes alive are_bytes read passes =
       are_bytes = are_bytes;
       is_part = t.1;
       root_is = part_shown bytes t.0 seal.root.bytes t.1 (and_parts (shows (read_part bytes) seal.root.bytes) (shows_open (read_part bytes) s.awaiting) passes.proof).0;
+      reached = open_shown (read_part bytes) t.0 s.awaiting w.0 w.1 w.2 t.1 w.3 (and_parts (shows (read_part bytes) seal.root.bytes) (shows_open (read_part bytes) s.awaiting) passes.proof).1;
       sealing = sealing_from g s (call_of me w.0 w.1 ∷ (r.0 ++ s.path)) seal passes.spelled.0 passes.goes (subst (λ p. is_sealed g p (Some seal) ≡ true) e1 passes.sealing) passes.own (omega arith);
       below = omega arith;
       few = omega arith;
@@ -274,6 +282,7 @@ update_kind g me s b seal bytes alive are_bytes read passes =
       are_bytes = are_bytes;
       is_part = t.1;
       root_is = part_shown bytes t.0 seal.root.bytes t.1 (and_parts (shows (read_part bytes) seal.root.bytes) (shows_own (read_part bytes) s.own) passes.proof).0;
+      reached = own_shown (read_part bytes) t.0 s.own o.0 o.1 t.1 o.2 (and_parts (shows (read_part bytes) seal.root.bytes) (shows_own (read_part bytes) s.own) passes.proof).1;
       sealing = sealing_from g s s.path seal passes.spelled passes.goes passes.sealing passes.own (leb-true _ _ f.3);
       own_is = o.2;
       next_is = o.3;

@@ -1,5 +1,5 @@
 -- What a step of a client does: one of five kinds, with all that the checks showed.
-use Rattle.std.specs.Prelude.{◌≡◌, ℕ, ◌+◌, ◌<◌, ◌≤◌, ◌^◌, ◌⊎◌, Bool, true, false, List, [], ◌∷◌, ◌++◌, length, Some, None}
+use Rattle.std.specs.Prelude.{◌≡◌, ℕ, ◌+◌, ◌<◌, ◌≤◌, ◌^◌, ◌⊎◌, Bool, true, false, not, ◌&&◌, ◌||◌, List, [], ◌∷◌, ◌++◌, length, Some, None}
 use Rattle.std.specs.List.{AllByRecursion}
 use Rattle.vic_dict.specs.declared.op.Op.{Op}
 use Rattle.vic_dict.specs.declared.op.Entry.{Entry}
@@ -13,12 +13,12 @@ use Rattle.vic_wire.specs.declared.message.ToClient.TheVariants as say
 use Rattle.vic_wire.specs.Texts.{invoke_text}
 use Rattle.vic_wire.specs.Hashes.{Group, tag_of}
 use Rattle.vic_wire.specs.Messages.{HasSpelling, IsEntry, IsSeal}
-use Rattle.vic_wire.specs.Parts.{Part, read_part, part_root}
+use Rattle.vic_wire.specs.Parts.{Part, read_part, part_root, reaches}
 use Rattle.vic_rules.specs.declared.state.Own.{Own}
 use Rattle.vic_rules.specs.declared.state.Awaiting.TheVariants as awaits
 use Rattle.vic_rules.specs.declared.trace.Input.{Input}
 use Rattle.vic_rules.specs.declared.trace.Input.TheVariants as input
-use Rattle.vic_rules.specs.Client.{Standing, Move, Invokes, moves, IsIdle, decision, is_done, new_root, replied_to, sealed_to, listed_to, has_form, has_members, has_tags, goes_on, is_sealed, keeps_own, is_proved, has_turn, entries_of, seal_of, grown, newest_first, seal_text_on}
+use Rattle.vic_rules.specs.Client.{Standing, Move, Invokes, moves, IsIdle, decision, is_done, is_write, new_root, replied_to, sealed_to, listed_to, has_form, has_members, has_tags, goes_on, is_sealed, keeps_own, is_proved, has_turn, entries_of, seal_of, grown, newest_first, seal_text_on}
 use Rattle.vic_rules.specs.History.{completion}
 use Rattle.vic_rules.specs.Trust.{taken_by, checked_texts, text_sent, parts_in}
 use Rattle.vic_rules.specs.Views.{IsCall}
@@ -109,6 +109,7 @@ pub record Replied (g : Group) (me : ℕ) (s : Standing) (i : Input) (v : Move) 
   pub are_bytes : AreBytes bytes
   pub is_part : read_part bytes ≡ Some part
   pub root_is : part_root part ≡ seal.root.bytes
+  pub reached : reaches part op ≡ true
   pub sealing : Sealing g s (call_of me seq op ∷ (others ++ s.path)) seal
   pub below : seal.position < length (call_of me seq op ∷ (others ++ s.path))
   pub few : length (call_of me seq op ∷ (others ++ s.path)) ≤ 1048576
@@ -134,6 +135,7 @@ pub record Updated (g : Group) (me : ℕ) (s : Standing) (i : Input) (v : Move) 
   pub root_is : part_root part ≡ seal.root.bytes
   pub sealing : Sealing g s s.path seal
   pub own_is : s.own ≡ first ∷ rest
+  pub reached : (not (first.done && is_write first.op) || reaches part first.op) ≡ true
   pub next_is : first.position ≡ seal.position + 1
   pub few : length s.path ≤ 1048576
   pub moved : v ≡ sealed_to s (seal.position + 1) (new_root first part seal.root.bytes) rest

@@ -9,7 +9,8 @@ use Rattle.vic_wire.specs.declared.message.ToClient.{ToClient}
 use Rattle.vic_wire.specs.Texts.{invoke_text}
 use Rattle.vic_wire.specs.Hashes.{Group, chain, tag_of}
 use Rattle.vic_wire.specs.Trees.{dictionary_root}
-use Rattle.vic_wire.specs.Parts.{Part, read_part}
+use Rattle.vic_wire.specs.Parts.{Part, IsPart, read_part}
+use Rattle.vic_spellings.specs.Spellings.{PartHoldsBytes}
 use Rattle.vic_rules.specs.declared.trace.TraceStep.{TraceStep}
 use Rattle.vic_rules.specs.Client.{Seals, entries_of, seal_of, seal_text_on}
 use Rattle.vic_rules.specs.History.{IsLawful, path, move_of, Completion, completions}
@@ -86,7 +87,8 @@ ViewsLeaveProper = (g : Group) (h : List TraceStep) → IsLawful g h → (me : �
 pub record IsProperPart (bytes : List ℕ) : Type 0 where
   pub part : Part
   pub is : read_part bytes ≡ Some part
-  pub proper : IsProper part
+  pub proper : IsPart part
+  pub holds : PartHoldsBytes part
 
 -- each part that a client took without halting is proper
 abbrev pub PartsAreProper : Type 0

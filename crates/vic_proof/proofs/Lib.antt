@@ -1,3 +1,3 @@
-pub mod Order
-pub mod Splits
-pub mod OneByOne
+pub mod Levels
+pub mod Wholes
+pub mod Tops

@@ -1,2 +1,3 @@
-pub mod Pairs
-pub mod Splits
+pub mod Faults
+pub mod Nodes
+pub mod Indices

@@ -1,14 +1,16 @@
-//! The part of the sealed dictionary that an answer carries: the whole list of its pairs, and the root of a dictionary.
+//! The bytes of parts: a form byte 1 and the nodes of a pruned tree, each before its two sides.
 //!
-//! A part is spelled and read as `specs/Parts.antt` of `vic_wire` says, which the contracts of `pairs_bytes` and `pairs_of`
-//! carry; the root is that of the tree in `specs/Trees.antt`, which that of `plain_root` carries.
+//! A part is spelled as `part_text`, and read as `part_at`, of `specs/Parts.antt` of `vic_wire`; the contracts of `part_bytes` and
+//! `part_of` carry them.
 #![tactic(auto)]
 
-pub mod pairs;
-pub mod root;
+pub mod cutting;
+pub mod reading;
+pub mod writing;
 
-pub use pairs::{pairs_bytes, pairs_of};
-pub use root::plain_root;
+pub use cutting::{bare_bytes, cut_bytes};
+pub use reading::{ProofFault, part_of};
+pub use writing::part_bytes;
 
 #[cfg(test)]
 mod tests;

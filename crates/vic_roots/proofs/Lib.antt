@@ -1,6 +1,5 @@
 pub mod Keys
 pub mod Bytes
-pub mod Spelled
 pub mod Proper
 pub mod Fronts
 pub mod KeyBits
@@ -9,5 +8,4 @@ pub mod Splits
 pub mod Leaves
 pub mod NodeTexts
 pub mod Roots
-pub mod Again
 pub mod Shape

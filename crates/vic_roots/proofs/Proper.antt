@@ -1,21 +1,12 @@
 -- Proper dictionaries stay proper.
-use Rattle.std.proofs.Common.{◌≡◌, inl, inr, ℕ, ◌<◌, T, List, [], ◌∷◌, ◌++◌, length, Some, sym, subst, ◌∙◌}
-use Rattle.std.specs.Ordering.{eq_by_cmp}
-use Rattle.std.specs.List.{flat_map}
-use Rattle.std.specs.Int.{w32, to_be_bytes}
-use Rattle.std.specs.FinMap.{find, is_sorted, get-from_sorted}
+use Rattle.std.proofs.Common.{inl, inr, ℕ, ◌<◌, List, length, sym, subst}
 use Rattle.std.specs.FinMap as map
 use Rattle.vic_dict.specs.declared.op.Op.{Op}
 use Rattle.vic_dict.specs.declared.op.Op.TheVariants as op
 use Rattle.vic_dict.specs.Dictionary.{Dictionary, nothing, after, Fits, AreBytesIn, IsKey, HasByteKeys, IsProper}
 use Rattle.vic_dict.specs.Lists.{AreBytes}
-use Rattle.vic_wire.specs.Texts.{short_text}
-use Rattle.vic_wire.specs.Trees.{Pair}
-use Rattle.vic_wire.specs.Parts.{pair_text, read_part}
 use Rattle.vic_roots.specs.Roots.{KeepsProper}
-use Rattle.vic_roots.proofs.Bytes.{AreBytes-tail, AreBytes-first, AreBytes-second}
-use Rattle.vic_roots.proofs.Spelled.{AreWithin, read_part-is}
-use Rattle.vic_roots.proofs.Keys.{key_order, from_insert, put_key, none_in-nothing, found_after_insert, found_after_remove}
+use Rattle.vic_roots.proofs.Keys.{none_in-nothing, found_after_insert, found_after_remove}
 
 -- the empty dictionary is proper
 pub proper-nothing : IsProper nothing
@@ -48,40 +39,5 @@ proper-after d (op.List p) h fits bytes = h
 pub byte_keys-proper : (d : Dictionary) → IsProper d → HasByteKeys d
 byte_keys-proper d h k v e = (h k v e).0
 
--- each pair of a list is proper
-abbrev pub AreProperPairs : List Pair → Type 0
-AreProperPairs [] = Unit {0}
-AreProperPairs (p ∷ ps) = IsProperPair p.0 p.1 × AreProperPairs ps
-
--- pairs within the limits of length whose spelling is bytes are proper
-pub proper_pairs-read : (ps : List Pair) → AreWithin ps → AreBytes (flat_map pair_text ps) → AreProperPairs ps
-proper_pairs-read [] within h = tt
-proper_pairs-read (p ∷ ps) within h =
-    let pair = AreBytes-tail (length p.0) (p.0 ++ short_text p.1) (AreBytes-first (pair_text p) (flat_map pair_text ps) h) in
-    let key = AreBytes-first p.0 (short_text p.1) pair in
-    let value = AreBytes-tail (length p.1) p.1 (AreBytes-second p.0 (short_text p.1) pair) in
-    (((within.0, key), (within.1, value)), proper_pairs-read ps within.2 (AreBytes-second (pair_text p) (flat_map pair_text ps) h))
-
--- what is found among proper pairs is proper
-pub proper-find : (ps : List Pair) → AreProperPairs ps → (q w : List ℕ) → find key_order q ps ≡ Some w → IsProperPair q w
-proper-find [] h q w e = absurd (cc)
-proper-find (p ∷ ps) h q w e =
-    elim (from_insert (eq_by_cmp key_order q p.0) (find key_order q ps) p.1 w e) [
-      | inl new ↦ let is = put_key q p.0 p.1 w new in subst (λ x. IsProperPair x w) (sym is.0) (subst (IsProperPair p.0) is.1 h.0)
-      | inr old ↦ proper-find ps h.1 q w old
-    ]
-
--- the dictionary of proper pairs in order is proper
-pub proper-from_sorted : (ps : List Pair) → T (is_sorted key_order ps) → AreProperPairs ps → IsProper (map.from_sorted ps)
-proper-from_sorted ps in_order h q w e = proper-find ps h q w (sym (get-from_sorted key_order ps q in_order) ∙ e)
-
--- a part that was read from bytes is proper
-pub proper-read_part : (bytes : List ℕ) (d : Dictionary) → AreBytes bytes → read_part bytes ≡ Some d → IsProper d
-proper-read_part bytes d h e =
-    let part = read_part-is bytes d h e in
-    let past_form = AreBytes-tail 0 (to_be_bytes w32 (length part.pairs) ++ flat_map pair_text part.pairs) (subst AreBytes part.spelled h) in
-    let pairs = AreBytes-second (to_be_bytes w32 (length part.pairs)) (flat_map pair_text part.pairs) past_form in
-    subst IsProper (sym part.is) (proper-from_sorted part.pairs part.sorted (proper_pairs-read part.pairs part.within pairs))
-
 pub proper_is_kept : KeepsProper
-proper_is_kept = record { empty = proper-nothing; after_each = proper-after; after_reading = proper-read_part; keys = byte_keys-proper }
+proper_is_kept = record { empty = proper-nothing; after_each = proper-after; keys = byte_keys-proper }

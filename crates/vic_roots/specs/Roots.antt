@@ -1,19 +1,17 @@
--- What is shown of the roots of dictionaries and of the spelling of parts.
-use Rattle.std.specs.Prelude.{◌≡◌, ◌≢◌, ◌⊎◌, ◌↔◌, ℕ, ◌<◌, ◌^◌, Bool, true, false, List, Some}
+-- What is shown of the roots of dictionaries.
+use Rattle.std.specs.Prelude.{◌≡◌, ◌≢◌, ◌⊎◌, ℕ, ◌<◌, Bool, true, false, List, Some}
 use Rattle.std.specs.FinMap as map
 use Rattle.vic_dict.specs.declared.op.Op.{Op}
-use Rattle.vic_dict.specs.Lists.{IsIn, AreBytes}
+use Rattle.vic_dict.specs.Lists.{IsIn}
 use Rattle.vic_dict.specs.Dictionary.{Dictionary, nothing, after, Fits, AreBytesIn, HasByteKeys, IsProper}
 use Rattle.vic_wire.specs.Hashes.{hash}
 use Rattle.vic_wire.specs.Bits.{key_bit}
 use Rattle.vic_wire.specs.Trees.{Tree, Empty, Leaf, Inner, Stub, side, tree_of, dictionary_root, node_texts}
-use Rattle.vic_wire.specs.Parts.{part_text, read_part}
 
--- the empty dictionary is proper, each operation within the limits keeps a proper dictionary so, and a part that was read is proper
+-- the empty dictionary is proper, and each operation within the limits keeps a proper dictionary so
 pub record KeepsProper : Type 0 where
   pub empty : IsProper nothing
   pub after_each : (d : Dictionary) (o : Op) → IsProper d → Fits o → AreBytesIn o → IsProper (after d o)
-  pub after_reading : (bytes : List ℕ) (d : Dictionary) → AreBytes bytes → read_part bytes ≡ Some d → IsProper d
   pub keys : (d : Dictionary) → IsProper d → HasByteKeys d
 
 -- two different texts of the two lists have one hash
@@ -29,10 +27,6 @@ pub record TextsCollide (a b : List (List ℕ)) : Type 0 where
 abbrev pub OneRootOneDictionary : Type 0
 OneRootOneDictionary = (d e : Dictionary) → HasByteKeys d → HasByteKeys e → dictionary_root d ≡ dictionary_root e
     → (d ≡ e) ⊎ TextsCollide (node_texts (tree_of d)) (node_texts (tree_of e))
-
--- bytes are read as a dictionary exactly where it is proper, has fewer than 2^32 keys, and is spelled by these bytes
-abbrev pub PartsBothWays : Type 0
-PartsBothWays = (bytes : List ℕ) (d : Dictionary) → AreBytes bytes → (read_part bytes ≡ Some d) ↔ (IsProper d × (map.len d < 2 ^ 32) × (bytes ≡ part_text d))
 
 -- a key with this bit at i is in the dictionary
 pub record HasKeyWith (b : Bool) (i : ℕ) (d : Dictionary) : Type 0 where

@@ -19,7 +19,7 @@ use Rattle.vic_wire.specs.declared.message.ToClient.TheVariants as say
 use Rattle.vic_wire.specs.Texts.{content_text}
 use Rattle.vic_wire.specs.Hashes.{hash}
 use Rattle.vic_wire.specs.Messages.{HasRequestSpelling, answer_text, seal_field, entries_field}
-use Rattle.vic_wire.specs.Parts.{part_text, part_for, bare_part}
+use Rattle.vic_wire.specs.Parts.{part_for, bare_part}
 use Rattle.vic_wire.specs.Reading.{read_request}
 use Rattle.vic_rules.specs.Client.{first_failing, is_write}
 use Rattle.vic_spellings.specs.Spellings.{RequestHoldsBytes}
@@ -27,7 +27,7 @@ use Rattle.vic_spellings.proofs.Bytes.{bytes-cons, bytes-append, bytes-replicate
 use Rattle.vic_spellings.proofs.Steps.{bytes-nil}
 use Rattle.vic_spellings.proofs.SpelledRequests.{request_fits, request_holds_bytes}
 use Rattle.vic_roots.proofs.Proper.{proper-nothing, proper-after}
-use Rattle.vic_roots.proofs.Again.{part-bytes}
+use Rattle.vic_honest.proofs.SentParts.{sent_for, sent_update}
 use Rattle.vic_laws.proofs.Words.{all_append}
 use Rattle.vic_order.specs.declared.Stage.{Stage}
 use Rattle.vic_order.specs.declared.Stage.TheVariants as stage
@@ -97,27 +97,24 @@ bare-bytes kind lt = bytes-cons kind [] lt bytes-nil
 refused-bytes : (r : ℕ) → r < 256 → SpeaksBytes (say.Refused r)
 refused-bytes r lt = bytes-cons 0x46 (r ∷ []) (omega arith) (bare-bytes r lt)
 
-update-bytes : (x : Seal) (d : Dictionary) → SealHolds x → IsProper d → SpeaksBytes (say.Update x (part_text d))
-update-bytes x d h proper = bytes-append (0x44 ∷ seal_field x) (part_text d) (bytes-cons 0x44 (seal_field x) (omega arith) (seal_bytes x h.root h.tag)) (part-bytes d proper)
+update-bytes : (x : Seal) (part : List ℕ) → SealHolds x → AreBytes part → SpeaksBytes (say.Update x part)
+update-bytes x part h bytes = bytes-append (0x44 ∷ seal_field x) part (bytes-cons 0x44 (seal_field x) (omega arith) (seal_bytes x h.root h.tag)) bytes
 
 entries-bytes : (x : Seal) (ts : List Tagged) → SealHolds x → AllByRecursion TaggedBytes ts → SpeaksBytes (say.Entries x ts)
 entries-bytes x ts h all = bytes-append (0x45 ∷ seal_field x) (entries_field ts) (bytes-cons 0x45 (seal_field x) (omega arith) (seal_bytes x h.root h.tag)) (entries_bytes ts all)
 
-reply-bytes : (x : Seal) (ts : List Tagged) (d : Dictionary) → SealHolds x → AllByRecursion TaggedBytes ts → IsProper d → SpeaksBytes (say.Reply x ts (part_text d))
-reply-bytes x ts d h all proper =
-    bytes-append (0x42 ∷ seal_field x ++ entries_field ts) (part_text d)
+reply-bytes : (x : Seal) (ts : List Tagged) (part : List ℕ) → SealHolds x → AllByRecursion TaggedBytes ts → AreBytes part → SpeaksBytes (say.Reply x ts part)
+reply-bytes x ts part h all bytes =
+    bytes-append (0x42 ∷ seal_field x ++ entries_field ts) part
     (bytes-append (0x42 ∷ seal_field x) (entries_field ts) (bytes-cons 0x42 (seal_field x) (omega arith) (seal_bytes x h.root h.tag)) (entries_bytes ts all))
-    (part-bytes d proper)
+    bytes
 
 turn_on-bytes : (s : Server) (who : ℕ) (o : Option Ordered) (status : Option Bool) → ServerHolds s → SpeaksBytes (turn_on s who o status)
 turn_on-bytes s who None status h = bare-bytes 0x43 (omega arith)
 turn_on-bytes s who (Some o) None h = bare-bytes 0x43 (omega arith)
 turn_on-bytes s who (Some o) (Some done) h =
     elim (nat_eq o.entry.client who) as (λ b. SpeaksBytes (if b then say.Update (top_seal s) (update_part s.dictionary o.entry.op done) else say.Wait)) [
-      | true ↦ elim (done && is_write o.entry.op) as (λ b. SpeaksBytes (say.Update (top_seal s) (if b then part_for s.dictionary o.entry.op else bare_part s.dictionary))) [
-        | true ↦ update-bytes (top_seal s) s.dictionary (seal-holds s (sealed_count s) h) h.dictionary
-        | false ↦ update-bytes (top_seal s) s.dictionary (seal-holds s (sealed_count s) h) h.dictionary
-      ]
+      | true ↦ update-bytes (top_seal s) (update_part s.dictionary o.entry.op done) (seal-holds s (sealed_count s) h) (sent_update s.dictionary h.dictionary o.entry.op done).1.are_bytes
       | false ↦ bare-bytes 0x43 (omega arith)
     ]
 
@@ -193,7 +190,7 @@ module _ (s : Server) (who : ℕ) (h : ServerHolds s) where
       ∷ (3, not (is_put o) || nat_le (weight s + op_weight o) 8388608)
       ∷ (1, nat_le ((size s + 1) - known) 8192) ∷ [] in
       guards s tests _ h refl (becomes-keeps after (say.Reply (top_seal s) ts (part_for s.dictionary o)) holds
-      (reply-bytes (top_seal s) ts s.dictionary (seal-holds s (sealed_count s) h) (above-holds known after.log holds.log) h.dictionary))
+      (reply-bytes (top_seal s) ts (part_for s.dictionary o) (seal-holds s (sealed_count s) h) (above-holds known after.log holds.log) (sent_for s.dictionary h.dictionary o).are_bytes))
 
   commit-keeps : (position : ℕ) (done : Bool) (tag : Digest32) → KeepsBytes (on_request s who (ask.Commit position done tag))
   commit-keeps position done tag =

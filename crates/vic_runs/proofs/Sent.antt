@@ -32,27 +32,18 @@ use Rattle.vic_spellings.proofs.SpelledAnswers.{answer_holds_bytes}
 use Rattle.vic_laws.proofs.Steps.{Kind, is_quiet, is_called, is_replied, is_updated, is_listed}
 use Rattle.vic_laws.proofs.Standings.{standing_moved, standing_kept}
 use Rattle.vic_laws.proofs.Calls.{kind_of}
+use Rattle.vic_wire.specs.Walks.{tree_after}
+use Rattle.vic_laws.proofs.PartRoots.{StubsFit, read_stubs, root_digest, after_stubs}
 use Rattle.vic_honest.proofs.Spoken.{tag_bytes}
 use Rattle.vic_script.specs.Scenes.{or_before, payload_in, last_taken, last_sent, flipped}
 use Rattle.vic_runs.specs.Reached.{IfThere}
 
 -- ---- roots are bytes
 
-bytes-tree : (n : ℕ) (ps : List Pair) → AreBytes (root_of (tree_by n ps))
-unfolding tree_by
-bytes-tree zero ps = bytes-sha256 _
-bytes-tree (suc n) [] = bytes-sha256 _
-bytes-tree (suc n) (p ∷ []) = bytes-sha256 _
-bytes-tree (suc n) (p ∷ q ∷ ps) = bytes-sha256 _
-
-bytes-root : (d : Dictionary) → AreBytes (dictionary_root d)
-unfolding dictionary_root tree_of
-bytes-root d = bytes-tree _ _
-
-bytes-new_root : (own : Own) (part : Part) (root : List ℕ) → AreBytes root → AreBytes (new_root own part root)
-bytes-new_root own part root h =
+bytes-new_root : (own : Own) (part : Part) (root : List ℕ) → StubsFit part → AreBytes root → AreBytes (new_root own part root)
+bytes-new_root own part root stubs h =
     elim (own.done && is_write own.op) as (λ b. AreBytes (if b then root_after part own.op else root)) [
-      | true ↦ bytes-root _
+      | true ↦ (root_digest (tree_after part own.op) (after_stubs part own.op stubs)).1
       | false ↦ h
     ]
 
@@ -70,9 +61,9 @@ module _ {g : Group} {me : ℕ} {s : Standing} {i : Input} {v : Move} where
   root-next : Kind g me s i v → MayStep g s i → AreBytes s.root → AreBytes v.next.root
   root-next (is_quiet q) may h = subst AreBytes (sym q.root) h
   root-next (is_called c) may h = subst (λ m. AreBytes m.next.root) (sym c.moved) h
-  root-next (is_replied r) may h = subst (λ m. AreBytes m.next.root) (sym r.moved) (subst AreBytes r.root_is (bytes-root r.part))
+  root-next (is_replied r) may h = subst (λ m. AreBytes m.next.root) (sym r.moved) (subst AreBytes r.root_is (root_digest r.part (read_stubs r.bytes r.part r.are_bytes r.is_part)).1)
   root-next (is_updated u) may h =
-      subst (λ m. AreBytes m.next.root) (sym u.moved) (bytes-new_root u.first u.part u.seal.root.bytes (subst AreBytes u.root_is (bytes-root u.part)))
+      subst (λ m. AreBytes m.next.root) (sym u.moved) (let stubs = read_stubs u.bytes u.part u.are_bytes u.is_part in bytes-new_root u.first u.part u.seal.root.bytes stubs (subst AreBytes u.root_is (root_digest u.part stubs).1))
   root-next (is_listed l) may h =
       let answer : ToClient = say.Entries l.seal l.entries in
       let bytes : AreBytes l.payload = subst (MayStep g s) l.asked may in

@@ -6,4 +6,3 @@ pub mod Caused
 pub mod Polls
 pub mod Refusals
 mod Replays
-mod Short

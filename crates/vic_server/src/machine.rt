@@ -10,16 +10,18 @@ ghost use Rattle.vic_dict.specs.Dictionary.{Fits, after};
 ghost use Rattle.vic_wire.specs.Messages.{IsSeal, IsTagged, HasSpelling};
 ghost use Rattle.vic_wire.specs.declared.message.ToClient.TheVariants as say;
 ghost use Rattle.vic_wire.specs.Parts.{part_for};
+ghost use Rattle.vic_rules.specs.Client.{is_write as writes};
 ghost use Rattle.vic_order.specs.Order.{fresh_server, away, ready, member, set_member, size, sealed_count, no_seal, seal_at_position, ordered_at, commit_at, tagged, entries_above, op_weight, weight, update_part, with_commit, with_seal, owns_committed, turn};
 ghost use Rattle.vic_bounds.specs.Bounds.{HasShortPart};
-ghost use Rattle.vic_server.specs.Keeping.{IsWithin, status_in, pairs_weight, held_weight, freed_by, turn_from};
+ghost use Rattle.vic_server.specs.Keeping.{IsWithin, status_in, pairs_weight, turn_from};
 
 use crate::rows::{Commit, Row, SealRow, Seat};
 use std::alloc::Global;
 use std::marker::Model;
-use vic_dict::{Bytes, Mode, NoMemory, Op, PlainDict};
+use vic_dict::{Bytes, Mode, NoMemory, Op};
 use vic_order::Stage;
-use vic_proof::pairs_bytes;
+use vic_proof::{bare_bytes, cut_bytes};
+use vic_trie::Trie;
 use vic_wire::{Digest32, Seal, TaggedList, ToClient};
 
 /// A server of a group: its log, commits and seals, the sealed dictionary, and where each client stands.
@@ -31,7 +33,7 @@ pub struct Machine {
     /// By position, how the entry there was committed; at least as long as the log.
     statuses: Vec<Option<bool>>,
     seals: Vec<SealRow>,
-    dictionary: PlainDict,
+    dictionary: Trie,
     members: Vec<Seat>,
     /// Of the sealed pairs and the unsealed puts.
     weight: u64,
@@ -78,27 +80,35 @@ fn copies(alloc: Global, rows: &[Row]) -> Result<TaggedList, NoMemory>
     Ok(items)
 }
 
+fn is_write(op: &Op) -> bool
+    ensures { result ≡ writes op.now }
+{
+    matches!(op, Op::Put(_, _) | Op::Del(_))
+}
+
 /// The part that an Update carries.
 fn part_of_update(
     alloc: Global,
-    dictionary: &PlainDict,
+    dictionary: &Trie,
     op: &Op,
     done: bool,
 ) -> Result<Bytes, NoMemory>
-    requires few { map.len dictionary.now < 2 ^ 32 }
+    requires fits { Fits op.now }
     requires light { pairs_weight dictionary.now ≤ 8388608 }
     ensures is { IfOk result (λ b. b ≡ update_part dictionary.now op.now done) }
-    ensures short { IfOk result (λ b. length b ≤ 8388613) }
+    ensures short { IfOk result (λ b. length b ≤ 8471265) }
 {
-    pairs_bytes(alloc, dictionary)
+    if done && is_write(op) {
+        return cut_bytes(alloc, dictionary, op);
+    }
+    bare_bytes(alloc, dictionary)
 }
 
 /// The turn, from the seal below it, the sealed dictionary, and the first entry that isn't sealed with its commit.
-#[tactic(auto, using(crate::proofs::Weights::few_pairs))]
 fn turn_of(
     alloc: Global,
     seal: Seal,
-    dictionary: &PlainDict,
+    dictionary: &Trie,
     who: u8,
     row: Option<&Row>,
     status: Option<bool>,
@@ -116,30 +126,6 @@ fn turn_of(
             Ok(ToClient::Update { seal, part })
         }
         _ => Ok(ToClient::Wait),
-    }
-}
-
-/// What a key weighs with the value that it has, if it has one.
-fn held(dictionary: &PlainDict, key: &[u8]) -> u64
-    requires { pairs_weight dictionary.now ≤ 8388608 }
-    ensures { result ≡ held_weight key.now (map.get dictionary.now key.now) }
-{
-    let _rows = dictionary.as_slice();
-    match dictionary.get(key) {
-        Some(value) => key.len() as u64 + value.len() as u64 + 16,
-        None => 0,
-    }
-}
-
-/// What an operation takes away from the dictionary's weight, if it is done.
-fn freed(dictionary: &PlainDict, op: &Op) -> u64
-    requires { pairs_weight dictionary.now ≤ 8388608 }
-    ensures { result ≡ freed_by dictionary.now op.now }
-{
-    match op {
-        Op::Put(key, _) => held(dictionary, key.as_slice()),
-        Op::Del(key) => held(dictionary, key.as_slice()),
-        _ => 0,
     }
 }
 
@@ -167,8 +153,26 @@ pub(crate) fn op_weight(op: &Op) -> u64
     }
 }
 
+/// Does a put or del.
+fn change(dictionary: &mut Trie, op: &Op) -> Result<(), NoMemory>
+    requires fits { Fits op.now }
+    requires light { pairs_weight dictionary.old ≤ 8388608 }
+    ensures after { OnOk result (dictionary.new ≡ after dictionary.old op.now) }
+    ensures weighs { OnOk result (pairs_weight dictionary.new ≤ pairs_weight dictionary.old + op_weight op.now) }
+    ensures err { OnErr result (dictionary.new ≡ dictionary.old) }
+{
+    match op {
+        Op::Put(key, value) => dictionary.put(key.as_slice(), value.as_slice()),
+        Op::Del(key) => {
+            let _ = dictionary.del(key.as_slice());
+            Ok(())
+        }
+        _ => Ok(()),
+    }
+}
+
 /// Applies an entry to the sealed dictionary where it was done, and tells what the weight loses by that.
-fn apply(alloc: Global, dictionary: &mut PlainDict, op: &Op, done: bool) -> Result<u64, NoMemory>
+fn apply(dictionary: &mut Trie, op: &Op, done: bool) -> Result<u64, NoMemory>
     requires fits { Fits op.now }
     requires light { pairs_weight dictionary.old ≤ 8388608 }
     ensures after { OnOk result (dictionary.new ≡ (if done then after dictionary.old op.now else dictionary.old)) }
@@ -178,10 +182,9 @@ fn apply(alloc: Global, dictionary: &mut PlainDict, op: &Op, done: bool) -> Resu
     if !done {
         return Ok(op_weight(op));
     }
-    let _rows = dictionary.as_slice();
-    let freed = freed(dictionary, op);
-    dictionary.do_op(alloc, op)?;
-    Ok(freed)
+    let before = dictionary.weight();
+    change(dictionary, op)?;
+    Ok(before + op_weight(op) - dictionary.weight())
 }
 
 // ---- copies
@@ -261,7 +264,7 @@ impl Machine {
             commits: Vec::new(alloc),
             statuses: Vec::new(alloc),
             seals: Vec::new(alloc),
-            dictionary: PlainDict::new(alloc),
+            dictionary: Trie::new(alloc),
             members,
             weight: 0,
         })
@@ -306,7 +309,7 @@ impl Machine {
     pub fn pairs(&self) -> u32
         ensures { result ≡ map.len self.now.dictionary }
     {
-        self.dictionary.len() as u32
+        self.dictionary.len()
     }
 
     /// Whose the first entry is that isn't sealed, if there is one.
@@ -335,7 +338,7 @@ impl Machine {
         let commits = copied_commits(alloc, &self.commits)?;
         let statuses = copied_statuses(alloc, &self.statuses)?;
         let seals = copied_seals(alloc, &self.seals)?;
-        let dictionary = self.dictionary.copy(alloc)?;
+        let dictionary = self.dictionary.copy()?;
         let members = copied_seats(alloc, &self.members)?;
         Ok(Machine {
             mode: self.mode,
@@ -467,9 +470,9 @@ impl Machine {
         if self.commit_of(who, next).is_none() {
             return Ok(ToClient::Wait);
         }
-        let mut after = self.dictionary.copy(alloc)?;
+        let mut after = self.dictionary.copy()?;
         let row = &self.rows[seal.position as usize - 1];
-        let _freed = apply(alloc, &mut after, row.op(), done)?;
+        let _freed = apply(&mut after, row.op(), done)?;
         turn_of(
             alloc,
             seal,
@@ -508,10 +511,11 @@ impl Machine {
 
     /// The part that a Reply carries.
     pub(crate) fn part_for(&self, alloc: Global, op: &Op) -> Result<Bytes, NoMemory>
+        requires { Fits op.now }
         ensures is { IfOk result (λ b. b ≡ part_for self.now.dictionary op.now) }
-        ensures short { IfOk result (λ b. length b ≤ 8388613) }
+        ensures short { IfOk result (λ b. length b ≤ 8471265) }
     {
-        pairs_bytes(alloc, &self.dictionary)
+        cut_bytes(alloc, &self.dictionary, op)
     }
 
     // ---- what the requests change
@@ -566,7 +570,7 @@ impl Machine {
         let place = self.seals.len();
         self.seals.push(SealRow::new(seal))?;
         let row = &self.rows[place];
-        match apply(alloc, &mut self.dictionary, row.op(), done) {
+        match apply(&mut self.dictionary, row.op(), done) {
             Ok(freed) => {
                 self.weight -= freed;
                 Ok(())

@@ -6,8 +6,14 @@ use std::test::*;
 use vic_dict::{Bytes, Mode, NoMemory};
 use vic_wire::ToClient;
 
-/// A client, its request and the answer, in the spelling of messages, where the byte 255 stands for a digest.
+/// A client, its request and the answer, in the spelling of messages, where the byte 255 stands for a digest, and 254 for `ROOT`.
 type Row = (u8, &'static [u8], &'static [u8]);
+
+/// The root of the dictionary in which `a` has `x`: the hash of the bytes 03 01 61 78.
+const ROOT: [u8; 32] = [
+    0xea, 0x09, 0xc1, 0xe7, 0xf7, 0xdd, 0xd3, 0x75, 0xc0, 0x98, 0xac, 0xc3, 0x81, 0x73, 0xa2, 0x8e,
+    0x6f, 0x70, 0x55, 0xc6, 0x96, 0xe8, 0x6d, 0x66, 0x98, 0xee, 0x0e, 0xa1, 0x34, 0x38, 0xa2, 0xbb,
+];
 
 /// A server of two clients, of which the first comes in, makes two calls, seals both and leaves.
 const ROWS: [Row; 13] = [
@@ -17,10 +23,10 @@ const ROWS: [Row; 13] = [
     (
         1,
         b"\x22\0\0\0\0\0\0\0\x01\x01\x01a\x01x\xff",
-        b"\x42\0\0\0\0\0\x01\x01\0\0\0\x01\x01\x01a\x01x\xff\0\0\0\0\0",
+        b"\x42\0\0\0\0\0\x01\x01\0\0\0\x01\x01\x01a\x01x\xff\x01\0",
     ),
-    (1, b"\x23\0\0\0\x01\0\xff", b"\x44\0\0\0\0\0\0\0\0\0"),
-    (1, b"\x24", b"\x44\0\0\0\0\0\0\0\0\0"),
+    (1, b"\x23\0\0\0\x01\0\xff", b"\x44\0\0\0\0\x01\0"),
+    (1, b"\x24", b"\x44\0\0\0\0\x01\0"),
     (1, b"\x25\0\0\0\x01\xff\xff", b"\x43"),
     (1, b"\x24", b"\x43"),
     (
@@ -28,16 +34,16 @@ const ROWS: [Row; 13] = [
         b"\x26\0\0\0\0",
         b"\x45\0\0\0\x01\xff\xff\0\x01\x01\0\0\0\x01\x01\x01a\x01x\xff",
     ),
-    // Get `a`: the Reply has this entry alone, and the sealed dictionary.
+    // Get `a`: the Reply has this entry alone, and the leaf; the Update has the root alone.
     (
         1,
         b"\x22\0\0\0\x01\0\0\0\x02\x02\x01a\xff",
-        b"\x42\0\0\0\x01\xff\xff\0\x01\x01\0\0\0\x02\x02\x01a\xff\0\0\0\0\x01\x01a\x01x",
+        b"\x42\0\0\0\x01\xff\xff\0\x01\x01\0\0\0\x02\x02\x01a\xff\x01\x01\x01a\x01x",
     ),
     (
         1,
         b"\x23\0\0\0\x02\0\xff",
-        b"\x44\0\0\0\x01\xff\xff\0\0\0\0\x01\x01a\x01x",
+        b"\x44\0\0\0\x01\xff\xff\x01\x03\xfe",
     ),
     (1, b"\x25\0\0\0\x02\xff\xff", b"\x43"),
     (1, b"\x29", b"\x49"),
@@ -49,6 +55,8 @@ fn payload_of(alloc: Global, text: &[u8]) -> Result<Bytes, NoMemory> {
     for byte in text {
         if *byte == 255 {
             payload.append(&[7; 32])?;
+        } else if *byte == 254 {
+            payload.append(&ROOT)?;
         } else {
             payload.push(*byte)?;
         }

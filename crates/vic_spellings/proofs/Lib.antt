@@ -8,3 +8,4 @@ pub mod SpelledAnswers
 pub mod SpelledRequests
 pub mod Holding
 pub mod Laws
+pub mod SpelledParts

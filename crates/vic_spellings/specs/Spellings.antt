@@ -10,6 +10,8 @@ use Rattle.vic_wire.specs.declared.message.ToClient.{ToClient}
 use Rattle.vic_wire.specs.declared.message.ToClient.TheVariants as say
 use Rattle.vic_wire.specs.Messages.{request_text, answer_text, HasRequestSpelling, HasSpelling}
 use Rattle.vic_wire.specs.Reading.{read_request, read_answer}
+use Rattle.vic_wire.specs.Trees.{Empty, Leaf, Inner, Stub}
+use Rattle.vic_wire.specs.Parts.{Part, IsPart, part_text, read_part}
 
 -- ---- the digests, parts and contents of a message are bytes
 
@@ -59,3 +61,19 @@ pub record RequestsAreSpelled : Type 0 where
   pub none : (bytes : List ℕ) → AreBytes bytes → (read_request bytes ≡ None) ↔ ((m : ToServer) → HasRequestSpelling m → bytes ≡ request_text m → ⊥)
   pub once : (m n : ToServer) → HasRequestSpelling m → HasRequestSpelling n → request_text m ≡ request_text n → m ≡ n
   pub in_bytes : (m : ToServer) → HasRequestSpelling m → AreBytes (request_text m) ↔ RequestHoldsBytes m
+
+-- ---- parts
+
+-- the keys, values and roots of a part are bytes
+abbrev pub PartHoldsBytes : Part → Type 0
+PartHoldsBytes Empty = Unit {0}
+PartHoldsBytes (Leaf k v) = AreBytes k × AreBytes v
+PartHoldsBytes (Inner i l r) = PartHoldsBytes l × PartHoldsBytes r
+PartHoldsBytes (Stub root) = AreBytes root
+
+-- the same of parts
+pub record PartsAreSpelled : Type 0 where
+  pub found : (bytes : List ℕ) (part : Part) → AreBytes bytes → read_part bytes ≡ Some part → IsPart part × (bytes ≡ part_text part)
+  pub again : (part : Part) → IsPart part → read_part (part_text part) ≡ Some part
+  pub once : (part other : Part) → IsPart part → IsPart other → part_text part ≡ part_text other → part ≡ other
+  pub in_bytes : (part : Part) → IsPart part → AreBytes (part_text part) ↔ PartHoldsBytes part

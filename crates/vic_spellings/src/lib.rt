@@ -5,7 +5,7 @@
 //! lemmas in `proofs/` say the same of each field.
 #![tactic(auto)]
 
-ghost use Rattle.vic_spellings.specs.Spellings.{AnswersAreSpelled, RequestsAreSpelled};
+ghost use Rattle.vic_spellings.specs.Spellings.{AnswersAreSpelled, RequestsAreSpelled, PartsAreSpelled};
 
 /// An answer is read of a payload of bytes exactly where the payload is the answer's spelling, and no two answers share one.
 pub fn answers()
@@ -15,4 +15,9 @@ pub fn answers()
 /// A request is read of a payload of bytes exactly where the payload is the request's spelling, and no two requests share one.
 pub fn requests()
     ensures { RequestsAreSpelled }
+{}
+
+/// A part is read of bytes exactly where they are its spelling, and no two parts share one.
+pub fn parts()
+    ensures { PartsAreSpelled }
 {}

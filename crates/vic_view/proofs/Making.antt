@@ -4,6 +4,7 @@ use Rattle.std.specs.Option.{option_to_list}
 use Rattle.sha2.proofs.Facts256.{length-sha256}
 use Rattle.vic_dict.specs.declared.op.Op.{Op}
 use Rattle.vic_dict.specs.declared.op.Entry.{Entry}
+use Rattle.vic_dict.specs.Lists.{AreBytes}
 use Rattle.vic_dict.specs.Dictionary.{Dictionary, Fits, AreBytesIn}
 use Rattle.vic_dict.specs.Lists.{front}
 use Rattle.vic_wire.specs.declared.message.Seal.{Seal}
@@ -13,7 +14,7 @@ use Rattle.vic_wire.specs.Texts.{invoke_text, commit_text, seal_text}
 use Rattle.vic_wire.specs.Hashes.{Group, chain, tag_of}
 use Rattle.vic_wire.specs.Messages.{HasRequestSpelling}
 use Rattle.vic_wire.specs.Trees.{Pair, dictionary_root, tree_of, tree_by, root_of}
-use Rattle.vic_wire.specs.Parts.{Part}
+use Rattle.vic_wire.specs.Parts.{Part, read_part, root_after}
 use Rattle.vic_spellings.proofs.SpelledRequests.{request_again}
 use Rattle.vic_rules.specs.declared.state.Own.{Own}
 use Rattle.vic_rules.specs.declared.trace.Input.{Input}
@@ -21,6 +22,8 @@ use Rattle.vic_rules.specs.declared.trace.TraceStep.{TraceStep}
 use Rattle.vic_rules.specs.Client.{Standing, Move, Sending, Invokes, Commits, Polls, Seals, Syncs, step, request_of, payload_of, made_text, commit_text_on, seal_text_on, seal_of, entries_of, new_root, is_write}
 use Rattle.vic_rules.specs.History.{standing, path, move_of, AreSteps}
 use Rattle.vic_rules.specs.Trust.{taken_by, took, seal_texts, checked_texts, texts_taken, text_sent, texts_made}
+use Rattle.vic_wire.specs.Walks.{tree_after}
+use Rattle.vic_laws.proofs.PartRoots.{after_stubs, read_stubs, root_digest}
 use Rattle.vic_laws.proofs.Words.{some_same, none_is_some}
 use Rattle.vic_laws.proofs.Steps.{Kind, is_quiet, is_called, is_replied, is_updated, is_listed}
 use Rattle.vic_laws.proofs.StepKinds.{step_kind}
@@ -49,23 +52,13 @@ length-tag : (key text : List ℕ) → length (tag_of key text) ≡ 32
 unfolding tag_of
 length-tag key text = length-sha256 _
 
-length-tree : (n : ℕ) (ps : List Pair) → length (root_of (tree_by n ps)) ≡ 32
-unfolding tree_by
-length-tree zero ps = length-sha256 _
-length-tree (suc n) [] = length-sha256 _
-length-tree (suc n) (p ∷ []) = length-sha256 _
-length-tree (suc n) (p ∷ q ∷ ps) = length-sha256 _
-
-length-dictionary_root : (d : Dictionary) → length (dictionary_root d) ≡ 32
-unfolding dictionary_root tree_of
-length-dictionary_root d = length-tree _ _
-
 either_root : (b : Bool) (a root : List ℕ) → length a ≡ 32 → length root ≡ 32 → length (if b then a else root) ≡ 32
 either_root true a root x y = x
 either_root false a root x y = y
 
-length-new_root : (o : Own) (part : Part) (root : List ℕ) → length root ≡ 32 → length (new_root o part root) ≡ 32
-length-new_root o part root e = either_root (o.done && is_write o.op) _ root (length-dictionary_root _) e
+length-new_root : (o : Own) (bytes : List ℕ) (part : Part) (root : List ℕ) → AreBytes bytes → read_part bytes ≡ Some part → length root ≡ 32 → length (new_root o part root) ≡ 32
+length-new_root o bytes part root are read e =
+    either_root (o.done && is_write o.op) (root_after part o.op) root (root_digest (tree_after part o.op) (after_stubs part o.op (read_stubs bytes part are read))).0 e
 
 quiet_spelled : (g : Group) (me : ℕ) (s : Standing) (sending : Sending) → text_sent g me s (Some sending) ≡ [] → length s.path ≤ 1048576 → HasRequestSpelling (request_of g me s sending)
 quiet_spelled g me s (Invokes n o) e few = absurd cc
@@ -106,7 +99,7 @@ spelled_by g me s i v (is_updated k) few =
     let root : v.next.root ≡ new_root k.first k.part k.seal.root.bytes = ap (λ (m : Move). m.next.root) k.moved in
     let below : k.seal.position ≤ length s.path = k.sealing.within in
     spelled_one g me v Seals (ap (λ (m : Move). m.sends) k.moved)
-    (seal_spelled g me v.next (omega (arith, sealed)) (omega (arith, sealed, below)) (ap length root ∙ length-new_root k.first k.part k.seal.root.bytes k.sealing.spelled.root))
+    (seal_spelled g me v.next (omega (arith, sealed)) (omega (arith, sealed, below)) (ap length root ∙ length-new_root k.first k.bytes k.part k.seal.root.bytes k.are_bytes k.is_part k.sealing.spelled.root))
 spelled_by g me s i v (is_listed k) few =
     λ sending e. absurd (none_is_some (sym (ap (λ (m : Move). m.sends) k.moved) ∙ e))
 

@@ -2,6 +2,8 @@ pub mod Texts
 pub mod Hashes
 pub mod Bits
 pub mod Trees
+pub mod Walks
+pub mod Cuts
 pub mod Conflict
 pub mod Messages
 pub mod Reading

@@ -31,6 +31,13 @@ node_texts (Stub root) = []
 abbrev pub Pair : Type 0
 Pair = List ℕ × List ℕ
 
+-- the pairs at the leaves, from the left
+abbrev pub pairs_of : Tree → List Pair
+pairs_of Empty = []
+pairs_of (Leaf k v) = (k, v) ∷ []
+pairs_of (Inner i l r) = pairs_of l ++ pairs_of r
+pairs_of (Stub root) = []
+
 -- the longest common prefix of the bits of all keys
 unfoldable pub common_bits : List Pair → List Bool
 common_bits [] = []

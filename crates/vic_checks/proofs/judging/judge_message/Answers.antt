@@ -50,7 +50,7 @@ returns-then-not-is_proved-clause-exact c = λ s h.
     passes _ _ _ _ (sym (c.goes_on.ensures.exact s (h.sealed ∙ sym c.sealed.ensures)) ∙ c.if-not-goes_on.false) (
     passes _ _ _ _ (sym (c.is_sealed.ensures (group_of c.args.state.now) s.path refl h.path) ∙ c.if-not-is_sealed.false) (
     passes _ _ _ _ (sym (c.keeps_own.ensures s h.own) ∙ c.if-not-keeps_own.false) (
-    fails _ _ _ (sym (c.is_proved.ensures s) ∙ c.if-not-is_proved.true)))))))
+    fails _ _ _ (sym (c.is_proved.ensures.exact s h.own h.awaiting) ∙ c.if-not-is_proved.true)))))))
 
 pub returns-then-not-has_turn-clause-exact : goal.returns-then-not-has_turn-clause-exact
 returns-then-not-has_turn-clause-exact c = λ s h.
@@ -60,7 +60,7 @@ returns-then-not-has_turn-clause-exact c = λ s h.
     passes _ _ _ _ (sym (c.goes_on.ensures.exact s (h.sealed ∙ sym c.sealed.ensures)) ∙ c.if-not-goes_on.false) (
     passes _ _ _ _ (sym (c.is_sealed.ensures (group_of c.args.state.now) s.path refl h.path) ∙ c.if-not-is_sealed.false) (
     passes _ _ _ _ (sym (c.keeps_own.ensures s h.own) ∙ c.if-not-keeps_own.false) (
-    passes _ _ _ _ (sym (c.is_proved.ensures s) ∙ c.if-not-is_proved.false) (
+    passes _ _ _ _ (sym (c.is_proved.ensures.exact s h.own h.awaiting) ∙ c.if-not-is_proved.false) (
     fails _ _ _ (sym (c.has_turn.ensures.exact s h.own) ∙ c.if-not-has_turn.true))))))))
 
 pub returns-clause-exact : goal.returns-clause-exact
@@ -71,6 +71,6 @@ returns-clause-exact c = λ s h.
     passes _ _ _ _ (sym (c.goes_on.ensures.exact s (h.sealed ∙ sym c.sealed.ensures)) ∙ c.if-not-goes_on.false) (
     passes _ _ _ _ (sym (c.is_sealed.ensures (group_of c.args.state.now) s.path refl h.path) ∙ c.if-not-is_sealed.false) (
     passes _ _ _ _ (sym (c.keeps_own.ensures s h.own) ∙ c.if-not-keeps_own.false) (
-    passes _ _ _ _ (sym (c.is_proved.ensures s) ∙ c.if-not-is_proved.false) (
+    passes _ _ _ _ (sym (c.is_proved.ensures.exact s h.own h.awaiting) ∙ c.if-not-is_proved.false) (
     passes _ _ _ _ (sym (c.has_turn.ensures.exact s h.own) ∙ c.if-not-has_turn.false) (
     refl))))))))

@@ -1,5 +1,7 @@
 use Rattle.std.proofs.Common.{◌≡◌, ◌<◌, Option, Some, length, IfOk, sym, ap, ◌∙◌, subst, arith}
-use Rattle.vic_wire.specs.Parts.{Part}
+use Rattle.vic_prune.specs.declared.pruned.Pruned.{Pruned}
+use Rattle.vic_prune.specs.Parts.{part}
+use Rattle.vic_checks.specs.Parted.{seen}
 use Rattle.vic_rules.specs.declared.state.Awaiting.{Awaiting}
 use Rattle.vic_rules.specs.Client.{Move, halts, grown, replied}
 use Rattle.vic_checks.proofs.Paths.{length-onto}
@@ -17,8 +19,8 @@ returns-in-Some-Some-clause-taken c = λ s st.
     let op = c.in-Some-Some.op in
     let asked : op_in s.awaiting ≡ Some op = ap (λ (a : Awaiting). op_in a) st.awaiting ∙ sym c.in_ok-op.ensures ∙ c.in-Some-Some.is-0 in
     let some : 0 < length (grown s entries) = omega (arith, length-onto entries s.path, c.requires.spelled.1.0) in
-    let is = replied_is old.id s seal entries c.in-Some-Some.part s.awaiting op some asked in
-    subst (λ (part : Option Part). IfOk c.take_reply.result (λ p. Hears old p c.take_reply.new.state s (replied old.id s seal (grown s entries) part s.awaiting))) (sym c.in-Some-Some.is-1)
+    let is = replied_is old.id s seal entries (part c.in-Some-Some.part) s.awaiting op some asked in
+    subst (λ (x : Option Pruned). IfOk c.take_reply.result (λ p. Hears old p c.take_reply.new.state s (replied old.id s seal (grown s entries) (seen x) s.awaiting))) (sym c.in-Some-Some.is-1)
     (subst (λ (v : Move). IfOk c.take_reply.result (λ p. Hears old p c.take_reply.new.state s v)) (sym is) (c.take_reply.ensures.taken s st))
 
 pub returns-in_default-clause-taken : goal.returns-in_default-clause-taken
@@ -26,11 +28,11 @@ returns-in_default-clause-taken c = λ s st.
     let me = c.args.state.now.id in
     let seal = c.args.seal.now in
     let path = grown s c.args.entries.now in
-    let v = replied me s seal path c.args.part s.awaiting in
+    let v = replied me s seal path (seen c.args.part) s.awaiting in
     let asked : op_in s.awaiting ≡ c.in_ok-op.field-0 = ap (λ (a : Awaiting). op_in a) st.awaiting ∙ sym c.in_ok-op.ensures in
     let halting : v ≡ halts s 1 = elim c.in_default.branch [
       | in_default-via-in-Some+in_default w ↦
-          ap (λ (part : Option Part). replied me s seal path part s.awaiting) w.in_default.is-1 ∙ replied_bare me s seal path s.awaiting
-      | in_default-via-in_default w ↦ replied_unasked me s seal path c.args.part s.awaiting (asked ∙ w.in_default.is-0)
+          ap (λ (x : Option Pruned). replied me s seal path (seen x) s.awaiting) w.in_default.is-1 ∙ replied_bare me s seal path s.awaiting
+      | in_default-via-in_default w ↦ replied_unasked me s seal path (seen c.args.part) s.awaiting (asked ∙ w.in_default.is-0)
     ] in
     hears_halts c.args.state.now c.halts.result s v 1 c.halts.ensures st halting

@@ -14,6 +14,7 @@ use Rattle.vic_client.specs.declared.pending.Effect.{Effect}
 use Rattle.vic_client.specs.declared.pending.Effect.TheVariants as effect
 use Rattle.vic_client.specs.declared.pending.Pending.{Pending}
 use Rattle.vic_client.specs.Hearing.{IsSoundState, IsPendingIn, Hears, reply_move}
+use Rattle.vic_prune.specs.Parts.{part}
 use Rattle.vic_client.proofs.Pendings.{joined_sound, replies_pending}
 use Rattle.vic_client.proofs.taking.take_reply.Goals as goal
 
@@ -48,8 +49,8 @@ returns-in-Ok-clause-taken c = λ s st.
     let window = c.extend_all.new.window in
     let seal = c.args.seal.now in
     let p : List Entry = grown s c.args.entries.now in
-    let ends = decision old.id s (below_last s c.args.entries.now) seal.position c.args.part c.args.op in
-    let v = reply_move old.id s seal c.args.entries.now c.args.part c.args.op in
+    let ends = decision old.id s (below_last s c.args.entries.now) seal.position (part c.args.part.now) c.args.op in
+    let v = reply_move old.id s seal c.args.entries.now (part c.args.part.now) c.args.op in
     let made = c.in_ok-extend_all.ensures in
     let decided : c.in_ok-outcome.outcome ≡ ends = c.in_ok-outcome.ensures s st in
     let shown : ShowsPath g p window = subst (λ (ts : List Tagged). ShowsPath g (onto ts s.path) window) c.as_slice.ensures (made.ok g s st.path) in

@@ -1,0 +1,4 @@
+pub mod Nodes
+pub mod OnCuts
+pub mod Gathered
+pub mod Listing

@@ -1,0 +1,97 @@
+-- Bits of lists and of keys.
+use Rattle.std.proofs.Common.{◌≡◌, ℕ, zero, suc, ◌+◌, ◌-◌, ◌*◌, ◌/◌, ◌%◌, ◌^◌, ◌<◌, ◌≤◌, Bool, true, false, List, [], ◌∷◌, ◌++◌, length, drop, get_or, refl, ap, ◌∙◌, arith, add-one, eqb}
+use Rattle.std.proofs.Math.Nat.{mod-lt}
+use Rattle.vic_wire.specs.Bits.{is_odd, bits_of_byte, key_bits, bit_of, key_bit, common}
+
+-- ---- a bit by its byte
+
+pub bit_of-left : (bs cs : List Bool) (i : ℕ) → i < length bs → bit_of (bs ++ cs) i ≡ bit_of bs i
+bit_of-left [] cs i h = absurd (omega arith)
+bit_of-left (b ∷ bs) cs zero h = refl
+bit_of-left (b ∷ bs) cs (suc i) h = bit_of-left bs cs i (omega arith)
+
+pub bit_of-right : (bs cs : List Bool) (i : ℕ) → bit_of (bs ++ cs) (length bs + i) ≡ bit_of cs i
+bit_of-right [] cs i = ap (bit_of cs) (omega arith)
+bit_of-right (b ∷ bs) cs i = ap (bit_of (b ∷ (bs ++ cs))) {x = suc (length bs) + i} {y = suc (length bs + i)} (omega arith) ∙ bit_of-right bs cs i
+
+pub key_bit-later : (b : ℕ) (key : List ℕ) (i : ℕ) → key_bit (b ∷ key) (9 + i) ≡ key_bit key i
+unfolding key_bit key_bits bits_of_byte
+key_bit-later b key i = bit_of-right (true ∷ bits_of_byte b) (key_bits key) i
+
+pub key_bit-first : (b : ℕ) (key : List ℕ) (i : ℕ) → i < 9 → key_bit (b ∷ key) i ≡ bit_of (true ∷ bits_of_byte b) i
+unfolding key_bit key_bits bits_of_byte
+key_bit-first b key i h = bit_of-left (true ∷ bits_of_byte b) (key_bits key) i h
+
+pub key_bit-nothing : (i : ℕ) → key_bit [] i ≡ false
+unfolding key_bit key_bits
+key_bit-nothing zero = refl
+key_bit-nothing (suc i) = refl
+
+pub length-key_bits : (key : List ℕ) → length (key_bits key) ≡ 9 * length key + 1
+unfolding key_bits bits_of_byte
+length-key_bits [] = refl
+length-key_bits (b ∷ key) = omega (arith, length-key_bits key)
+
+-- bit i of a key lies in the byte i / 9
+pub key_bit-at : (key : List ℕ) (q r : ℕ) → r < 9 → q < length key → key_bit key (9 * q + r) ≡ bit_of (true ∷ bits_of_byte (get_or key q 0)) r
+key_bit-at [] q r h g = absurd (omega arith)
+key_bit-at (b ∷ key) zero r h g = ap (key_bit (b ∷ key)) {x = 9 * 0 + r} {y = r} (omega arith) ∙ key_bit-first b key r h
+key_bit-at (b ∷ key) (suc q) r h g = ap (key_bit (b ∷ key)) {x = 9 * suc q + r} {y = 9 + (9 * q + r)} (omega arith) ∙ key_bit-later b key (9 * q + r) ∙ key_bit-at key q r h (omega arith)
+
+pub key_bit-past : (key : List ℕ) (q r : ℕ) → length key ≤ q → key_bit key (9 * q + r) ≡ false
+key_bit-past [] q r h = key_bit-nothing (9 * q + r)
+key_bit-past (b ∷ key) zero r h = absurd (omega arith)
+key_bit-past (b ∷ key) (suc q) r h = ap (key_bit (b ∷ key)) {x = 9 * suc q + r} {y = 9 + (9 * q + r)} (omega arith) ∙ key_bit-later b key (9 * q + r) ∙ key_bit-past key q r (omega arith)
+
+-- one bit of a byte
+pub byte_bit : (b r : ℕ) → 0 < r → r < 9 → bit_of (true ∷ bits_of_byte b) r ≡ is_odd (b / 2 ^ (8 - r))
+unfolding bits_of_byte
+byte_bit b zero p h = absurd (omega arith)
+byte_bit b (suc zero) p h = refl
+byte_bit b (suc (suc zero)) p h = refl
+byte_bit b (suc (suc (suc zero))) p h = refl
+byte_bit b (suc (suc (suc (suc zero)))) p h = refl
+byte_bit b (suc (suc (suc (suc (suc zero))))) p h = refl
+byte_bit b (suc (suc (suc (suc (suc (suc zero)))))) p h = refl
+byte_bit b (suc (suc (suc (suc (suc (suc (suc zero))))))) p h = refl
+byte_bit b (suc (suc (suc (suc (suc (suc (suc (suc zero)))))))) p h = refl
+byte_bit b (suc (suc (suc (suc (suc (suc (suc (suc (suc r))))))))) p h = absurd (omega arith)
+
+-- ---- the bits of a byte, one after another
+
+pub drop-bits : (b n : ℕ) → n < 8 → drop n (bits_of_byte b) ≡ is_odd (b / 2 ^ (7 - n)) ∷ drop (suc n) (bits_of_byte b)
+unfolding bits_of_byte
+drop-bits b zero h = refl
+drop-bits b (suc zero) h = refl
+drop-bits b (suc (suc zero)) h = refl
+drop-bits b (suc (suc (suc zero))) h = refl
+drop-bits b (suc (suc (suc (suc zero)))) h = refl
+drop-bits b (suc (suc (suc (suc (suc zero))))) h = refl
+drop-bits b (suc (suc (suc (suc (suc (suc zero)))))) h = refl
+drop-bits b (suc (suc (suc (suc (suc (suc (suc zero))))))) h = refl
+drop-bits b (suc (suc (suc (suc (suc (suc (suc (suc n)))))))) h = absurd (omega arith)
+
+common-same : (b c : Bool) (bs cs : List Bool) → b ≡ c → length (common (b ∷ bs) (c ∷ cs)) ≡ suc (length (common bs cs))
+common-same true true bs cs e = refl
+common-same false false bs cs e = refl
+common-same true false bs cs e = cc
+common-same false true bs cs e = cc
+
+common-differ : (g h : ℕ) (bs cs : List Bool) → g < 2 → h < 2 → (g ≡ h → ⊥) → length (common (eqb g 1 ∷ bs) (eqb h 1 ∷ cs)) ≡ 0
+common-differ zero zero bs cs p q e = absurd (e refl)
+common-differ zero (suc zero) bs cs p q e = refl
+common-differ (suc zero) zero bs cs p q e = refl
+common-differ (suc zero) (suc zero) bs cs p q e = absurd (e refl)
+common-differ zero (suc (suc h)) bs cs p q e = absurd (omega arith)
+common-differ (suc zero) (suc (suc h)) bs cs p q e = absurd (omega arith)
+common-differ (suc (suc g)) h bs cs p q e = absurd (omega arith)
+
+pub alike_more : (n x y : ℕ) → n < 8 → x / 2 ^ (7 - n) % 2 ≡ y / 2 ^ (7 - n) % 2 → length (common (drop n (bits_of_byte x)) (drop n (bits_of_byte y))) ≡ suc (length (common (drop (n + 1) (bits_of_byte x)) (drop (n + 1) (bits_of_byte y))))
+alike_more n x y h e = rw add-one ((λ i. length (common (drop-bits x n h i) (drop-bits y n h i))) ∙ common-same _ _ _ _ (ap (λ m. eqb m 1) e))
+
+pub alike_none : (n x y : ℕ) → n < 8 → (x / 2 ^ (7 - n) % 2 ≡ y / 2 ^ (7 - n) % 2 → ⊥) → length (common (drop n (bits_of_byte x)) (drop n (bits_of_byte y))) ≡ 0
+alike_none n x y h e = (λ i. length (common (drop-bits x n h i) (drop-bits y n h i))) ∙ common-differ _ _ _ _ (mod-lt (x / 2 ^ (7 - n)) (omega arith)) (mod-lt (y / 2 ^ (7 - n)) (omega arith)) e
+
+pub alike_end : (n x y : ℕ) → n ≡ 8 → length (common (drop n (bits_of_byte x)) (drop n (bits_of_byte y))) ≡ 0
+unfolding bits_of_byte
+alike_end n x y e = ap (λ m. length (common (drop m (bits_of_byte x)) (drop m (bits_of_byte y)))) e

@@ -1,0 +1,4 @@
+pub mod Nodes
+pub mod Tries
+pub mod Weights
+pub mod Undoing
