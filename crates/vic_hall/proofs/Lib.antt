@@ -1,3 +1,4 @@
+mod Crossing
 pub mod Lones
 pub mod Places
 pub mod Recorded

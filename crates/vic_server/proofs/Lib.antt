@@ -1,3 +1,4 @@
+pub mod Crossing
 pub mod Logs
 pub mod Weights
 pub mod Sound

@@ -1,3 +1,4 @@
+pub mod Crossing
 pub mod Nodes
 pub mod Kept
 pub mod Undone
