@@ -11,7 +11,7 @@ use Rattle.vic_rules.specs.History.{standing}
 use Rattle.vic_client.specs.declared.pending.Pending.{Pending}
 use Rattle.vic_client.specs.Kept.{Kept, StandsFor, group_of, is_idle}
 use Rattle.vic_client.specs.Pending.{kept, IsPendingOf}
-use Rattle.vic_script.specs.Scenes.{queued, or_before, payload_in}
+use Rattle.vic_order.specs.Scenes.{queued, or_before, payload_in}
 use Rattle.vic_group.specs.declared.member.Member.{Member}
 use Rattle.vic_group.specs.World.{MemberStands, Acts, CanAsk, step_at}
 use Rattle.vic_group.proofs.Members.{taken_now, sent_now, stands_next}

@@ -7,7 +7,8 @@ use Rattle.vic_dict.specs.declared.op.Mode.{Mode}
 use Rattle.vic_wire.specs.Hashes.{Group}
 use Rattle.vic_view.specs.declared.transcript.Transcript.{Transcript}
 use Rattle.vic_view.specs.Transcripts.{group_of}
-use Rattle.vic_script.specs.Scenes.{SceneOf, stands, is_client, asked_tests}
+use Rattle.vic_order.specs.Scenes.{SceneOf, stands, is_client}
+use Rattle.vic_script.specs.Scenes.{asked_tests}
 use Rattle.vic_group.specs.declared.member.Member.{Member}
 use Rattle.vic_group.specs.World.{Shows}
 use Rattle.vic_group.proofs.Scenes.{stands_here}

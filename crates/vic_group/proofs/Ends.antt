@@ -15,7 +15,8 @@ use Rattle.vic_laws.proofs.RealTime.{views_in_order}
 use Rattle.vic_laws.proofs.SealsHeld.{seals_hold}
 use Rattle.vic_runs.proofs.Agreed.{agreements_reach}
 use Rattle.vic_script.proofs.Forged.{is_forged-Decides}
-use Rattle.vic_runs.proofs.Runs.{all_hold, run_is_honest, none_forged}
+use Rattle.vic_order.specs.Honest.{IsSame}
+use Rattle.vic_runs.proofs.Runs.{all_hold, holds_at, all_honest, none_forged}
 use Rattle.vic_runs.proofs.Halted.{none_for_halting}
 use Rattle.vic_runs.proofs.Prints.{prints_returns}
 use Rattle.vic_group.specs.declared.play.End.{End}
@@ -189,9 +190,9 @@ said_last p good = ap (λ b. p.text ++ end_text (group_in p.scene) (history_in p
 
 honestly : (script : List ℕ) → is_honest_script script ≡ true → IsHonest script
 honestly script honest = record {
-  run = (run_is_honest script honest).run;
+  comes = all_honest script honest;
   tags_made = (none_forged script honest).0;
-  scene = (run_is_honest script honest).scene;
+  holds = λ s is. holds_at IsSame s (all_honest script honest s is);
   none_halted = none_for_halting script honest;
 }
 

@@ -13,7 +13,7 @@ use Rattle.vic_wire.specs.Hashes.{Group, IsGroup}
 use Rattle.vic_rules.specs.declared.trace.TraceStep.{TraceStep}
 use Rattle.vic_view.specs.declared.transcript.Transcript.{Transcript}
 use Rattle.vic_view.specs.Transcripts.{steps_of, group_of}
-use Rattle.vic_script.specs.Scenes.{server_at, opening_with}
+use Rattle.vic_order.specs.Scenes.{server_at, opening_with}
 use Rattle.vic_group.specs.declared.member.Member.{Member}
 use Rattle.vic_group.specs.Members.{AllStand}
 use Rattle.vic_group.specs.World.{MemberStands, Shows}

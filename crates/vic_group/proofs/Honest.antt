@@ -11,14 +11,15 @@ use Rattle.vic_order.specs.Order.{fresh_server, ready, same_mode}
 use Rattle.vic_order.specs.Serving.{Serving, AnswersAs}
 use Rattle.vic_script.specs.declared.line.Line.{Line}
 use Rattle.vic_script.specs.declared.line.Line.TheVariants as line
-use Rattle.vic_script.specs.Scenes.{SceneOf, opening_with, serves, turns, done_line, bad_kind, asked_tests, is_honest_line, fits_op, is_plain_call}
+use Rattle.vic_order.specs.Scenes.{SceneOf, opening_with, serves, after_moves}
+use Rattle.vic_script.specs.Scenes.{turns, done_line, bad_kind, asked_tests, is_honest_line, fits_op, is_plain_call}
 use Rattle.vic_runs.specs.Claims.{FitsLine}
 use Rattle.vic_runs.specs.Reached.{IsHonestlyReached}
 use Rattle.vic_runs.proofs.Tests.{passed, client_is, called_is, fits_op_is}
 use Rattle.vic_runs.proofs.Lines.{HasCallLeft}
 use Rattle.vic_runs.proofs.Kept.{alike_is_kept}
 use Rattle.vic_runs.proofs.Honest.{honest-more, honest-opening, honest-line, honest-left}
-use Rattle.vic_runs.proofs.HonestScenes.{honest_is_honest_scene}
+use Rattle.vic_runs.proofs.Runs.{holds_at}
 use Rattle.vic_group.specs.declared.world.World.{World}
 use Rattle.vic_group.specs.World.{ShowsScene, HasBytes, MayDo, IsLeft, Does, StandsHonestly, states}
 use Rattle.vic_group.proofs.Scenes.{stands_here}
@@ -36,7 +37,7 @@ fits_test r o is = by_both r (fits_op o) (λ e. (fits_op_is o).1 (is.0 e)) (λ e
 module _ {S V : Type 0} (state : S → V) (rule : Serving V) where
   -- a scene that is honestly reached, and that a world shows
   pub stands_at : (w : World S) (s : SceneOf V) (n : ℕ) → ShowsScene state w s → IsHonestlyReached (AnswersAs rule) s n → StandsHonestly state rule w n
-  stands_at w s n shows r = record { scene = s; shows = shows; reached = r; holds = honest_is_honest_scene (AnswersAs rule) s n r }
+  stands_at w s n shows r = record { scene = s; shows = shows; reached = r; holds = holds_at (AnswersAs rule) s r.comes }
 
   -- the opening, with a server that answers as one that has all clients ready
   pub stands_opening : (w : World S) (g : Group) (v : V) → ShowsScene state w (opening_with g v) → IsGroup g → g.mode ≡ mode.Plain → AnswersAs rule v (fresh_server g.mode g.count ready) → StandsHonestly state rule w 0
@@ -105,8 +106,8 @@ module _ {S V : Type 0} (state : S → V) (rule : Serving V) where
       let bounds = client_is s i left.0 in
       let both = honest-left (AnswersAs rule) rule (alike_is_kept rule) s n r i bounds.0 bounds.1 left.1.0 in
       elim left.1.1.1 [
-        | inl turned ↦ left_at new (turns rule left.1.0 s i).scene n turned both.0
-        | inr served ↦ left_at new (serves rule (turns rule left.1.0 s i).scene i) n served both.1
+        | inl turned ↦ left_at new (after_moves rule s (turns rule left.1.0 s i)) n turned both.0
+        | inr served ↦ left_at new (serves rule (after_moves rule s (turns rule left.1.0 s i)) i) n served both.1
       ]
   left_so new s n (line.Clients k) r left = left_at new s n left r
   left_so new s n (line.Key digits) r left = left_at new s n left r

@@ -11,11 +11,12 @@ use Rattle.vic_order.specs.Serving.{Serving}
 use Rattle.vic_script.specs.declared.line.Line.{Line}
 use Rattle.vic_script.specs.declared.line.Line.TheVariants as line
 use Rattle.vic_script.specs.Lines.{is_place}
-use Rattle.vic_script.specs.Scenes.{SceneOf, ShownOf, quietly, steps, serves, unchanged, flipped, hears_aloud, most_turns, turns, resends, copies, joins, last_taken, last_sent, is_client, is_server, server_at, is_plain_call, asked_tests, line_tests, waits_in, has_byte, bad_kind, done_line}
+use Rattle.vic_order.specs.Scenes.{SceneOf, steps, serves, resends, copies, joins, last_taken, last_sent, is_client, is_server, server_at, waits_in, has_byte, Move, Asks, Takes, Flips, Hears}
+use Rattle.vic_script.specs.Scenes.{hears_if, most_turns, turns, moves_of, is_plain_call, asked_tests, line_tests, bad_kind}
 use Rattle.vic_view.specs.declared.transcript.Transcript.{Transcript}
 use Rattle.vic_group.specs.declared.member.Member.{Member}
 use Rattle.vic_group.specs.declared.world.World.{World}
-use Rattle.vic_group.specs.World.{Shows, ShowsScene, TakesAloud, IsLeft, IsLeftOf, Does, states}
+use Rattle.vic_group.specs.World.{Shows, ShowsScene, Makes, MakesIf, IsLeft, IsLeftOf, Does, states}
 use Rattle.vic_group.proofs.Asking.{first_fails, one_passes, both_pass, second_fails}
 use Rattle.vic_group.proofs.Turns.{serves_rest}
 
@@ -43,7 +44,7 @@ module _ {S V : Type 0} (state : S → V) (rule : Serving V) where
   uncalled_line s i o w other shows = (first_fails 1 (is_plain_call s o) (asked_tests s i) other, shows)
 
   -- a line by which a client is asked for something
-  pub asks : (r : Result (Option ℕ) NoMemory) (s : SceneOf V) (l : Line) (i : ℕ) (given : Input) (w : World S) (out : List ℕ) → line_tests s l ≡ asked_tests s i → done_line rule s l ≡ quietly (steps s i given)
+  pub asks : (r : Result (Option ℕ) NoMemory) (s : SceneOf V) (l : Line) (i : ℕ) (given : Input) (w : World S) (out : List ℕ) → line_tests s l ≡ asked_tests s i → moves_of rule s l ≡ Asks i given ∷ []
       → (ShowsScene state w s → IsLeft state rule s l w)
       → IfOk r (λ bad. (first_failing (asked_tests s i) ≡ bad) × MatchOption bad (ShowsScene state w (steps s i given)) (λ kind. ShowsScene state w s)) → OnErr r (ShowsScene state w s)
       → Does state rule s l r w out out
@@ -51,7 +52,7 @@ module _ {S V : Type 0} (state : S → V) (rule : Serving V) where
   asks (Err e) s l i given w out tests does left went kept = left kept
   asks (Ok None) s l i given w out tests does left went kept = (
     ap (λ (cs : List (ℕ × Bool)). first_failing cs) tests ∙ went.0,
-    subst (λ (d : ShownOf V). (out ≡ out ++ d.text) × ShowsScene state w d.scene) (sym does) (sym (append-nil out), went.1),
+    subst (λ (ms : List Move). Makes state rule s ms w out out) (sym does) (sym (append-nil out), went.1),
   )
   asks (Ok (Some k)) s l i given w out tests does left went kept = (ap (λ (cs : List (ℕ × Bool)). first_failing cs) tests ∙ went.0, went.1)
 
@@ -74,37 +75,37 @@ module _ {S V : Type 0} (state : S → V) (rule : Serving V) where
       (second_fails 2 5 (is_client s i) (waits_in s.up i) there none, subst (λ (t : SceneOf V). ShowsScene state w t) (serves_rest rule s i none) shows)
 
   -- a taking
-  pub took_line : (s : SceneOf V) (i who : ℕ) (w : World S) (before after : List ℕ) (went : Bool) → i ≡ who → is_client s i ≡ true → went ≡ true → (waits_in s.down i ≡ went) × TakesAloud state unchanged s i w before after went
+  pub took_line : (s : SceneOf V) (i who : ℕ) (w : World S) (before after : List ℕ) (went : Bool) → i ≡ who → is_client s i ≡ true → went ≡ true → (waits_in s.down i ≡ went) × MakesIf state rule s (Takes i) w before after went
       → Does state rule s (line.Take who) (Ok None) w before after
   unfolding bad_kind
   took_line s i who w before after went e there came does =
       subst (λ (n : ℕ). Does state rule s (line.Take n) (Ok None) w before after) e
-      (both_pass 2 5 (is_client s i) (waits_in s.down i) there (does.0 ∙ came), subst (λ (g : Bool). TakesAloud state unchanged s i w before after g) came does.1)
+      (both_pass 2 5 (is_client s i) (waits_in s.down i) there (does.0 ∙ came), subst (λ (g : Bool). MakesIf state rule s (Takes i) w before after g) came does.1)
 
-  pub untook_line : (s : SceneOf V) (i who : ℕ) (w : World S) (before after : List ℕ) (went : Bool) → i ≡ who → is_client s i ≡ true → went ≡ false → (waits_in s.down i ≡ went) × TakesAloud state unchanged s i w before after went
+  pub untook_line : (s : SceneOf V) (i who : ℕ) (w : World S) (before after : List ℕ) (went : Bool) → i ≡ who → is_client s i ≡ true → went ≡ false → (waits_in s.down i ≡ went) × MakesIf state rule s (Takes i) w before after went
       → Does state rule s (line.Take who) (Ok (Some 5)) w before after
   unfolding bad_kind
   untook_line s i who w before after went e there gone does =
       subst (λ (n : ℕ). Does state rule s (line.Take n) (Ok (Some 5)) w before after) e
-      (second_fails 2 5 (is_client s i) (waits_in s.down i) there (does.0 ∙ gone), (subst (λ (g : Bool). TakesAloud state unchanged s i w before after g) gone does.1).1)
+      (second_fails 2 5 (is_client s i) (waits_in s.down i) there (does.0 ∙ gone), (subst (λ (g : Bool). MakesIf state rule s (Takes i) w before after g) gone does.1).1)
 
   -- a taking of an answer that was changed
-  pub flipped_line : (s : SceneOf V) (i who n : ℕ) (w : World S) (before after : List ℕ) (went : Bool) → i ≡ who → is_client s i ≡ true → went ≡ true → (has_byte s.down i n ≡ went) × TakesAloud state (flipped n) s i w before after went
+  pub flipped_line : (s : SceneOf V) (i who n : ℕ) (w : World S) (before after : List ℕ) (went : Bool) → i ≡ who → is_client s i ≡ true → went ≡ true → (has_byte s.down i n ≡ went) × MakesIf state rule s (Flips i n) w before after went
       → Does state rule s (line.Flip who n) (Ok None) w before after
   unfolding bad_kind
   flipped_line s i who n w before after went e there came does =
       subst (λ (k : ℕ). Does state rule s (line.Flip k n) (Ok None) w before after) e
-      (both_pass 2 5 (is_client s i) (has_byte s.down i n) there (does.0 ∙ came), subst (λ (g : Bool). TakesAloud state (flipped n) s i w before after g) came does.1)
+      (both_pass 2 5 (is_client s i) (has_byte s.down i n) there (does.0 ∙ came), subst (λ (g : Bool). MakesIf state rule s (Flips i n) w before after g) came does.1)
 
-  pub unflipped_line : (s : SceneOf V) (i who n : ℕ) (w : World S) (before after : List ℕ) (went : Bool) → i ≡ who → is_client s i ≡ true → went ≡ false → (has_byte s.down i n ≡ went) × TakesAloud state (flipped n) s i w before after went
+  pub unflipped_line : (s : SceneOf V) (i who n : ℕ) (w : World S) (before after : List ℕ) (went : Bool) → i ≡ who → is_client s i ≡ true → went ≡ false → (has_byte s.down i n ≡ went) × MakesIf state rule s (Flips i n) w before after went
       → Does state rule s (line.Flip who n) (Ok (Some 5)) w before after
   unfolding bad_kind
   unflipped_line s i who n w before after went e there gone does =
       subst (λ (k : ℕ). Does state rule s (line.Flip k n) (Ok (Some 5)) w before after) e
-      (second_fails 2 5 (is_client s i) (has_byte s.down i n) there (does.0 ∙ gone), (subst (λ (g : Bool). TakesAloud state (flipped n) s i w before after g) gone does.1).1)
+      (second_fails 2 5 (is_client s i) (has_byte s.down i n) there (does.0 ∙ gone), (subst (λ (g : Bool). MakesIf state rule s (Flips i n) w before after g) gone does.1).1)
 
   -- a run
-  pub ran_line : (s : SceneOf V) (i who : ℕ) (w : World S) (before after : List ℕ) → i ≡ who → is_client s i ≡ true → (after ≡ before ++ (turns rule most_turns s i).text) × ShowsScene state w (turns rule most_turns s i).scene
+  pub ran_line : (s : SceneOf V) (i who : ℕ) (w : World S) (before after : List ℕ) → i ≡ who → is_client s i ≡ true → Makes state rule s (turns rule most_turns s i) w before after
       → Does state rule s (line.Run who) (Ok None) w before after
   unfolding bad_kind
   ran_line s i who w before after e there does = subst (λ (n : ℕ). Does state rule s (line.Run n) (Ok None) w before after) e (one_passes 2 (is_client s i) there, does)
@@ -115,7 +116,7 @@ module _ {S V : Type 0} (state : S → V) (rule : Serving V) where
 
   -- a payload that is given
   pub gave_line : (s : SceneOf V) (i who : ℕ) (payload copy : List ℕ) (w : World S) (before after : List ℕ) → i ≡ who → copy ≡ payload → is_client s i ≡ true
-      → (after ≡ before ++ (hears_aloud s i (Some copy)).text) × ShowsScene state w (hears_aloud s i (Some copy)).scene → Does state rule s (line.Give who payload) (Ok None) w before after
+      → Makes state rule s (Hears i copy ∷ []) w before after → Does state rule s (line.Give who payload) (Ok None) w before after
   unfolding bad_kind
   gave_line s i who payload copy w before after e same there does =
       subst (λ (p : List ℕ). Does state rule s (line.Give who p) (Ok None) w before after) same
@@ -123,12 +124,12 @@ module _ {S V : Type 0} (state : S → V) (rule : Serving V) where
 
   -- a payload that is taken once more
   pub repeated_line : (s : SceneOf V) (i who : ℕ) (payload : List ℕ) (w : World S) (before after : List ℕ) → i ≡ who → last_taken i s.history ≡ Some payload → is_client s i ≡ true
-      → (after ≡ before ++ (hears_aloud s i (Some payload)).text) × ShowsScene state w (hears_aloud s i (Some payload)).scene → Does state rule s (line.Again who) (Ok None) w before after
+      → Makes state rule s (Hears i payload ∷ []) w before after → Does state rule s (line.Again who) (Ok None) w before after
   unfolding bad_kind
   repeated_line s i who payload w before after e last there does =
       subst (λ (n : ℕ). Does state rule s (line.Again n) (Ok None) w before after) e (
         both_pass 2 5 (is_client s i) (is_some (last_taken i s.history)) there (ap (λ (o : Option (List ℕ)). is_some o) last),
-        subst (λ (o : Option (List ℕ)). (after ≡ before ++ (hears_aloud s i o).text) × ShowsScene state w (hears_aloud s i o).scene) (sym last) does,
+        subst (λ (o : Option (List ℕ)). Makes state rule s (hears_if i o) w before after) (sym last) does,
       )
 
   pub unrepeated_line : (s : SceneOf V) (i who : ℕ) (w : World S) → i ≡ who → last_taken i s.history ≡ None → is_client s i ≡ true → ShowsScene state w s → (bad_kind s (line.Again who) ≡ Some 5) × ShowsScene state w s

@@ -9,7 +9,7 @@ use Rattle.vic_rules.specs.Client.{Standing, step}
 use Rattle.vic_rules.specs.History.{standing}
 use Rattle.vic_laws.proofs.Standings.{standing_moved, standing_kept}
 use Rattle.vic_client.specs.Kept.{Kept, StandsFor, group_of}
-use Rattle.vic_script.specs.Scenes.{or_before, payload_in, last_taken, last_sent}
+use Rattle.vic_order.specs.Scenes.{or_before, payload_in, last_taken, last_sent}
 use Rattle.vic_group.specs.declared.member.Member.{Member}
 use Rattle.vic_group.specs.Members.{AllStand}
 use Rattle.vic_group.specs.World.{MemberStands, step_at}

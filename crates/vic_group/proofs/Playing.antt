@@ -11,7 +11,7 @@ use Rattle.vic_order.specs.Order.{Server}
 use Rattle.vic_script.specs.declared.line.Line.{Line}
 use Rattle.vic_script.specs.declared.line.Line.TheVariants as line
 use Rattle.vic_script.specs.Lines.{lines_of, line_of}
-use Rattle.vic_script.specs.Scenes.{Scene, opening}
+use Rattle.vic_order.specs.Scenes.{Scene, opening}
 use Rattle.vic_script.specs.Run.{limit, Bad, Played as Run, stops, printed_before, plain_group, Tried, Fails, Does, try_line, follow, place_behind, play, run_of, group_in, history_in}
 use Rattle.vic_script.specs.Print.{bad_line, end_text, print_of, is_forged}
 use Rattle.vic_runs.proofs.Words.{text_fits}

@@ -13,7 +13,7 @@ use Rattle.vic_rules.specs.Client.{MayStep}
 use Rattle.vic_order.specs.Serving.{Serving}
 use Rattle.vic_view.specs.declared.transcript.Transcript.{Transcript}
 use Rattle.vic_view.specs.Transcripts.{steps_of}
-use Rattle.vic_script.specs.Scenes.{SceneOf, Queue, queue_of, set_queue, queued, or_none, server_at, set_server, server_of, stands, steps, served_with, served, serves, taken, takes, last_sent, resends, copies, joins}
+use Rattle.vic_order.specs.Scenes.{SceneOf, Queue, queue_of, set_queue, queued, or_none, server_at, set_server, server_of, stands, steps, served_with, served, serves, taken, takes, last_sent, resends, copies, joins}
 use Rattle.vic_runs.proofs.Servers.{is_server-set}
 use Rattle.vic_group.specs.declared.member.Member.{Member}
 use Rattle.vic_group.specs.World.{MemberStands, Shows, Acts, Joins, step_at}

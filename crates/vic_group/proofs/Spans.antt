@@ -4,7 +4,7 @@ use Rattle.std.specs.Prelude.{if◌then◌else◌, nat_eq, nat_lt, min}
 use Rattle.std.proofs.lemmas.Bool.{ltb-false}
 use Rattle.std.proofs.lemmas.List.{take-append-le, length-take}
 use Rattle.vic_script.specs.Lines.{put_first, lines_of, line_of}
-use Rattle.vic_script.specs.Scenes.{Scene}
+use Rattle.vic_order.specs.Scenes.{Scene}
 use Rattle.vic_script.specs.Run.{limit, Played, stops, Tried, Fails, Does, try_line, mode_in, follow, place_behind, play, run_of, bad_line_of}
 
 -- ---- only the front matters

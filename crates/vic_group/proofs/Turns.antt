@@ -7,10 +7,12 @@ use Rattle.std.proofs.lemmas.List.{append-nil, append_assoc, length-append, leng
 use Rattle.vic_dict.specs.declared.bytes.NoMemory.{NoMemory}
 use Rattle.vic_order.specs.Serving.{Serving}
 use Rattle.vic_view.specs.declared.transcript.Transcript.{Transcript}
-use Rattle.vic_script.specs.Scenes.{SceneOf, ShownOf, Queue, queue_of, server_at, server_of, quietly, behind, unchanged, served, serves, takes_aloud, turns, waits_in}
+use Rattle.vic_order.specs.Scenes.{SceneOf, Queue, queue_of, server_at, server_of, served, serves, waits_in, Move, Serves, Takes, after_moves}
+use Rattle.vic_runs.proofs.Moves.{after-joined, print-joined}
+use Rattle.vic_script.specs.Scenes.{print_of_moves, turns}
 use Rattle.vic_group.specs.declared.member.Member.{Member}
 use Rattle.vic_group.specs.declared.world.World.{World}
-use Rattle.vic_group.specs.World.{Shows, ShowsScene, TakesAloud, IsLeftOf, states}
+use Rattle.vic_group.specs.World.{Shows, ShowsScene, Makes, MakesIf, IsLeftOf, states}
 use Rattle.vic_group.proofs.Scenes.{get_set, server_here, placed_here}
 
 -- whether a queue holds something
@@ -35,26 +37,26 @@ module _ {V : Type 0} (rule : Serving V) where
   serves_rest s i none = ap (λ (q : Queue). served rule s i q (server_at s.servers (server_of s.served_by i))) (none_in (queue_of s.up i) none)
 
   -- no turn where none is left, nor where no request waits
-  pub turns_end : (n : ℕ) (s : SceneOf V) (i : ℕ) → n ≡ 0 → turns rule n s i ≡ quietly s
+  pub turns_end : (n : ℕ) (s : SceneOf V) (i : ℕ) → n ≡ 0 → turns rule n s i ≡ []
   unfolding turns
   turns_end zero s i is = refl
   turns_end (suc n) s i is = absurd (omega arith)
 
-  pub turns_rest : (n : ℕ) (s : SceneOf V) (i : ℕ) → waits_in s.up i ≡ false → turns rule n s i ≡ quietly s
+  pub turns_rest : (n : ℕ) (s : SceneOf V) (i : ℕ) → waits_in s.up i ≡ false → turns rule n s i ≡ []
   unfolding turns
   turns_rest zero s i none = refl
   turns_rest (suc n) s i none =
-      ap (λ (b : Bool). if b then quietly s else (let t = takes_aloud unchanged (serves rule s i) i in behind t.text (turns rule n t.scene i))) (is_empty (queue_of s.up i) none)
+      ap (λ (b : Bool). if b then [] else turns rule n (after_moves rule s (Takes i ∷ Serves i ∷ [])) i ++ Takes i ∷ Serves i ∷ []) (is_empty (queue_of s.up i) none)
 
   -- one turn, and those behind it
   pub turns_on : (n m : ℕ) (s : SceneOf V) (i : ℕ) → n ≡ m + 1 → waits_in s.up i ≡ true
-      → turns rule n s i ≡ behind (takes_aloud unchanged (serves rule s i) i).text (turns rule m (takes_aloud unchanged (serves rule s i) i).scene i)
+      → turns rule n s i ≡ turns rule m (after_moves rule s (Takes i ∷ Serves i ∷ [])) i ++ Takes i ∷ Serves i ∷ []
   unfolding turns
   turns_on zero m s i is some = absurd (omega arith)
   turns_on (suc n) m s i is some =
       let same : n ≡ m = omega arith in
-      ap (λ (b : Bool). if b then quietly s else (let t = takes_aloud unchanged (serves rule s i) i in behind t.text (turns rule n t.scene i))) (not_empty (queue_of s.up i) some)
-      ∙ ap (λ (k : ℕ). behind (takes_aloud unchanged (serves rule s i) i).text (turns rule k (takes_aloud unchanged (serves rule s i) i).scene i)) same
+      ap (λ (b : Bool). if b then [] else turns rule n (after_moves rule s (Takes i ∷ Serves i ∷ [])) i ++ Takes i ∷ Serves i ∷ []) (not_empty (queue_of s.up i) some)
+      ∙ ap (λ (k : ℕ). turns rule k (after_moves rule s (Takes i ∷ Serves i ∷ [])) i ++ Takes i ∷ Serves i ∷ []) same
 
   -- where a request was served, an answer waits
   pub answer_waits : (s : SceneOf V) (i : ℕ) → i - 1 < length s.down → is_some (server_at s.servers (server_of s.served_by i)) ≡ true → waits_in s.up i ≡ true → waits_in (serves rule s i).down i ≡ true
@@ -90,26 +92,30 @@ server_there {V = V} t ms vs s i k m shows is at =
 
 module _ {S V : Type 0} (state : S → V) (rule : Serving V) where
   -- a taking where an answer waited
-  pub taken_aloud : (s : SceneOf V) (i : ℕ) (w : World S) (before after : List ℕ) (went : Bool) → waits_in s.down i ≡ went → waits_in s.down i ≡ true → TakesAloud state unchanged s i w before after went
-      → (after ≡ before ++ (takes_aloud unchanged s i).text) × ShowsScene state w (takes_aloud unchanged s i).scene
-  taken_aloud s i w before after went is some does = subst (λ (g : Bool). TakesAloud state unchanged s i w before after g) (sym is ∙ some) does
+  pub taken_aloud : (s : SceneOf V) (i : ℕ) (w : World S) (before after : List ℕ) (went : Bool) → waits_in s.down i ≡ went → waits_in s.down i ≡ true → MakesIf state rule s (Takes i) w before after went
+      → Makes state rule s (Takes i ∷ []) w before after
+  taken_aloud s i w before after went is some does = subst (λ (g : Bool). MakesIf state rule s (Takes i) w before after g) (sym is ∙ some) does
 
   -- what a run prints where it does nothing
-  pub runs_quietly : (r : ShownOf V) (s : SceneOf V) (w : World S) (before : List ℕ) → r ≡ quietly s → ShowsScene state w s → (before ≡ before ++ r.text) × ShowsScene state w r.scene
-  runs_quietly r s w before is shows = subst (λ (x : ShownOf V). (before ≡ before ++ x.text) × ShowsScene state w x.scene) (sym is) (sym (append-nil before), shows)
+  pub runs_quietly : (moves : List Move) (s : SceneOf V) (w : World S) (before : List ℕ) → moves ≡ [] → ShowsScene state w s → Makes state rule s moves w before before
+  runs_quietly moves s w before is shows = subst (λ (ms : List Move). Makes state rule s ms w before before) (sym is) (sym (append-nil before), shows)
 
-  -- and where it goes on behind a turn
-  runs_on : (r next : ShownOf V) (text before mid : List ℕ) (w : World S) (after : List ℕ) → r ≡ behind text next → mid ≡ before ++ text
-      → (after ≡ mid ++ next.text) × ShowsScene state w next.scene → (after ≡ before ++ r.text) × ShowsScene state w r.scene
-  runs_on r next text before mid w after is turn goes =
-      subst (λ (x : ShownOf V). (after ≡ before ++ x.text) × ShowsScene state w x.scene) (sym is)
-      (goes.0 ∙ ap (λ (front : List ℕ). front ++ next.text) turn ∙ append_assoc before text next.text, goes.1)
+  -- moves behind others
+  makes_on : (s : SceneOf V) (later first : List Move) (before mid after : List ℕ) (w : World S) → mid ≡ before ++ print_of_moves rule s first → Makes state rule (after_moves rule s first) later w mid after
+      → Makes state rule s (later ++ first) w before after
+  makes_on s later first before mid after w printed goes = (
+    goes.0 ∙ ap (λ (front : List ℕ). front ++ print_of_moves rule (after_moves rule s first) later) printed
+        ∙ append_assoc before (print_of_moves rule s first) (print_of_moves rule (after_moves rule s first) later)
+        ∙ ap (λ (text : List ℕ). before ++ text) (sym (print-joined rule s later first)),
+    subst (λ (t : SceneOf V). ShowsScene state w t) (sym (after-joined rule s later first)) goes.1,
+  )
 
   -- the same of what may have found no memory
-  pub runs_on_if : {T : Type 0} (r : Result T NoMemory) (all next : ShownOf V) (text before mid : List ℕ) (w : World S) (after : List ℕ) → all ≡ behind text next → mid ≡ before ++ text
-      → OnOk r ((after ≡ mid ++ next.text) × ShowsScene state w next.scene) → OnOk r ((after ≡ before ++ all.text) × ShowsScene state w all.scene)
-  runs_on_if (Err e) all next text before mid w after is turn goes = tt
-  runs_on_if (Ok done) all next text before mid w after is turn goes = runs_on all next text before mid w after is turn goes
+  pub makes_on_if : {T : Type 0} (r : Result T NoMemory) (s : SceneOf V) (all later first : List Move) (before mid after : List ℕ) (w : World S) → all ≡ later ++ first → mid ≡ before ++ print_of_moves rule s first
+      → OnOk r (Makes state rule (after_moves rule s first) later w mid after) → OnOk r (Makes state rule s all w before after)
+  makes_on_if (Err e) s all later first before mid after w is printed goes = tt
+  makes_on_if (Ok done) s all later first before mid after w is printed goes =
+      subst (λ (ms : List Move). Makes state rule s ms w before after) (sym is) (makes_on s later first before mid after w printed goes)
 
   -- ---- where memory ran out
 
@@ -124,10 +130,12 @@ module _ {S V : Type 0} (state : S → V) (rule : Serving V) where
   left_untaken n s i w lt shows = (0, (lt, inr shows))
 
   -- later on, what was left then
-  pub left_later : (n m : ℕ) (s : SceneOf V) (i : ℕ) (w : World S) → n ≡ m + 1 → waits_in s.up i ≡ true → IsLeftOf state rule m (takes_aloud unchanged (serves rule s i) i).scene i w → IsLeftOf state rule n s i w
+  pub left_later : (n m : ℕ) (s : SceneOf V) (i : ℕ) (w : World S) → n ≡ m + 1 → waits_in s.up i ≡ true → IsLeftOf state rule m (after_moves rule s (Takes i ∷ Serves i ∷ [])) i w → IsLeftOf state rule n s i w
   left_later n m s i w is some left =
-      let next : SceneOf V = (takes_aloud unchanged (serves rule s i) i).scene in
-      let on : (turns rule (left.0 + 1) s i).scene ≡ (turns rule left.0 next i).scene = ap (λ (x : ShownOf V). x.scene) (turns_on rule (left.0 + 1) left.0 s i refl some) in (
+      let two : List Move = Takes i ∷ Serves i ∷ [] in
+      let next : SceneOf V = after_moves rule s two in
+      let on : after_moves rule s (turns rule (left.0 + 1) s i) ≡ after_moves rule next (turns rule left.0 next i) =
+      ap (after_moves rule s) (turns_on rule (left.0 + 1) left.0 s i refl some) ∙ after-joined rule s (turns rule left.0 next i) two in (
         left.0 + 1,
         (
           omega (arith, is, left.1.0),
@@ -136,7 +144,7 @@ module _ {S V : Type 0} (state : S → V) (rule : Serving V) where
       )
 
   pub left_later_if : {T : Type 0} (r : Result T NoMemory) (n m : ℕ) (s : SceneOf V) (i : ℕ) (w : World S) → n ≡ m + 1 → waits_in s.up i ≡ true
-      → OnErr r (IsLeftOf state rule m (takes_aloud unchanged (serves rule s i) i).scene i w) → OnErr r (IsLeftOf state rule n s i w)
+      → OnErr r (IsLeftOf state rule m (after_moves rule s (Takes i ∷ Serves i ∷ [])) i w) → OnErr r (IsLeftOf state rule n s i w)
   left_later_if (Ok done) n m s i w is some left = tt
   left_later_if (Err e) n m s i w is some left = left_later n m s i w is some left
 

@@ -9,13 +9,13 @@ use Rattle.vic_laws.specs.Claims.{HashesTellPathsIn, SealsHoldIn}
 use Rattle.vic_laws.specs.OrderClaims.{CompletedOnceIn, DoneMeetsNoConflictIn, AnswersStandIn}
 use Rattle.vic_ports.specs.Causes.{Rose, IsSpent, LeavesBehind}
 use Rattle.vic_ports.specs.Written.{AppendedAll, AppendedFront}
-use Rattle.vic_order.specs.Order.{Server}
-use Rattle.vic_script.specs.Scenes.{Scene, server_at}
+use Rattle.vic_order.specs.Scenes.{Scene}
 use Rattle.vic_script.specs.Run.{limit, Bad, run_of, is_honest_script, group_of, history_of, bad_line_of}
 use Rattle.vic_script.specs.Print.{print_of_script, is_forged, all_views, all_agreements, tags_line}
 use Rattle.vic_runs.specs.Agreements.{AgreementsCountIn}
-use Rattle.vic_runs.specs.Claims.{IsRunOf, line_of_step}
-use Rattle.vic_runs.specs.Reached.{IsHonestScene}
+use Rattle.vic_order.specs.Honest.{ComesHonestly, IsSame}
+use Rattle.vic_runs.specs.Claims.{line_of_step}
+use Rattle.vic_honest.specs.Claims.{IsHonestScene}
 use Rattle.vic_group.specs.declared.status.Status.{Status}
 use Rattle.vic_group.specs.declared.status.Status.TheVariants as status
 use Rattle.vic_group.specs.Words.{usage_line, read_fault_line, no_memory_line}
@@ -82,13 +82,13 @@ IsComplete right t k result =
 
 -- what holds of the run of a script in which no line tampers with what its one server answers
 pub record IsHonest (script : List ℕ) : Type 0 where
-  -- it is a run of clients with one honest server, of which the laws of honest runs hold
-  pub run : IsRunOf script
+  -- honest moves lead where it ends, with one server that follows the rule
+  pub comes : (s : Scene) → (run_of script).scene ≡ Some s → ComesHonestly IsSame s
   -- every tag that a client took was made by a client before
   pub tags_made : is_forged (group_of script) (history_of script) ≡ false
-  -- where it ends, what holds of honest runs holds of its clients and its one server: each completed call returned what becomes of it
-  -- in the server's log, no step returned that a check failed, and more
-  pub scene : (s : Scene) → (run_of script).scene ≡ Some s → (server : Server) → server_at s.servers 1 ≡ Some server → IsHonestScene s run.events server
+  -- so what holds of honest runs holds there: each completed call returned what becomes of it in the server's log, no step returned
+  -- that a check failed, and more
+  pub holds : (s : Scene) (is : (run_of script).scene ≡ Some s) → IsHonestScene s (comes s is).moves (comes s is).server
   -- no line is bad for that its client has halted
   pub none_halted : (b : Bad) → bad_line_of script ≡ Some b → b.kind ≡ 3 → ⊥
 

@@ -4,7 +4,7 @@ use Rattle.vic_order.specs.Order.{Server}
 use Rattle.vic_server.specs.Replay.{Kept}
 use Rattle.vic_view.specs.Transcripts.{history_of, group_of as transcript_group}
 use Rattle.vic_script.specs.Lines.{line_of}
-use Rattle.vic_script.specs.Scenes.{Scene}
+use Rattle.vic_order.specs.Scenes.{Scene}
 use Rattle.vic_script.specs.Run.{limit, Bad, Played as Run, Tried, Fails, Does, try_line, group_in, history_in}
 use Rattle.vic_script.specs.Print.{is_forged}
 use Rattle.vic_runs.specs.Reached.{IsReached}

@@ -11,14 +11,15 @@ use Rattle.vic_rules.specs.declared.trace.TraceStep.{TraceStep}
 use Rattle.vic_rules.specs.Client.{step, payload_of, MayStep}
 use Rattle.vic_rules.specs.History.{standing, IsLawful}
 use Rattle.vic_order.specs.Serving.{Serving, AnswersAs}
-use Rattle.vic_order.specs.Honest.{world_after}
 use Rattle.vic_client.specs.Kept.{StandsFor, group_of}
 use Rattle.vic_view.specs.declared.transcript.Transcript.{Transcript}
 use Rattle.vic_view.specs.Transcripts.{steps_of, history_of, group_of as transcript_group}
 use Rattle.vic_script.specs.declared.line.Line.{Line}
 use Rattle.vic_script.specs.declared.line.Line.TheVariants as line
-use Rattle.vic_script.specs.Scenes.{SceneOf, queued, server_at, last_taken, last_sent, serves, takes_aloud, most_turns, turns, is_client, done_line, bad_kind}
-use Rattle.vic_runs.specs.Reached.{IsHonestlyReached, IsHonestScene}
+use Rattle.vic_order.specs.Scenes.{SceneOf, queued, server_at, last_taken, last_sent, is_client, Move, Serves, after_moves}
+use Rattle.vic_script.specs.Scenes.{print_of_moves, most_turns, turns, moves_of, bad_kind}
+use Rattle.vic_honest.specs.Claims.{IsHonestScene}
+use Rattle.vic_runs.specs.Reached.{IsHonestlyReached}
 use Rattle.vic_group.specs.declared.member.Member.{Member}
 use Rattle.vic_group.specs.declared.servers.Servers.{Servers}
 use Rattle.vic_group.specs.declared.world.World.{World}
@@ -105,14 +106,18 @@ CanAsk m (input.Payload payload) = ⊥
 
 -- ---- what a line does
 
--- a client took its oldest answer as it came through a change, and what became of it was appended; or none did, and nothing changed
-abbrev pub TakesAloud : {S V : Type 0} → (S → V) → (List ℕ → List ℕ) → SceneOf V → ℕ → World S → List ℕ → List ℕ → Bool → Type 0
-TakesAloud state change s i w before after true = (after ≡ before ++ (takes_aloud change s i).text) × ShowsScene state w (takes_aloud change s i).scene
-TakesAloud state change s i w before after false = (after ≡ before) × ShowsScene state w s
+-- a world shows what moves make of a scene, and what is printed of them was appended
+abbrev pub Makes : {S V : Type 0} → (S → V) → Serving V → SceneOf V → List Move → World S → List ℕ → List ℕ → Type 0
+Makes state rule s moves w before after = (after ≡ before ++ print_of_moves rule s moves) × ShowsScene state w (after_moves rule s moves)
+
+-- one move was made; or there was nothing to be taken, and nothing changed
+abbrev pub MakesIf : {S V : Type 0} → (S → V) → Serving V → SceneOf V → Move → World S → List ℕ → List ℕ → Bool → Type 0
+MakesIf state rule s m w before after true = Makes state rule s (m ∷ []) w before after
+MakesIf state rule s m w before after false = (after ≡ before) × ShowsScene state w s
 
 -- what so many turns leave that found no memory: those that were done, the last of which may have been served alone
 abbrev pub IsLeftOf : {S V : Type 0} → (S → V) → Serving V → ℕ → SceneOf V → ℕ → World S → Type 0
-IsLeftOf state rule n s i w = (k : ℕ) × ((k < n) × (ShowsScene state w (turns rule k s i).scene ⊎ ShowsScene state w (serves rule (turns rule k s i).scene i)))
+IsLeftOf state rule n s i w = (k : ℕ) × ((k < n) × (ShowsScene state w (after_moves rule s (turns rule k s i)) ⊎ ShowsScene state w (after_moves rule s (Serves i ∷ turns rule k s i))))
 
 -- what a line leaves that found no memory: the scene as it was, but for the turns of a client's run that were done
 abbrev pub IsLeft : {S V : Type 0} → (S → V) → Serving V → SceneOf V → Line → World S → Type 0
@@ -121,7 +126,7 @@ IsLeft state rule s l w = ShowsScene state w s
 
 -- a line was done, and its text was appended; or it was bad by its first kind, and nothing changed; or it found no memory
 abbrev pub Does : {S V : Type 0} → (S → V) → Serving V → SceneOf V → Line → Result (Option ℕ) NoMemory → World S → List ℕ → List ℕ → Type 0
-Does state rule s l (Ok None) w before after = (bad_kind s l ≡ None) × ((after ≡ before ++ (done_line rule s l).text) × ShowsScene state w (done_line rule s l).scene)
+Does state rule s l (Ok None) w before after = (bad_kind s l ≡ None) × Makes state rule s (moves_of rule s l) w before after
 Does state rule s l (Ok (Some k)) w before after = (bad_kind s l ≡ Some k) × ShowsScene state w s
 Does state rule s l (Err e) w before after = IsLeft state rule s l w
 
@@ -133,4 +138,4 @@ pub record StandsHonestly {S V : Type 0} (state : S → V) (rule : Serving V) (w
   pub scene : SceneOf V
   pub shows : ShowsScene state w scene
   pub reached : IsHonestlyReached (AnswersAs rule) scene n
-  pub holds : IsHonestScene scene reached.events (world_after scene.group reached.events).server
+  pub holds : IsHonestScene scene reached.comes.moves reached.comes.server

@@ -8,7 +8,8 @@ ghost use Rattle.vic_rules.specs.declared.trace.TraceStep.{TraceStep as AStep};
 ghost use Rattle.vic_rules.specs.Client.{awaits_nothing, first_failing};
 ghost use Rattle.vic_client.specs.Kept.{is_idle};
 ghost use Rattle.vic_client.specs.Pending.{IsPendingOf};
-ghost use Rattle.vic_script.specs.Scenes.{queued, or_before, payload_in, oldest, flipped, said, server_at, set_server};
+ghost use Rattle.vic_order.specs.Scenes.{queued, or_before, payload_in, oldest, flipped, server_at, set_server};
+ghost use Rattle.vic_script.specs.Scenes.{said};
 
 use crate::queue::Queue;
 use crate::said::put_said;

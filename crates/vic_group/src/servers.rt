@@ -3,7 +3,7 @@
 ghost use Rattle.std.specs.Prelude.{◌≡◌, Some, None, ◌∷◌, [], true, Ok, is_some, IfSome, IfOk, OnErr};
 ghost use Rattle.std.specs.Prelude.{option_map};
 ghost use Rattle.vic_script.specs.Lines.{is_place};
-ghost use Rattle.vic_script.specs.Scenes.{server_at, set_server};
+ghost use Rattle.vic_order.specs.Scenes.{server_at, set_server};
 ghost use Rattle.vic_group.specs.World.{states};
 
 use std::alloc::Global;

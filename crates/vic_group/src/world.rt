@@ -12,7 +12,8 @@ ghost use Rattle.vic_group.specs.declared.member.Member.{Member as AMember};
 ghost use Rattle.vic_group.specs.World.{HasBytes};
 ghost use Rattle.vic_script.specs.declared.line.Line.TheVariants as line;
 ghost use Rattle.vic_script.specs.Lines.{is_place as place_test};
-ghost use Rattle.vic_script.specs.Scenes.{SceneOf, opening_with, done_line, bad_kind, steps, serves, turns, waits_in, has_byte, unchanged, flipped, takes_aloud, hears_aloud, asked_tests, fits_op, server_at, is_honest_line};
+ghost use Rattle.vic_order.specs.Scenes.{SceneOf, opening_with, steps, serves, waits_in, has_byte, server_at, Takes, Flips, Hears};
+ghost use Rattle.vic_script.specs.Scenes.{done_line, bad_kind, turns, asked_tests, fits_op, is_honest_line};
 ghost use Rattle.vic_script.specs.Print.{end_text, is_forged};
 
 use crate::member::Member;
@@ -77,7 +78,7 @@ fn line_bytes(line: &Line)
 }
 
 impl<S: Serve + Drop> World<S> {
-    ghost use Rattle.vic_group.specs.World.{ShowsScene, MayDo, CanAsk, Does, IsLeft, IsLeftOf, TakesAloud, StandsHonestly};
+    ghost use Rattle.vic_group.specs.World.{ShowsScene, MayDo, CanAsk, Does, IsLeft, IsLeftOf, Makes, MakesIf, StandsHonestly};
     ghost use Rattle.vic_view.specs.Transcripts.{history_of, group_of};
 
     /// A world of so many clients, all come in, which this server serves.
@@ -158,7 +159,7 @@ impl<S: Serve + Drop> World<S> {
         requires place { who ≡ place + 1 }
         requires within { place < length self.old.members.items }
         ensures members { length self.new.members.items ≡ length self.old.members.items }
-        ensures ok { (s : SceneOf S.State) → ShowsScene S.state self.old s → IfOk result (λ went. (waits_in s.down who ≡ went) × TakesAloud S.state unchanged s who self.new out.old out.new went) }
+        ensures ok { (s : SceneOf S.State) → ShowsScene S.state self.old s → IfOk result (λ went. (waits_in s.down who ≡ went) × MakesIf S.state S.rule s (Takes who) self.new out.old out.new went) }
         ensures err { (s : SceneOf S.State) → ShowsScene S.state self.old s → OnErr result (ShowsScene S.state self.new s) }
     {
         let Some(payload) = self.members[place].answer(alloc)? else {
@@ -179,7 +180,7 @@ impl<S: Serve + Drop> World<S> {
     ) -> Result<bool, NoMemory>
         requires place { who ≡ place + 1 }
         requires within { place < length self.old.members.items }
-        ensures ok { (s : SceneOf S.State) → ShowsScene S.state self.old s → IfOk result (λ went. (has_byte s.down who number ≡ went) × TakesAloud S.state (flipped number) s who self.new out.old out.new went) }
+        ensures ok { (s : SceneOf S.State) → ShowsScene S.state self.old s → IfOk result (λ went. (has_byte s.down who number ≡ went) × MakesIf S.state S.rule s (Flips who number) self.new out.old out.new went) }
         ensures err { (s : SceneOf S.State) → ShowsScene S.state self.old s → OnErr result (ShowsScene S.state self.new s) }
     {
         let Some(payload) = self.members[place].flipped_answer(alloc, number)? else {
@@ -200,7 +201,7 @@ impl<S: Serve + Drop> World<S> {
     ) -> Result<(), NoMemory>
         requires place { who ≡ place + 1 }
         requires within { place < length self.old.members.items }
-        ensures ok { (s : SceneOf S.State) → ShowsScene S.state self.old s → OnOk result ((out.new ≡ out.old ++ (hears_aloud s who (Some payload)).text) × ShowsScene S.state self.new (hears_aloud s who (Some payload)).scene) }
+        ensures ok { (s : SceneOf S.State) → ShowsScene S.state self.old s → OnOk result (Makes S.state S.rule s (Hears who payload ∷ []) self.new out.old out.new) }
         ensures err { (s : SceneOf S.State) → ShowsScene S.state self.old s → OnErr result (ShowsScene S.state self.new s) }
     {
         self.members[place].take(alloc, payload, &mut self.transcript, out)
@@ -217,7 +218,7 @@ impl<S: Serve + Drop> World<S> {
     ) -> Result<(), NoMemory>
         requires place { who ≡ place + 1 }
         requires within { place < length self.old.members.items }
-        ensures ok { (s : SceneOf S.State) → ShowsScene S.state self.old s → OnOk result ((out.new ≡ out.old ++ (turns S.rule left s who).text) × ShowsScene S.state self.new (turns S.rule left s who).scene) }
+        ensures ok { (s : SceneOf S.State) → ShowsScene S.state self.old s → OnOk result (Makes S.state S.rule s (turns S.rule left s who) self.new out.old out.new) }
         ensures err { (s : SceneOf S.State) → ShowsScene S.state self.old s → OnErr result (IsLeftOf S.state S.rule left s who self.new) }
     {
         if left == 0 {

@@ -33,7 +33,7 @@ use Rattle.vic_rules.specs.History.{Completion, completion}
 use Rattle.vic_laws.proofs.Words.{all_weaker, all_append}
 use Rattle.vic_order.specs.Order.{Ordered, Server, size, sealed_count}
 use Rattle.vic_order.specs.Fates.{entries, fate, dictionary_by}
-use Rattle.vic_order.specs.Honest.{queued}
+use Rattle.vic_order.specs.Scenes.{queued}
 use Rattle.vic_honest.proofs.Words.{length-entries, told, all-second}
 use Rattle.vic_honest.proofs.Standing.{EntryFits, Rests, Sends, Gets}
 use Rattle.vic_honest.proofs.Owns.{AllOn, AllOn-second, NoneOf, NoneOf-first, NoneOf-second, root_on, seal_on, seal_on-position, owns, own_of, owns-mine, owns-others, owns-filter, owns-higher, owns-next, owns-above, above, IsAbove}

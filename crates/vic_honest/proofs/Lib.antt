@@ -1,5 +1,7 @@
 pub mod SentParts
 pub mod Words
+pub mod Queues
+pub mod Moves
 pub mod Standing
 pub mod Spoken
 pub mod Serving
@@ -21,3 +23,4 @@ pub mod OneHistory
 pub mod Refusals
 pub mod Told
 pub mod Replies
+pub mod Scenes

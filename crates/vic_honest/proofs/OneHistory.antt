@@ -1,4 +1,7 @@
 -- The completed calls in the order of the log are one legal history in real-time order.
+use Rattle.vic_honest.specs.Claims.{IsOneHistory, completed_in}
+use Rattle.vic_order.specs.Honest.{IsHonestRun}
+use Rattle.vic_order.specs.Scenes.{Move, Scene}
 use Rattle.std.proofs.Common.{◌≡◌, ℕ, suc, ◌<◌, ◌≤◌, Bool, true, false, List, [], ◌∷◌, ◌++◌, length, Option, Some, None, ◌⊎◌, inl, inr, refl, sym, ap, subst, ◌∙◌, arith, append_assoc}
 use Rattle.std.specs.Prelude.{if◌then◌else◌, nat_eq, nat_lt}
 use Rattle.std.specs.List.{AllByRecursion}
@@ -27,9 +30,8 @@ use Rattle.vic_laws.proofs.Complete.{answered_completion, confirmed_below}
 use Rattle.vic_laws.proofs.OwnLaid.{OwnOnes, own_ones}
 use Rattle.vic_order.specs.Order.{Ordered, Server, sealed_count}
 use Rattle.vic_order.specs.Fates.{entries, fate, dictionary_by}
-use Rattle.vic_order.specs.Honest.{World, world_after}
 use Rattle.vic_honest.proofs.Words.{entries-joined, length-entries, all-second}
-use Rattle.vic_honest.proofs.Standing.{EntryFits, WorldFits, Doing, Rests, Sends, Gets}
+use Rattle.vic_honest.proofs.Standing.{World, world_of, EntryFits, WorldFits, Doing, Rests, Sends, Gets}
 use Rattle.vic_honest.proofs.Owns.{AllOn, AllOn-at, NoneOf, same_end}
 use Rattle.vic_honest.proofs.Deciding.{dictionary-next, none_above, not_chosen, no_conflict}
 use Rattle.vic_honest.proofs.Knowing.{IsOrdered, IsPast, Does, ClientKnows}
@@ -37,7 +39,6 @@ use Rattle.vic_honest.proofs.Learning.{IsFated}
 use Rattle.vic_honest.proofs.Known.{WorldKnows}
 use Rattle.vic_honest.proofs.Runs.{leaves_so, run_fits, run_knows}
 use Rattle.vic_honest.proofs.OnePath.{only_calls_at, shows_once, in_order_at}
-use Rattle.vic_honest.specs.Claims.{CallsAreOneHistory, ViewsAreFronts}
 
 -- ---- what a log's confirmed calls leave
 
@@ -260,18 +261,19 @@ world_has g w know c there =
     let f : IsFated w.server.log c = all_at (IsFated w.server.log) (completions g w.history) c know.fates there in
     (entries f.newer, ap entries f.is ∙ entries-joined f.newer (f.o ∷ f.below) ∙ ap (λ p. entries f.newer ++ p) (sym f.prefix))
 
-pub one_history : CallsAreOneHistory
-one_history g events run =
-    let w : World = world_after g events in
-    let fit : WorldFits g w = run_fits g events run in
-    let know : WorldKnows g w = run_knows g events run in
+pub one_history : (s : Scene) (server : Server) (moves : List Move) → IsHonestRun s server moves
+    → IsOneHistory s.group s.history (completed_in s.group s.history server.log)
+one_history s server moves run =
+    let w : World = world_of s server in
+    let fit : WorldFits s.group w = (run_fits s server moves run).fits in
+    let know : WorldKnows s.group w = run_knows s server moves run in
     record {
-      legal = world_legal g w fit know;
-      in_order = in_order_at g w.history fit.steps fit.honest (entries w.server.log);
+      legal = world_legal s.group w fit know;
+      in_order = in_order_at s.group w.history fit.steps fit.honest (entries w.server.log);
       all = λ me e o owner done answered.
-          let c : CompletedAs g w.history e o = answered_completion g w.history fit.steps e o done answered in
-          shows_once g w.history fit.steps e o c (entries w.server.log) (world_has g w know c.by c.there);
-      only = only_calls_at g w.history fit.steps (entries w.server.log);
+          let c : CompletedAs s.group w.history e o = answered_completion s.group w.history fit.steps e o done answered in
+          shows_once s.group w.history fit.steps e o c (entries w.server.log) (world_has s.group w know c.by c.there);
+      only = only_calls_at s.group w.history fit.steps (entries w.server.log);
     }
 
 -- ---- views
@@ -286,11 +288,12 @@ last_front me log (c ∷ cs) h =
       | false ↦ last_front me log cs h.1
     ]
 
-pub views_are_fronts : ViewsAreFronts
+pub views_are_fronts : (s : Scene) (server : Server) (moves : List Move) → IsHonestRun s server moves → (me : ℕ)
+    → (newer : List Shown) × (completed_in s.group s.history server.log ≡ newer ++ view_of s.group me s.history)
 unfolding view_of
-views_are_fronts g events run me =
-    let w : World = world_after g events in
-    let cs : List Completion = completions g w.history in
-    let grown = last_front me w.server.log cs (run_knows g events run).fates in
+views_are_fronts s server moves run me =
+    let w : World = world_of s server in
+    let cs : List Completion = completions s.group w.history in
+    let grown = last_front me w.server.log cs (run_knows s server moves run).fates in
     let shown = confirmed_below cs grown.0 (last_prefix me cs) in
     (shown.0, ap (confirmed_calls cs) grown.1 ∙ shown.1)

@@ -1,4 +1,6 @@
 -- The server refuses exactly the calls that would pass a limit.
+use Rattle.vic_order.specs.Honest.{IsHonestRun}
+use Rattle.vic_order.specs.Scenes.{Move, Scene, queue_of}
 use Rattle.std.proofs.Common.{◌≡◌, ℕ, ◌<◌, ◌≤◌, ◌^◌, Bool, false, List, [], ◌∷◌, ◌++◌, length, Option, Some, None, refl, sym, ap, subst, ◌∙◌}
 use Rattle.vic_dict.specs.declared.op.Op.{Op}
 use Rattle.vic_wire.specs.declared.message.Digest32.{Digest32}
@@ -15,11 +17,10 @@ use Rattle.vic_rules.specs.Client.{Standing, Sending, Invokes, Commits, Polls, S
 use Rattle.vic_rules.specs.History.{standing}
 use Rattle.vic_rules.specs.Trust.{texts_made}
 use Rattle.vic_order.specs.Order.{Ordered, Server, Answered, says, unless_refused, sealed_count, serve, serve_read}
-use Rattle.vic_order.specs.Honest.{World, world_after}
 use Rattle.vic_spellings.proofs.SpelledRequests.{request_again}
 use Rattle.vic_laws.proofs.Words.{some_same}
-use Rattle.vic_honest.specs.Claims.{limit, RefusedAtLimit, RefusalsAreLimits, LimitsAreRefused, IsOrderedBy, CallsAreOrdered}
-use Rattle.vic_honest.proofs.Standing.{WorldFits, ClientFits, Doing, Rests, Sends, Gets, up_by}
+use Rattle.vic_honest.specs.Claims.{limit, RefusedAtLimit, IsOrderedBy}
+use Rattle.vic_honest.proofs.Standing.{World, world_of, WorldFits, ClientFits, Doing, Rests, Sends, Gets, up_by}
 use Rattle.vic_honest.proofs.Worlds.{room_left}
 use Rattle.vic_honest.proofs.Knowing.{Keeps, Does, RefusalComes}
 use Rattle.vic_honest.proofs.Answering.{Answers}
@@ -148,25 +149,28 @@ module _ (g : Group) (w : World) (fit : WorldFits g w) (know : WorldKnows g w) (
   world_awaits payload rest up_is known seq o tag read =
       let x : IsSent g w me payload = sent_by payload rest up_is in awaited_by x.seen x.newer x.sending x.does known seq o tag (some_same (sym x.read ∙ read))
 
-pub refusals_are_limits : RefusalsAreLimits
-refusals_are_limits g events run me above upto payload rest up_is r refused =
-    world_refuses g (world_after g events) (run_fits g events run) (run_knows g events run) me above upto payload rest up_is r refused
+pub refusals_are_limits : (s : Scene) (server : Server) (moves : List Move) → IsHonestRun s server moves → (me : ℕ) → 0 < me → me ≤ s.group.count → (payload : List ℕ) (rest : List (List ℕ)) → queue_of s.up me ≡ payload ∷ rest
+    → (r : ℕ) → (serve server me payload).answer ≡ say.Refused r → RefusedAtLimit server payload r
+refusals_are_limits s server moves run me above upto payload rest up_is r refused =
+    world_refuses s.group (world_of s server) (run_fits s server moves run).fits (run_knows s server moves run) me above upto payload rest up_is r refused
 
-pub limits_are_refused : LimitsAreRefused
-limits_are_refused g events run me above upto payload rest up_is known seq o tag read r at =
-    let s : Server = (world_after g events).server in
-    let a : Answered = ordered_by s me known seq o tag in
-    ap (λ x. x.answer) (world_calls g (world_after g events) (run_fits g events run) (run_knows g events run) me above upto payload rest up_is known seq o tag read)
-    ∙ ap (λ l. (unless_refused s l a).answer) at
+pub limits_are_refused : (s : Scene) (server : Server) (moves : List Move) → IsHonestRun s server moves → (me : ℕ) → 0 < me → me ≤ s.group.count → (payload : List ℕ) (rest : List (List ℕ)) → queue_of s.up me ≡ payload ∷ rest
+    → (known seq : ℕ) (o : Op) (tag : Digest32) → read_request payload ≡ Some (ask.Invoke known seq o tag)
+    → (r : ℕ) → limit server known o ≡ Some r → (serve server me payload).answer ≡ say.Refused r
+limits_are_refused s server moves run me above upto payload rest up_is known seq o tag read r at =
+    let a : Answered = ordered_by server me known seq o tag in
+    ap (λ x. x.answer) (world_calls s.group (world_of s server) (run_fits s server moves run).fits (run_knows s server moves run) me above upto payload rest up_is known seq o tag read)
+    ∙ ap (λ l. (unless_refused server l a).answer) at
 
-pub calls_are_ordered : CallsAreOrdered
-calls_are_ordered g events run me above upto payload rest up_is known seq o tag read none =
-    let s : Server = (world_after g events).server in
-    let a : Answered = ordered_by s me known seq o tag in
-    let is : serve s me payload ≡ a =
-    world_calls g (world_after g events) (run_fits g events run) (run_knows g events run) me above upto payload rest up_is known seq o tag read ∙ ap (λ l. unless_refused s l a) none in
-    subst (IsOrderedBy s me seq o tag) (sym is) (record {
-      newest = record { entry = record { client = me; seq = seq; op = o }; tag = tag; sealed_then = sealed_count s };
+pub calls_are_ordered : (s : Scene) (server : Server) (moves : List Move) → IsHonestRun s server moves → (me : ℕ) → 0 < me → me ≤ s.group.count → (payload : List ℕ) (rest : List (List ℕ)) → queue_of s.up me ≡ payload ∷ rest
+    → (known seq : ℕ) (o : Op) (tag : Digest32) → read_request payload ≡ Some (ask.Invoke known seq o tag)
+    → limit server known o ≡ None → IsOrderedBy server me seq o tag (serve server me payload)
+calls_are_ordered s server moves run me above upto payload rest up_is known seq o tag read none =
+    let a : Answered = ordered_by server me known seq o tag in
+    let is : serve server me payload ≡ a =
+    world_calls s.group (world_of s server) (run_fits s server moves run).fits (run_knows s server moves run) me above upto payload rest up_is known seq o tag read ∙ ap (λ l. unless_refused server l a) none in
+    subst (IsOrderedBy server me seq o tag) (sym is) (record {
+      newest = record { entry = record { client = me; seq = seq; op = o }; tag = tag; sealed_then = sealed_count server };
       log = refl;
       entry = refl;
       tagged = refl;

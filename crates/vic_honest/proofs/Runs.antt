@@ -1,75 +1,90 @@
 -- What each honest run shows.
-use Rattle.std.proofs.Common.{◌≡◌, ℕ, List, [], ◌∷◌, Option, Some, None, refl, sym, ap, subst, ◌∙◌}
+use Rattle.vic_rules.specs.Trust.{IsForged}
+use Rattle.vic_rules.specs.declared.trace.TraceStep.{TraceStep}
+use Rattle.vic_dict.specs.Lists.{IsIn}
+use Rattle.std.proofs.Common.{◌≡◌, ℕ, List, [], ◌∷◌, Option, Some, None, refl, sym, ap, subst, ◌∙◌, ◌<◌, ◌≤◌}
 use Rattle.std.specs.Prelude.{if◌then◌else◌}
+use Rattle.std.proofs.lemmas.Option.{same_Some}
 use Rattle.vic_dict.specs.declared.op.Outcome.{Outcome}
 use Rattle.vic_dict.specs.declared.op.Outcome.TheVariants as outcome
 use Rattle.vic_dict.specs.Dictionary.{Dictionary, after}
-use Rattle.vic_wire.specs.Hashes.{Group}
 use Rattle.vic_wire.specs.Trees.{dictionary_root}
 use Rattle.vic_rules.specs.declared.trace.Shown.{Shown}
 use Rattle.vic_rules.specs.Client.{is_done, decided, in_the_way}
-use Rattle.vic_rules.specs.History.{completions}
+use Rattle.vic_rules.specs.History.{completions, Completion, IsLawful}
 use Rattle.vic_rules.specs.Views.{left_by, outcome_leaves, Explains}
 use Rattle.vic_laws.proofs.Words.{all_at}
-use Rattle.vic_order.specs.Order.{Ordered}
+use Rattle.vic_order.specs.Order.{Ordered, Server}
 use Rattle.vic_order.specs.Fates.{entries, fate, dictionary_by}
-use Rattle.vic_order.specs.Honest.{Event, IsHonestRun, world_after}
-use Rattle.vic_honest.specs.Claims.{TagsWereMade, HistoriesAreLawful, PathsAreFronts, NobodyHalts, ReturnsAreFates, RefusedCallsAreFew, SealedDictionary, AbortsLeaveNothing, LogsAreLegal, shown_log}
-use Rattle.vic_honest.proofs.Standing.{WorldFits}
-use Rattle.vic_honest.proofs.Worlds.{all_fit}
+use Rattle.vic_order.specs.Scenes.{Scene, server_at, Move}
+use Rattle.vic_order.specs.Honest.{IsHonestRun}
+use Rattle.vic_honest.specs.Claims.{AbortsLeaveNothing, LogsAreLegal, shown_log, GoesOn, IsFrontOf, SealedSo, StandsAsFated}
+use Rattle.vic_honest.proofs.Standing.{SceneFits}
+use Rattle.vic_honest.proofs.Worlds.{server_after, all_fit}
 use Rattle.vic_honest.proofs.Owns.{root_on}
 use Rattle.vic_honest.proofs.Deciding.{dictionary-next}
 use Rattle.vic_honest.proofs.Checks.{seal_on-root}
 use Rattle.vic_honest.proofs.Answering.{count_is, top_is}
 use Rattle.vic_honest.proofs.Learning.{IsFated, IsFine}
-use Rattle.vic_honest.proofs.Known.{WorldKnows, all_known}
+use Rattle.vic_honest.proofs.Known.{SceneKnows, all_known}
 
-pub run_fits : (g : Group) (events : List Event) → IsHonestRun g events → WorldFits g (world_after g events)
-run_fits g events run = all_fit g run.group events run.steps
+-- the server that honest moves leave is the run's
+server_left : (s : Scene) (server v : Server) (moves : List Move) → IsHonestRun s server moves → SceneFits s v → v ≡ server
+server_left s server v moves run fit = same_Some v server (sym (ap (λ l. server_at l 1) fit.one.only) ∙ run.one)
 
-pub run_knows : (g : Group) (events : List Event) → IsHonestRun g events → WorldKnows g (world_after g events)
-run_knows g events run = all_known g run.group events run.steps
+scene_fits : (s : Scene) (server : Server) (moves : List Move) → IsHonestRun s server moves → SceneFits s (server_after s.group moves)
+scene_fits s server moves run = subst (λ t. SceneFits t (server_after s.group moves)) (sym run.is) (all_fit s.group run.group moves run.may)
 
-pub tags_made : TagsWereMade
-tags_made g events run = (run_fits g events run).honest
+pub run_fits : (s : Scene) (server : Server) (moves : List Move) → IsHonestRun s server moves → SceneFits s server
+run_fits s server moves run =
+    let fit = scene_fits s server moves run in subst (SceneFits s) (server_left s server (server_after s.group moves) moves run fit) fit
 
-pub all_lawful : HistoriesAreLawful
-all_lawful g events run = record { group = run.group; steps = (run_fits g events run).steps }
+pub run_knows : (s : Scene) (server : Server) (moves : List Move) → IsHonestRun s server moves → SceneKnows s server
+run_knows s server moves run =
+    let fit = scene_fits s server moves run in
+    let know : SceneKnows s (server_after s.group moves) = subst (λ t. SceneKnows t (server_after s.group moves)) (sym run.is) (all_known s.group run.group moves run.may) in
+    subst (SceneKnows s) (server_left s server (server_after s.group moves) moves run fit) know
 
-pub all_fronts : PathsAreFronts
-all_fronts g events run me above upto =
-    let c = (run_fits g events run).clients me above upto in record { newer = c.newer; seen = c.seen; log = c.is; path = c.path }
+pub tags_made : (s : Scene) (server : Server) (moves : List Move) → IsHonestRun s server moves → IsForged s.group s.history → ⊥
+tags_made s server moves run = (run_fits s server moves run).fits.honest
+
+pub all_lawful : (s : Scene) (server : Server) (moves : List Move) → IsHonestRun s server moves → IsLawful s.group s.history
+all_lawful s server moves run = record { group = run.group; steps = (run_fits s server moves run).fits.steps }
+
+pub all_fronts : (s : Scene) (server : Server) (moves : List Move) → IsHonestRun s server moves → (me : ℕ) → 0 < me → me ≤ s.group.count → IsFrontOf s server me
+all_fronts s server moves run me above upto =
+    let c = (run_fits s server moves run).fits.clients me above upto in record { newer = c.newer; seen = c.seen; log = c.is; path = c.path }
 
 pub never_halted : (x : Option Outcome) (check : ℕ) → IsFine x → x ≡ Some (outcome.Halted check) → ⊥
 never_halted x check fine e = subst IsFine e fine
 
-pub all_go_on : NobodyHalts
-all_go_on g events run me above upto =
-    let know = run_knows g events run in
+pub all_go_on : (s : Scene) (server : Server) (moves : List Move) → IsHonestRun s server moves → (me : ℕ) → 0 < me → me ≤ s.group.count → GoesOn s me
+all_go_on s server moves run me above upto =
+    let know = run_knows s server moves run in
     record {
       standing_so = (know.clients me above upto).keeps.going;
-      returns_so = λ x there check e. never_halted x.returned check (all_at (λ y. IsFine y.returned) (world_after g events).history x know.fine there) e;
+      returns_so = λ x there check e. never_halted x.returned check (all_at (λ y. IsFine y.returned) s.history x know.fine there) e;
     }
 
-pub all_fated : ReturnsAreFates
-all_fated g events run c there =
-    let f = all_at (IsFated (world_after g events).server.log) (completions g (world_after g events).history) c (run_knows g events run).fates there in
+pub all_fated : (s : Scene) (server : Server) (moves : List Move) → IsHonestRun s server moves → (c : Completion) → IsIn (completions s.group s.history) c → StandsAsFated server.log c
+all_fated s server moves run c there =
+    let f = all_at (IsFated server.log) (completions s.group s.history) c (run_knows s server moves run).fates there in
     record { newer = f.newer; o = f.o; below = f.below; is = f.is; client = f.client; prefix = f.prefix; outcome = f.outcome }
 
-pub all_refusals : RefusedCallsAreFew
-all_refusals g events run x there r e = subst IsFine e (all_at (λ y. IsFine y.returned) (world_after g events).history x (run_knows g events run).fine there)
+pub all_refusals : (s : Scene) (server : Server) (moves : List Move) → IsHonestRun s server moves → (x : TraceStep) → IsIn s.history x → (r : ℕ) → x.returned ≡ Some (outcome.Refused r) → (0 < r) × (r ≤ 4)
+all_refusals s server moves run x there r e = subst IsFine e (all_at (λ y. IsFine y.returned) s.history x (run_knows s server moves run).fine there)
 
-pub all_sealed : SealedDictionary
+pub all_sealed : (s : Scene) (server : Server) (moves : List Move) → IsHonestRun s server moves → SealedSo server
 unfolding root_on
-all_sealed g events run =
-    let k = (run_knows g events run).server in
+all_sealed s server moves run =
+    let k = (run_knows s server moves run).server in
     record {
       unsealed = k.over;
       sealed = k.base;
       is = k.is;
-      count = count_is g (world_after g events).server k;
+      count = count_is s.group server k;
       dictionary = k.dictionary;
-      root = ap (λ x. x.root.bytes) (top_is g (world_after g events).server k) ∙ seal_on-root g k.base ∙ ap dictionary_root (sym k.dictionary);
+      root = ap (λ x. x.root.bytes) (top_is s.group server k) ∙ seal_on-root s.group k.base ∙ ap dictionary_root (sym k.dictionary);
     }
 
 pub aborts_leave_nothing : AbortsLeaveNothing

@@ -1,20 +1,21 @@
 -- The invariant of an honest run.
-use Rattle.std.specs.Prelude.{◌≡◌, ℕ, ◌<◌, ◌≤◌, ◌^◌, false, List, [], ◌∷◌, ◌++◌, length, map, Option, Some, None}
+use Rattle.std.specs.Prelude.{◌≡◌, ℕ, ◌<◌, ◌≤◌, ◌^◌, false, List, [], ◌∷◌, ◌++◌, length, map, replicate, Option, Some, None}
 use Rattle.std.specs.List.{AllByRecursion}
 use Rattle.vic_dict.specs.Lists.{IsIn, AreBytes}
 use Rattle.vic_dict.specs.Dictionary.{IsProper}
 use Rattle.vic_wire.specs.declared.message.Seal.{Seal}
 use Rattle.vic_wire.specs.declared.message.ToClient.{ToClient}
 use Rattle.vic_wire.specs.Texts.{invoke_text}
-use Rattle.vic_wire.specs.Hashes.{Group}
+use Rattle.vic_wire.specs.Hashes.{Group, IsGroup}
 use Rattle.vic_wire.specs.Messages.{IsEntry, IsSeal, HasSpelling, HasRequestSpelling, request_text, answer_text}
 use Rattle.vic_rules.specs.declared.state.Own.{Own}
+use Rattle.vic_rules.specs.declared.trace.TraceStep.{TraceStep}
 use Rattle.vic_rules.specs.Client.{Standing, Sending, request_of, awaits_nothing, seal_of, entries_of, seal_text_on}
 use Rattle.vic_rules.specs.History.{AreSteps, standing}
 use Rattle.vic_rules.specs.Trust.{IsForged, texts_made, text_sent}
 use Rattle.vic_order.specs.Order.{Ordered, Server, size}
 use Rattle.vic_order.specs.Fates.{entries}
-use Rattle.vic_order.specs.Honest.{World}
+use Rattle.vic_order.specs.Scenes.{Queue, Scene, queue_of}
 use Rattle.vic_honest.proofs.Words.{AreMade, told}
 
 -- ---- the server
@@ -113,8 +114,31 @@ pub record ClientFits (g : Group) (made : List (List ℕ)) (me : ℕ) (log : Lis
 
 -- ---- the world
 
+-- what the invariant speaks of: a history, each client's queues, and one server
+pub record World : Type 0 where
+  pub history : List TraceStep
+  pub up : ℕ → Queue
+  pub down : ℕ → Queue
+  pub server : Server
+
 pub record WorldFits (g : Group) (w : World) : Type 0 where
   pub steps : AreSteps g w.history
   pub honest : IsForged g w.history → ⊥
   pub server : ServerFits g (texts_made g w.history) w.server
   pub clients : (me : ℕ) → 0 < me → me ≤ g.count → ClientFits g (texts_made g w.history) me w.server.log (standing g me w.history) (w.up me) (w.down me)
+
+-- of a scene with one server
+abbrev pub world_of : Scene → Server → World
+world_of s server = record { history = s.history; up = queue_of s.up; down = queue_of s.down; server = server }
+
+-- each client has its queues, and this server, the only one, serves them all
+pub record HasOne (s : Scene) (v : Server) : Type 0 where
+  pub group : IsGroup s.group
+  pub up_count : length s.up ≡ s.group.count
+  pub down_count : length s.down ≡ s.group.count
+  pub by : s.served_by ≡ replicate s.group.count 1
+  pub only : s.servers ≡ Some v ∷ None ∷ None ∷ None ∷ []
+
+pub record SceneFits (s : Scene) (v : Server) : Type 0 where
+  pub one : HasOne s v
+  pub fits : WorldFits s.group (world_of s v)

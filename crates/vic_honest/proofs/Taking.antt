@@ -26,7 +26,7 @@ use Rattle.vic_rules.specs.Client.{Standing, Sending, Commits, Seals, Move, step
 use Rattle.vic_rules.specs.Trust.{taken_by, checked_texts, seal_texts, text_sent}
 use Rattle.vic_order.specs.Order.{Ordered}
 use Rattle.vic_order.specs.Fates.{entries}
-use Rattle.vic_order.specs.Honest.{queued}
+use Rattle.vic_order.specs.Scenes.{queued}
 use Rattle.vic_spellings.proofs.Bytes.{bytes-sha256}
 use Rattle.vic_laws.proofs.Words.{all_weaker, all_append, in_either, in_left}
 use Rattle.vic_laws.proofs.Steps.{Kind, Quiet, Replied, Updated, Listed, call_of, is_quiet, is_called, is_replied, is_updated, is_listed}

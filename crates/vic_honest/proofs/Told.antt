@@ -1,7 +1,7 @@
 -- What a caller is told of a refusal is what the server answered to its call.
-use Rattle.std.proofs.Common.{◌≡◌, ℕ, ◌<◌, ◌≤◌, false, List, [], ◌∷◌, ◌++◌, Option, Some, None, inl, inr, refl, sym, ap, subst, ◌∙◌}
-use Rattle.std.specs.Prelude.{if◌then◌else◌}
-use Rattle.std.proofs.lemmas.Bool.{eq-eqb, ne_eqb, cases_eq}
+use Rattle.vic_order.specs.Fates.{entries}
+use Rattle.std.proofs.Common.{◌≡◌, ℕ, ◌<◌, ◌≤◌, false, List, [], ◌∷◌, ◌++◌, Option, Some, None, inl, inr, refl, sym, ap, subst, ◌∙◌, arith}
+use Rattle.std.proofs.lemmas.Bool.{cases_eq}
 use Rattle.vic_dict.specs.declared.op.Op.{Op}
 use Rattle.vic_dict.specs.declared.op.Entry.{Entry}
 use Rattle.vic_dict.specs.declared.op.Outcome.TheVariants as outcome
@@ -21,15 +21,19 @@ use Rattle.vic_rules.specs.declared.trace.Input.TheVariants as input
 use Rattle.vic_rules.specs.declared.trace.TraceStep.{TraceStep}
 use Rattle.vic_rules.specs.Client.{Standing, IsIdle, step, grown, decision, decided, replied, updated, taken, taken_or_halts, on_payload, verdict}
 use Rattle.vic_rules.specs.History.{standing}
-use Rattle.vic_order.specs.Order.{serve}
-use Rattle.vic_order.specs.Honest.{Event, Asks, Serves, Takes, World, changed, queued, steps, serves, takes, happens, MayBe, AreHonest, world_after}
+use Rattle.vic_order.specs.Order.{Server, serve}
+use Rattle.vic_order.specs.Serving.{by_rule}
+use Rattle.vic_order.specs.Scenes.{Queue, Scene, queue_of, set_queue, server_at, steps, served, serves, taken as taking, takes, unchanged, Move, Asks, Serves, Takes, Flips, Hears, Resends, Copies, Joins, moved, MayAsk}
+use Rattle.vic_order.specs.Honest.{MayHonestly, scene_after, AreHonest, IsHonestRun}
 use Rattle.vic_spellings.proofs.SpelledAnswers.{answer_again}
 use Rattle.vic_laws.proofs.Words.{some_same}
 use Rattle.vic_laws.proofs.Standings.{standing_kept}
-use Rattle.vic_honest.specs.Claims.{RefusedAtLimit, WasRefused, RefusalsAreTold}
-use Rattle.vic_honest.proofs.Standing.{Doing, Rests, Sends, Gets, up_by, down_by, WorldFits}
-use Rattle.vic_honest.proofs.Worlds.{step_of, move, third, ask_bounds, all_fit}
-use Rattle.vic_honest.proofs.Known.{WorldKnows, nothing_under_way, answer_spelled, all_known}
+use Rattle.vic_honest.specs.Claims.{RefusedAtLimit, WasRefused}
+use Rattle.vic_honest.proofs.Queues.{queue-set_same, queue-set_other, queue-fresh}
+use Rattle.vic_honest.proofs.Moves.{scene-group}
+use Rattle.vic_honest.proofs.Standing.{world_of, SceneFits, Doing, Rests, Sends, Gets, up_by, down_by}
+use Rattle.vic_honest.proofs.Worlds.{step_of, server_is, server_after, all_fit}
+use Rattle.vic_honest.proofs.Known.{SceneKnows, nothing_under_way, answer_spelled, all_known}
 use Rattle.vic_honest.proofs.Refusals.{world_refuses, world_awaits}
 
 -- ---- a client returns a refusal only where it takes one
@@ -80,56 +84,58 @@ unfolding step
 take_refused g me t payload r e = payload_refused g me t t.halted payload r e
 
 -- what is asked of a client is no refusal
-ask_refused : (g : Group) (w : World) (me : ℕ) (i : Input) → MayBe g w (Asks me i) → (r : ℕ) → (step g me (standing g me w.history) i).returns ≡ Some (outcome.Refused r) → ⊥
+ask_refused : (s : Scene) (me : ℕ) (i : Input) → MayAsk s me i → (r : ℕ) → (step s.group me (standing s.group me s.history) i).returns ≡ Some (outcome.Refused r) → ⊥
 unfolding step
-ask_refused g w me (input.Call o) may r e = absurd cc
-ask_refused g w me input.Poll may r e = absurd cc
-ask_refused g w me input.Sync may r e = absurd cc
-ask_refused g w me (input.Payload payload) may r e = may
+ask_refused s me (input.Call o) may r e = absurd cc
+ask_refused s me input.Poll may r e = absurd cc
+ask_refused s me input.Sync may r e = absurd cc
+ask_refused s me (input.Payload payload) may r e = may
 
-ask_idle : (g : Group) (w : World) (me : ℕ) (i : Input) → MayBe g w (Asks me i) → IsIdle (standing g me w.history)
-ask_idle g w me (input.Call o) may = let ask = third may in ask.0
-ask_idle g w me input.Poll may = third may
-ask_idle g w me input.Sync may = third may
-ask_idle g w me (input.Payload payload) may = absurd may
+ask_idle : (s : Scene) (me : ℕ) (i : Input) → MayAsk s me i → IsIdle (standing s.group me s.history)
+ask_idle s me (input.Call o) may = may.0
+ask_idle s me input.Poll may = may
+ask_idle s me input.Sync may = may
+ask_idle s me (input.Payload payload) may = absurd may
 
 -- ---- what is told
 
 -- each step that returned a refusal was told of one that the server made
-abbrev AreTold : Group → List Event → List TraceStep → Type 0
-AreTold g events [] = Unit {0}
-AreTold g events (x ∷ past) = AreTold g events past × ((r : ℕ) → x.returned ≡ Some (outcome.Refused r) → WasRefused g events x.client (standing g x.client past) r)
+abbrev AreTold : Group → List Move → List TraceStep → Type 0
+AreTold g moves [] = Unit {0}
+AreTold g moves (x ∷ past) = AreTold g moves past × ((r : ℕ) → x.returned ≡ Some (outcome.Refused r) → WasRefused g moves x.client (standing g x.client past) r)
 
 -- so is a client for which a refusal waits
-abbrev Waits : Group → List Event → World → ℕ → Type 0
-Waits g events w me = (payload : List ℕ) (rest : List (List ℕ)) → w.down me ≡ payload ∷ rest → (r : ℕ) → read_answer payload ≡ Some (say.Refused r) → WasRefused g events me (standing g me w.history) r
+abbrev Waits : List Move → Scene → ℕ → Type 0
+Waits moves s me = (payload : List ℕ) (rest : List (List ℕ)) → queue_of s.down me ≡ payload ∷ rest → (r : ℕ) → read_answer payload ≡ Some (say.Refused r) → WasRefused s.group moves me (standing s.group me s.history) r
 
-record IsTold (g : Group) (events : List Event) (w : World) : Type 0 where
-  steps : AreTold g events w.history
-  waits : (me : ℕ) → 0 < me → me ≤ g.count → Waits g events w me
+record IsTold (moves : List Move) (s : Scene) : Type 0 where
+  steps : AreTold s.group moves s.history
+  waits : (me : ℕ) → 0 < me → me ≤ s.group.count → Waits moves s me
 
-refused_still : (g : Group) (e : Event) (events : List Event) (me : ℕ) (s : Standing) (r : ℕ) → WasRefused g events me s r → WasRefused g (e ∷ events) me s r
-refused_still g e events me s r h = record {
-  later = e ∷ h.later;
+refused_still : (g : Group) (m : Move) (moves : List Move) (me : ℕ) (t : Standing) (r : ℕ) → WasRefused g moves me t r → WasRefused g (m ∷ moves) me t r
+refused_still g m moves me t r h = record {
+  later = m ∷ h.later;
   before = h.before;
   payload = h.payload;
   rest = h.rest;
-  is = ap (λ l. e ∷ l) h.is;
+  server = h.server;
+  is = ap (λ l. m ∷ l) h.is;
   waited = h.waited;
+  one = h.one;
   answer = h.answer;
   refused = h.refused;
   load = h.load;
   awaited = h.awaited;
 }
 
-told_still : (g : Group) (e : Event) (events : List Event) (h : List TraceStep) → AreTold g events h → AreTold g (e ∷ events) h
-told_still g e events [] a = tt
-told_still g e events (x ∷ past) a = (told_still g e events past a.0, λ r f. refused_still g e events x.client (standing g x.client past) r (a.1 r f))
+told_still : (g : Group) (m : Move) (moves : List Move) (h : List TraceStep) → AreTold g moves h → AreTold g (m ∷ moves) h
+told_still g m moves [] a = tt
+told_still g m moves (x ∷ past) a = (told_still g m moves past a.0, λ r f. refused_still g m moves x.client (standing g x.client past) r (a.1 r f))
 
-told_at : (g : Group) (events : List Event) (newer : List TraceStep) (x : TraceStep) (past : List TraceStep) → AreTold g events (newer ++ x ∷ past)
-    → (r : ℕ) → x.returned ≡ Some (outcome.Refused r) → WasRefused g events x.client (standing g x.client past) r
-told_at g events [] x past a = a.1
-told_at g events (y ∷ newer) x past a = told_at g events newer x past a.0
+told_at : (g : Group) (moves : List Move) (newer : List TraceStep) (x : TraceStep) (past : List TraceStep) → AreTold g moves (newer ++ x ∷ past)
+    → (r : ℕ) → x.returned ≡ Some (outcome.Refused r) → WasRefused g moves x.client (standing g x.client past) r
+told_at g moves [] x past a = a.1
+told_at g moves (y ∷ newer) x past a = told_at g moves newer x past a.0
 
 -- an answer waits alone
 alone : (q : List (List ℕ)) (payload : List ℕ) (rest : List (List ℕ)) (doing : Doing) → q ≡ down_by doing → q ≡ payload ∷ rest → rest ≡ []
@@ -144,93 +150,107 @@ request_alone g me t up down payload rest Rests e f at = absurd cc
 request_alone g me t up down payload rest (Sends sending) e f at = let none : rest ≡ [] = cc in (at ∙ ap (λ l. payload ∷ l) none, f)
 request_alone g me t up down payload rest (Gets m) e f at = absurd cc
 
-module _ (g : Group) (group : IsGroup g) (before : List Event) (fit : WorldFits g (world_after g before)) (know : WorldKnows g (world_after g before)) (told : IsTold g before (world_after g before))
-    (me : ℕ) (above : 0 < me) (upto : me ≤ g.count) where
-  abbrev w : World
-  w = world_after g before
-
-  abbrev here : Standing
-  here = standing g me w.history
-
+module _ (moves : List Move) (s : Scene) (server : Server) (at_moves : scene_after s.group moves ≡ s) (fit : SceneFits s server) (know : SceneKnows s server) (told : IsTold moves s)
+    (me : ℕ) (above : 0 < me) (upto : me ≤ s.group.count) where
   -- a client's step, after which no answer waits for it
-  step_told : (e : Event) (i : Input) (down : ℕ → List (List ℕ)) → ((j : ℕ) → (j ≡ me → ⊥) → down j ≡ w.down j) → down me ≡ []
-      → ((r : ℕ) → (move g w me i).returns ≡ Some (outcome.Refused r) → WasRefused g before me here r) → IsTold g (e ∷ before) (steps g (record w { down = down }) me i)
-  step_told e i down same none new = record {
-    steps = (told_still g e before w.history told.steps, λ r f. refused_still g e before me here r (new r f));
+  step_told : (m : Move) (i : Input) (down : List Queue) → ((j : ℕ) → (j ≡ me → ⊥) → 0 < j → queue_of down j ≡ queue_of s.down j) → queue_of down me ≡ []
+      → ((r : ℕ) → (step s.group me (standing s.group me s.history) i).returns ≡ Some (outcome.Refused r) → WasRefused s.group moves me (standing s.group me s.history) r) → IsTold (m ∷ moves) (steps (record s { down = down }) me i)
+  unfolding steps
+  step_told m i down same none new = record {
+    steps = (told_still s.group m moves s.history told.steps, λ r f. refused_still s.group m moves me (standing s.group me s.history) r (new r f));
     waits = λ j low high payload rest at r read. elim (cases_eq j me) [
-      | inl mine ↦ let there : down j ≡ down me = ap down mine in absurd cc
+      | inl mine ↦ let there : queue_of down j ≡ queue_of down me = ap (queue_of down) mine in absurd cc
       | inr apart ↦
-          subst (λ s. WasRefused g (e ∷ before) j s r) (sym (standing_kept g j (step_of g w me i) w.history (λ x. apart (sym x))))
-          (refused_still g e before j (standing g j w.history) r (told.waits j low high payload rest (sym (same j apart) ∙ at) r read))
+          subst (λ t. WasRefused s.group (m ∷ moves) j t r) (sym (standing_kept s.group j (step_of s.group (world_of s server) me i) s.history (λ x. apart (sym x))))
+          (refused_still s.group m moves j (standing s.group j s.history) r (told.waits j low high payload rest (sym (same j apart low) ∙ at) r read))
     ];
   }
 
-  asks_told : (i : Input) → MayBe g w (Asks me i) → IsTold g (Asks me i ∷ before) (steps g w me i)
+  asks_told : (i : Input) → MayAsk s me i → IsTold (Asks me i ∷ moves) (steps s me i)
   asks_told i may =
-      let none = nothing_under_way g w fit know me above upto (ask_idle g w me i may) in
-      step_told (Asks me i) i w.down (λ j apart. refl) none.1 (λ r e. absurd (ask_refused g w me i may r e))
+      let none = nothing_under_way s server fit know me above upto (ask_idle s me i may) in
+      step_told (Asks me i) i s.down (λ j apart low. refl) none.1 (λ r e. absurd (ask_refused s me i may r e))
 
-  takes_told : (q : List (List ℕ)) → w.down me ≡ q → (q ≡ [] → ⊥) → IsTold g (Takes me ∷ before) (takes g w me q)
-  takes_told [] at some = absurd (some refl)
-  takes_told (payload ∷ rest) at some =
+  taken_told : (q : Queue) → queue_of s.down me ≡ q → (q ≡ [] → ⊥) → IsTold (Takes me ∷ moves) (taking unchanged s me q)
+  taken_told [] at some = absurd (some refl)
+  taken_told (payload ∷ rest) at some =
       let c = know.clients me above upto in
-      step_told (Takes me) (input.Payload payload) (changed w.down me rest) (λ j apart. ap (λ b. if b then rest else w.down j) (ne_eqb j me apart))
-      (ap (λ b. if b then rest else w.down me) (eq-eqb me me refl) ∙ alone (w.down me) payload rest c.doing c.down_is at)
-      (λ r e. told.waits me above upto payload rest at r (take_refused g me here payload r e))
+      step_told (Takes me) (input.Payload payload) (set_queue s.down me rest) (λ j apart low. queue-set_other s.down me j rest above low apart)
+      (queue-set_same s.down me rest above (omega (arith, upto, fit.one.down_count)) ∙ alone (queue_of s.down me) payload rest c.doing c.down_is at)
+      (λ r e. told.waits me above upto payload rest at r (take_refused s.group me (standing s.group me s.history) payload r e))
+
+  takes_told : (queue_of s.down me ≡ [] → ⊥) → IsTold (Takes me ∷ moves) (takes unchanged s me)
+  unfolding takes
+  takes_told some = taken_told (queue_of s.down me) refl some
 
   -- the server answers a request
-  answered : (payload : List ℕ) (rest : List (List ℕ)) → w.up me ≡ payload ∷ rest → (r : ℕ) → (serve w.server me payload).answer ≡ say.Refused r → WasRefused g (Serves me ∷ before) me here r
+  answered : (payload : List ℕ) (rest : List (List ℕ)) → queue_of s.up me ≡ payload ∷ rest → (r : ℕ) → (serve server me payload).answer ≡ say.Refused r
+      → WasRefused s.group (Serves me ∷ moves) me (standing s.group me s.history) r
   answered payload rest at r answer =
-      let refused : RefusedAtLimit w.server payload r = world_refuses g w fit know me above upto payload rest at r answer in
+      let refused : RefusedAtLimit server payload r = world_refuses s.group (world_of s server) fit.fits know me above upto payload rest at r answer in
       record {
         later = [];
-        before = before;
+        before = moves;
         payload = payload;
         rest = rest;
+        server = server;
         is = refl;
-        waited = at;
+        waited = ap (λ (t : Scene). queue_of t.up me) at_moves ∙ at;
+        one = ap (λ (t : Scene). server_at t.servers 1) at_moves ∙ ap (λ l. server_at l 1) fit.one.only;
         answer = answer;
         refused = refused;
         load = false;
-        awaited = world_awaits g w fit know me above upto payload rest at refused.known refused.seq refused.op refused.tag refused.is;
+        awaited = world_awaits s.group (world_of s server) fit.fits know me above upto payload rest at refused.known refused.seq refused.op refused.tag refused.is;
       }
 
-  serves_told : (q : List (List ℕ)) → w.up me ≡ q → (q ≡ [] → ⊥) → IsTold g (Serves me ∷ before) (serves w me q)
-  serves_told [] at some = absurd (some refl)
-  serves_told (payload ∷ rest) at some =
+  served_told : (q : Queue) → queue_of s.up me ≡ q → (q ≡ [] → ⊥) → IsTold (Serves me ∷ moves) (served by_rule s me q (Some server))
+  served_told [] at some = absurd (some refl)
+  served_told (payload ∷ rest) at some =
       let c = know.clients me above upto in
-      let a = serve w.server me payload in
+      let a = serve server me payload in
       let text : List ℕ = answer_text a.answer in
-      let down : ℕ → List (List ℕ) = changed w.down me (queued (w.down me) (Some text)) in
-      let only = request_alone g me here (w.up me) (w.down me) payload rest c.doing c.up_is c.down_is at in
-      let read_back : read_answer text ≡ Some a.answer = answer_again a.answer (answer_spelled g group w fit me above upto payload only.0) in
-      let waits_here : down me ≡ text ∷ [] = ap (λ b. if b then queued (w.down me) (Some text) else w.down me) (eq-eqb me me refl) ∙ ap (λ l. queued l (Some text)) only.1 in
+      let joined : Queue = queue_of s.down me ++ text ∷ [] in
+      let down : List Queue = set_queue s.down me joined in
+      let only = request_alone s.group me (standing s.group me s.history) (queue_of s.up me) (queue_of s.down me) payload rest c.doing c.up_is c.down_is at in
+      let read_back : read_answer text ≡ Some a.answer = answer_again a.answer (answer_spelled s server fit know me above upto payload only.0) in
+      let waits_here : queue_of down me ≡ text ∷ [] = queue-set_same s.down me joined above (omega (arith, upto, fit.one.down_count)) ∙ ap (λ l. l ++ text ∷ []) only.1 in
       record {
-        steps = told_still g (Serves me) before w.history told.steps;
+        steps = told_still s.group (Serves me) moves s.history told.steps;
         waits = λ j low high payload2 rest2 at2 r read. elim (cases_eq j me) [
           | inl mine ↦
-              let there : down j ≡ down me = ap down mine in
+              let there : queue_of down j ≡ queue_of down me = ap (queue_of down) mine in
               let same : text ≡ payload2 = cc in
-              subst (λ k. WasRefused g (Serves me ∷ before) k (standing g k w.history) r) (sym mine)
+              subst (λ k. WasRefused s.group (Serves me ∷ moves) k (standing s.group k s.history) r) (sym mine)
               (answered payload rest at r (some_same (sym read_back ∙ ap read_answer same ∙ read)))
           | inr apart ↦
-              refused_still g (Serves me) before j (standing g j w.history) r
-              (told.waits j low high payload2 rest2 (sym (ap (λ b. if b then queued (w.down me) (Some text) else w.down j) (ne_eqb j me apart)) ∙ at2) r read)
+              refused_still s.group (Serves me) moves j (standing s.group j s.history) r
+              (told.waits j low high payload2 rest2 (sym (queue-set_other s.down me j joined above low apart) ∙ at2) r read)
         ];
       }
 
-module _ (g : Group) (group : IsGroup g) where
-  happens_told : (before : List Event) → WorldFits g (world_after g before) → WorldKnows g (world_after g before) → IsTold g before (world_after g before) → (e : Event) → MayBe g (world_after g before) e
-      → IsTold g (e ∷ before) (happens g (world_after g before) e)
-  unfolding happens
-  happens_told before fit know told (Asks me i) may = let b = ask_bounds g (world_after g before) me i may in asks_told g group before fit know told me b.0 b.1 i may
-  happens_told before fit know told (Serves me) may = serves_told g group before fit know told me may.0 may.1 ((world_after g before).up me) refl may.2
-  happens_told before fit know told (Takes me) may = takes_told g group before fit know told me may.0 may.1 ((world_after g before).down me) refl may.2
+  serves_told : (queue_of s.up me ≡ [] → ⊥) → IsTold (Serves me ∷ moves) (serves by_rule s me)
+  unfolding serves
+  serves_told some =
+      subst (λ o. IsTold (Serves me ∷ moves) (served by_rule s me (queue_of s.up me) o)) (sym (server_is s server fit.one me above upto)) (served_told (queue_of s.up me) refl some)
 
-  all_told : (events : List Event) → AreHonest g events → IsTold g events (world_after g events)
-  unfolding world_after
-  all_told [] h = record { steps = tt; waits = λ me low high payload rest at. absurd cc }
-  all_told (e ∷ before) h = happens_told before (all_fit g group before h.0) (all_known g group before h.0) (all_told before h.0) e h.1
+moved_told : (moves : List Move) (s : Scene) (server : Server) → scene_after s.group moves ≡ s → SceneFits s server → SceneKnows s server → IsTold moves s → (m : Move) → MayHonestly s m
+    → IsTold (m ∷ moves) (moved by_rule s m)
+moved_told moves s server at fit know told (Asks me i) may = asks_told moves s server at fit know told me may.1.0 may.1.1 i may.1.2
+moved_told moves s server at fit know told (Serves me) may = serves_told moves s server at fit know told me may.1.0 may.1.1 may.1.2
+moved_told moves s server at fit know told (Takes me) may = takes_told moves s server at fit know told me may.1.0 may.1.1 may.1.2
+moved_told moves s server at fit know told (Flips me n) may = absurd may.0
+moved_told moves s server at fit know told (Hears me payload) may = absurd may.0
+moved_told moves s server at fit know told (Resends me) may = absurd may.0
+moved_told moves s server at fit know told (Copies n t) may = absurd may.0
+moved_told moves s server at fit know told (Joins me n) may = absurd may.0
 
-pub refusals_are_told : RefusalsAreTold
-refusals_are_told g events run newer x past is = told_at g events newer x past (subst (AreTold g events) is (all_told g run.group events run.steps).steps)
+all_told : (g : Group) → IsGroup g → (moves : List Move) → AreHonest g moves → IsTold moves (scene_after g moves)
+all_told g group [] h = record { steps = tt; waits = λ me low high payload rest at. let none = sym (queue-fresh g.count me) ∙ at in absurd cc }
+all_told g group (m ∷ before) h =
+    let s : Scene = scene_after g before in
+    moved_told before s (server_after g before) (ap (λ k. scene_after k before) (scene-group g before)) (all_fit g group before h.0) (all_known g group before h.0) (all_told g group before h.0) m h.1
+
+pub refusals_are_told : (s : Scene) (server : Server) (moves : List Move) → IsHonestRun s server moves → (newer : List TraceStep) (x : TraceStep) (past : List TraceStep) → s.history ≡ newer ++ x ∷ past
+    → (r : ℕ) → x.returned ≡ Some (outcome.Refused r) → WasRefused s.group moves x.client (standing s.group x.client past) r
+refusals_are_told s server moves run newer x past is =
+    told_at s.group moves newer x past (subst (AreTold s.group moves) is (subst (IsTold moves) (sym run.is) (all_told s.group run.group moves run.may)).steps)

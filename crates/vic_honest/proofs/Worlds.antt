@@ -1,8 +1,9 @@
 -- Every world of an honest run is fit.
-use Rattle.std.proofs.Common.{◌≡◌, ℕ, ◌+◌, ◌<◌, ◌≤◌, ◌^◌, true, false, List, [], ◌∷◌, ◌++◌, length, Option, Some, None, is_none, inl, inr, refl, sym, ap, subst, ◌∙◌, arith, length-append, append_assoc}
-use Rattle.std.specs.Prelude.{if◌then◌else◌}
+use Rattle.std.proofs.Common.{◌≡◌, ℕ, ◌+◌, ◌-◌, ◌<◌, ◌≤◌, ◌^◌, true, false, List, [], ◌∷◌, ◌++◌, length, replicate, Option, Some, None, is_none, inl, inr, refl, sym, ap, subst, ◌∙◌, arith, length-append, append_assoc}
 use Rattle.std.specs.List.{AllByRecursion}
-use Rattle.std.proofs.lemmas.Bool.{eq-eqb, ne_eqb, cases_eq, and_parts}
+use Rattle.std.proofs.lemmas.Bool.{cases_eq, and_parts}
+use Rattle.std.proofs.lemmas.List.{length-replicate, get_or-replicate}
+use Rattle.std.proofs.lemmas.Option.{unwrap_or-slice_get}
 use Rattle.sha2.proofs.Facts256.{length-sha256}
 use Rattle.vic_dict.specs.Lists.{IsIn, AreBytes}
 use Rattle.vic_wire.specs.declared.message.ToClient.{ToClient}
@@ -13,12 +14,14 @@ use Rattle.vic_rules.specs.declared.state.Awaiting.TheVariants as awaits
 use Rattle.vic_rules.specs.declared.trace.Input.{Input}
 use Rattle.vic_rules.specs.declared.trace.Input.TheVariants as input
 use Rattle.vic_rules.specs.declared.trace.TraceStep.{TraceStep}
-use Rattle.vic_rules.specs.Client.{Standing, Sending, Invokes, Polls, Syncs, Move, step, MayStep, IsIdle, request_of, payload_of, awaits_nothing, seal_of}
+use Rattle.vic_rules.specs.Client.{Standing, Sending, Invokes, Polls, Syncs, Move as Stepped, step, MayStep, IsIdle, request_of, payload_of, awaits_nothing, seal_of}
 use Rattle.vic_rules.specs.History.{standing}
 use Rattle.vic_rules.specs.Trust.{IsForged, texts_made, text_sent, checked_texts, taken_by, took}
-use Rattle.vic_order.specs.Order.{Ordered, Server, Answered, serve}
+use Rattle.vic_order.specs.Order.{Ordered, Server, Answered, fresh_server, ready, serve}
+use Rattle.vic_order.specs.Serving.{by_rule}
+use Rattle.vic_order.specs.Scenes.{Queue, Scene, opening, queue_of, set_queue, queued, server_at, set_server, server_of, steps, served_with, served, serves, taken, takes, unchanged, Move, Asks, Serves, Takes, Flips, Hears, Resends, Copies, Joins, moved, MayAsk}
 use Rattle.vic_order.specs.Fates.{entries}
-use Rattle.vic_order.specs.Honest.{Event, Asks, Serves, Takes, World, opening, changed, queued, steps, serves, takes, happens, MayBe, AreHonest, world_after}
+use Rattle.vic_order.specs.Honest.{MayHonestly, scene_after, AreHonest}
 use Rattle.vic_spellings.proofs.Bytes.{bytes-sha256}
 use Rattle.vic_spellings.proofs.SpelledAnswers.{answer_again}
 use Rattle.vic_roots.proofs.Proper.{proper-nothing}
@@ -27,7 +30,8 @@ use Rattle.vic_laws.proofs.Standings.{standing_moved, standing_kept}
 use Rattle.vic_honest.proofs.Words.{AreMade, Keeps, length-entries}
 use Rattle.vic_honest.proofs.Serving.{length-tag, seal-grows, Served, payload_served}
 use Rattle.vic_honest.proofs.Taking.{Moved, now_sends, payload_taken}
-use Rattle.vic_honest.proofs.Standing.{EntryFits, SealFits, ServerFits, StandingFits, RequestGoes, AnswerComes, OfSeal, IsWithin, Doing, Rests, Sends, Gets, Does, IsBusy, up_by, down_by, ClientFits, WorldFits}
+use Rattle.vic_honest.proofs.Queues.{queue-set_same, queue-set_other, queue-fresh, length-set_queue}
+use Rattle.vic_honest.proofs.Standing.{World, world_of, HasOne, SceneFits, EntryFits, SealFits, ServerFits, StandingFits, RequestGoes, AnswerComes, OfSeal, IsWithin, Doing, Rests, Sends, Gets, Does, IsBusy, up_by, down_by, ClientFits}
 
 -- ---- what stays as more is made and the log grows
 
@@ -86,7 +90,7 @@ step_of g w me i =
     let v = step g me (standing g me w.history) i in
     record { client = me; input = i; sent = payload_of g me v.next v.sends; returned = v.returns }
 
-abbrev pub move : Group → World → ℕ → Input → Move
+abbrev pub move : Group → World → ℕ → Input → Stepped
 move g w me i = step g me (standing g me w.history) i
 
 made_more : (g : Group) (w : World) (me : ℕ) (i : Input) → texts_made g (step_of g w me i ∷ w.history) ≡ text_sent g me (move g w me i).next (move g w me i).sends ++ texts_made g w.history
@@ -99,55 +103,65 @@ unfolding took
 not_forged g w me i made honest (inl before) = honest before
 not_forged g w me i made honest (inr now) = now.2 (made now.0 now.1)
 
-module _ (g : Group) (w : World) (fit : WorldFits g w) (me : ℕ) (above : 0 < me) (upto : me ≤ g.count) (i : Input) (may : MayStep g (standing g me w.history) i)
-    (down : ℕ → List (List ℕ)) (same : (j : ℕ) → (j ≡ me → ⊥) → down j ≡ w.down j) where
+module _ (s : Scene) (server : Server) (fit : SceneFits s server) (me : ℕ) (above : 0 < me) (upto : me ≤ s.group.count) (i : Input) (may : MayStep s.group (standing s.group me s.history) i)
+    (down : List Queue) (count : length down ≡ s.group.count) (same : (j : ℕ) → (j ≡ me → ⊥) → 0 < j → queue_of down j ≡ queue_of s.down j) where
+  abbrev g : Group
+  g = s.group
+
+  abbrev w : World
+  w = world_of s server
+
   abbrev x : TraceStep
   x = step_of g w me i
 
   abbrev made : List (List ℕ)
   made = texts_made g (x ∷ w.history)
 
-  abbrev v : Move
+  abbrev v : Stepped
   v = move g w me i
+
+  abbrev up : List Queue
+  up = set_queue s.up me (queued (queue_of s.up me) x.sent)
 
   keeps : Keeps (texts_made g w.history) made
   keeps text h = subst (λ l. IsIn l text) (sym (made_more g w me i)) (in_right (text_sent g me v.next v.sends) (texts_made g w.history) text h)
 
-  mine : Moved g (texts_made g w.history) me w.server.log v.next v.sends → w.up me ≡ [] → down me ≡ []
-      → ClientFits g made me w.server.log (standing g me (x ∷ w.history)) (changed w.up me (queued (w.up me) x.sent) me) (down me)
+  mine : Moved g (texts_made g w.history) me w.server.log v.next v.sends → w.up me ≡ [] → queue_of down me ≡ []
+      → ClientFits g made me w.server.log (standing g me (x ∷ w.history)) (queue_of up me) (queue_of down me)
   mine moved up_is down_is =
-      let queue : changed w.up me (queued (w.up me) x.sent) me ≡ queued [] x.sent =
-      ap (λ b. if b then queued (w.up me) x.sent else w.up me) (eq-eqb me me refl) ∙ ap (λ q. queued q x.sent) up_is in
-      subst (λ l. ClientFits g l me w.server.log (standing g me (x ∷ w.history)) (changed w.up me (queued (w.up me) x.sent) me) (down me)) (sym (made_more g w me i))
-      (subst (λ s. ClientFits g (text_sent g me v.next v.sends ++ texts_made g w.history) me w.server.log s (changed w.up me (queued (w.up me) x.sent) me) (down me)) (sym (standing_moved g me x w.history refl))
-      (subst (λ u. ClientFits g (text_sent g me v.next v.sends ++ texts_made g w.history) me w.server.log v.next u (down me)) (sym queue)
+      let queue : queue_of up me ≡ queued [] x.sent =
+      queue-set_same s.up me (queued (queue_of s.up me) x.sent) above (omega (arith, upto, fit.one.up_count)) ∙ ap (λ q. queued q x.sent) up_is in
+      subst (λ l. ClientFits g l me w.server.log (standing g me (x ∷ w.history)) (queue_of up me) (queue_of down me)) (sym (made_more g w me i))
+      (subst (λ t. ClientFits g (text_sent g me v.next v.sends ++ texts_made g w.history) me w.server.log t (queue_of up me) (queue_of down me)) (sym (standing_moved g me x w.history refl))
+      (subst (λ u. ClientFits g (text_sent g me v.next v.sends ++ texts_made g w.history) me w.server.log v.next u (queue_of down me)) (sym queue)
       (subst (λ d. ClientFits g (text_sent g me v.next v.sends ++ texts_made g w.history) me w.server.log v.next (queued [] x.sent) d) (sym down_is) moved)))
 
   others : (j : ℕ) → (j ≡ me → ⊥) → 0 < j → j ≤ g.count
-      → ClientFits g made j w.server.log (standing g j (x ∷ w.history)) (changed w.up me (queued (w.up me) x.sent) j) (down j)
+      → ClientFits g made j w.server.log (standing g j (x ∷ w.history)) (queue_of up j) (queue_of down j)
   others j apart low high =
       let back : me ≡ j → ⊥ = λ e. apart (sym e) in
-      subst (λ s. ClientFits g made j w.server.log s (changed w.up me (queued (w.up me) x.sent) j) (down j)) (sym (standing_kept g j x w.history back))
-      (subst (λ u. ClientFits g made j w.server.log (standing g j w.history) u (down j)) (sym (ap (λ b. if b then queued (w.up me) x.sent else w.up j) (ne_eqb j me apart)))
-      (subst (λ d. ClientFits g made j w.server.log (standing g j w.history) (w.up j) d) (sym (same j apart))
-      (client-stays g (texts_made g w.history) made keeps j w.server.log [] (standing g j w.history) (w.up j) (w.down j) (fit.clients j low high))))
+      subst (λ t. ClientFits g made j w.server.log t (queue_of up j) (queue_of down j)) (sym (standing_kept g j x w.history back))
+      (subst (λ u. ClientFits g made j w.server.log (standing g j w.history) u (queue_of down j)) (sym (queue-set_other s.up me j (queued (queue_of s.up me) x.sent) above low apart))
+      (subst (λ d. ClientFits g made j w.server.log (standing g j w.history) (w.up j) d) (sym (same j apart low))
+      (client-stays g (texts_made g w.history) made keeps j w.server.log [] (standing g j w.history) (w.up j) (w.down j) (fit.fits.clients j low high))))
 
-  step_fits : Moved g (texts_made g w.history) me w.server.log v.next v.sends → w.up me ≡ [] → down me ≡ []
-      → AreMade (texts_made g w.history) (checked_texts g v.next.path (taken_by v.next i)) → WorldFits g (steps g (record w { down = down }) me i)
+  step_fits : Moved g (texts_made g w.history) me w.server.log v.next v.sends → w.up me ≡ [] → queue_of down me ≡ []
+      → AreMade (texts_made g w.history) (checked_texts g v.next.path (taken_by v.next i)) → SceneFits (steps (record s { down = down }) me i) server
+  unfolding steps
   step_fits moved up_is down_is texts = record {
-    steps = (fit.steps, record { member = (above, upto); may = may; sent = refl; returned = refl });
-    honest = not_forged g w me i texts fit.honest;
-    server = server-stays g (texts_made g w.history) made keeps w.server fit.server;
-    clients = λ j low high. elim (cases_eq j me) [
-      | inl e ↦ subst (λ k. ClientFits g made k w.server.log (standing g k (x ∷ w.history)) (changed w.up me (queued (w.up me) x.sent) k) (down k)) (sym e) (mine moved up_is down_is)
-      | inr apart ↦ others j apart low high
-    ];
+    one = record { group = fit.one.group; up_count = length-set_queue s.up me _ ∙ fit.one.up_count; down_count = count; by = fit.one.by; only = fit.one.only };
+    fits = record {
+      steps = (fit.fits.steps, record { member = (above, upto); may = may; sent = refl; returned = refl });
+      honest = not_forged g w me i texts fit.fits.honest;
+      server = server-stays g (texts_made g w.history) made keeps w.server fit.fits.server;
+      clients = λ j low high. elim (cases_eq j me) [
+        | inl e ↦ subst (λ k. ClientFits g made k w.server.log (standing g k (x ∷ w.history)) (queue_of up k) (queue_of down k)) (sym e) (mine moved up_is down_is)
+        | inr apart ↦ others j apart low high
+      ];
+    };
   }
 
 -- ---- asking
-
-pub third : {A B C : Type 0} → A × B × C → C
-third h = h.2
 
 same_fits : (t next : Standing) → next.path ≡ t.path → next.sealed ≡ t.sealed → next.own ≡ t.own → next.root ≡ t.root → next.calls ≡ t.calls → StandingFits t → StandingFits next
 same_fits t next path sealed own root calls fits = record {
@@ -157,12 +171,6 @@ same_fits t next path sealed own root calls fits = record {
   root_bytes = subst AreBytes (sym root) fits.root_bytes;
   calls = omega (arith, fits.calls);
 }
-
-pub ask_bounds : (g : Group) (w : World) (me : ℕ) (i : Input) → MayBe g w (Asks me i) → (0 < me) × (me ≤ g.count)
-ask_bounds g w me (input.Call o) may = (may.0, may.1)
-ask_bounds g w me input.Poll may = (may.0, may.1)
-ask_bounds g w me input.Sync may = (may.0, may.1)
-ask_bounds g w me (input.Payload payload) may = absurd may
 
 -- a client that awaits nothing has nothing under way
 pub idle_rests : (g : Group) (me : ℕ) (t : Standing) (up down : List (List ℕ)) (doing : Doing) → awaits_nothing t.awaiting ≡ true → IsBusy t doing → up ≡ up_by g me t doing → down ≡ down_by doing
@@ -174,26 +182,26 @@ idle_rests g me t up down (Gets m) idle busy up_is down_is = absurd cc
 pub room_left : (g : Group) (made : List (List ℕ)) (s : Server) (t : Standing) (seen newer : List Ordered) → ServerFits g made s → s.log ≡ newer ++ seen → t.path ≡ entries seen → length t.path < 2 ^ 32
 room_left g made s t seen newer fits is path = omega (arith, fits.room, ap length is, length-append newer seen, ap length path, length-entries seen)
 
-module _ (g : Group) (w : World) (fit : WorldFits g w) (me : ℕ) (above : 0 < me) (upto : me ≤ g.count) where
+module _ (s : Scene) (server : Server) (fit : SceneFits s server) (me : ℕ) (above : 0 < me) (upto : me ≤ s.group.count) where
   abbrev here : Standing
-  here = standing g me w.history
+  here = standing s.group me s.history
 
-  abbrev client : ClientFits g (texts_made g w.history) me w.server.log (standing g me w.history) (w.up me) (w.down me)
-  client = fit.clients me above upto
+  abbrev client : ClientFits s.group (texts_made s.group s.history) me server.log (standing s.group me s.history) (queue_of s.up me) (queue_of s.down me)
+  client = fit.fits.clients me above upto
 
-  asked : (i : Input) → MayStep g here i → IsIdle here → Moved g (texts_made g w.history) me w.server.log (move g w me i).next (move g w me i).sends
-      → checked_texts g (move g w me i).next.path (taken_by (move g w me i).next i) ≡ [] → WorldFits g (steps g w me i)
+  asked : (i : Input) → MayStep s.group here i → IsIdle here → Moved s.group (texts_made s.group s.history) me server.log (move s.group (world_of s server) me i).next (move s.group (world_of s server) me i).sends
+      → checked_texts s.group (move s.group (world_of s server) me i).next.path (taken_by (move s.group (world_of s server) me i).next i) ≡ [] → SceneFits (steps s me i) server
   asked i may idle moved nothing_taken =
-      let rests = idle_rests g me here (w.up me) (w.down me) client.doing (and_parts (awaits_nothing here.awaiting) (is_none here.halted) idle).0 client.busy client.up_is client.down_is in
-      step_fits g w fit me above upto i may w.down (λ j apart. refl) moved rests.0 rests.1 (subst (AreMade (texts_made g w.history)) (sym nothing_taken) (λ text h. absurd h))
+      let rests = idle_rests s.group me here (queue_of s.up me) (queue_of s.down me) client.doing (and_parts (awaits_nothing here.awaiting) (is_none here.halted) idle).0 client.busy client.up_is client.down_is in
+      step_fits s server fit me above upto i may s.down fit.one.down_count (λ j apart low. refl) moved rests.0 rests.1 (subst (AreMade (texts_made s.group s.history)) (sym nothing_taken) (λ text h. absurd h))
 
   room : length here.path < 2 ^ 32
-  room = room_left g (texts_made g w.history) w.server here client.seen client.newer fit.server client.is client.path
+  room = room_left s.group (texts_made s.group s.history) server here client.seen client.newer fit.fits.server client.is client.path
 
-  asks_fit : (i : Input) → MayBe g w (Asks me i) → WorldFits g (steps g w me i)
+  asks_fit : (i : Input) → MayAsk s me i → SceneFits (steps s me i) server
   unfolding step
   asks_fit (input.Call o) may =
-      let ask = third may in
+      let ask = may in
       let next : Standing = record here { calls = here.calls + 1; awaiting = awaits.Reply (here.calls + 1) o false } in
       let fits : StandingFits next = record {
         sealed = client.fits.sealed;
@@ -203,97 +211,151 @@ module _ (g : Group) (w : World) (fit : WorldFits g w) (me : ℕ) (above : 0 < m
         calls = ask.1.1.1.1;
       } in
       asked (input.Call o) ask ask.0
-      (now_sends g (texts_made g w.history) me w.server.log next (Invokes (here.calls + 1) o) client.seen client.newer client.is client.path fits refl
+      (now_sends s.group (texts_made s.group s.history) me server.log next (Invokes (here.calls + 1) o) client.seen client.newer client.is client.path fits refl
       (room, ((omega arith, ask.1.1.1.1), ((ask.1.1.0, ask.1.1.1.0), length-tag _ _)))) refl
   asks_fit input.Poll may =
       let next : Standing = record here { awaiting = awaits.Turn } in
-      asked input.Poll (third may) (third may) (now_sends g (texts_made g w.history) me w.server.log next Polls client.seen client.newer client.is client.path (same_fits here next refl refl refl refl refl client.fits) refl tt) refl
+      asked input.Poll may may (now_sends s.group (texts_made s.group s.history) me server.log next Polls client.seen client.newer client.is client.path (same_fits here next refl refl refl refl refl client.fits) refl tt) refl
   asks_fit input.Sync may =
       let next : Standing = record here { awaiting = awaits.Entries } in
-      asked input.Sync (third may) (third may) (now_sends g (texts_made g w.history) me w.server.log next Syncs client.seen client.newer client.is client.path (same_fits here next refl refl refl refl refl client.fits) refl room) refl
+      asked input.Sync may may (now_sends s.group (texts_made s.group s.history) me server.log next Syncs client.seen client.newer client.is client.path (same_fits here next refl refl refl refl refl client.fits) refl room) refl
   asks_fit (input.Payload payload) may = absurd may
+
+-- ---- the server
+
+-- each client is served by server 1
+pub server_of-one : (served_by : List ℕ) (count i : ℕ) → served_by ≡ replicate count 1 → 0 < i → i ≤ count → server_of served_by i ≡ 1
+server_of-one served_by count i is above upto =
+    ap (λ l. server_of l i) is ∙ unwrap_or-slice_get (replicate count 1) (i - 1) 0 ∙ get_or-replicate count (i - 1) 1 0 (omega (arith, above, upto))
+
+pub server_is : (s : Scene) (server : Server) → HasOne s server → (me : ℕ) → 0 < me → me ≤ s.group.count → server_at s.servers (server_of s.served_by me) ≡ Some server
+server_is s server one me above upto = ap (server_at s.servers) (server_of-one s.served_by s.group.count me one.by above upto) ∙ ap (λ l. server_at l 1) one.only
+
+-- what the one server is next
+abbrev pub served_next : Server → ℕ → Queue → Server
+served_next server me [] = server
+served_next server me (payload ∷ rest) = (serve server me payload).next
+
+abbrev pub server_next : Scene → Server → Move → Server
+server_next s server (Asks me i) = server
+server_next s server (Serves me) = served_next server me (queue_of s.up me)
+server_next s server (Takes me) = server
+server_next s server (Flips me n) = server
+server_next s server (Hears me payload) = server
+server_next s server (Resends me) = server
+server_next s server (Copies n t) = server
+server_next s server (Joins me n) = server
+
+unfoldable pub server_after : Group → List Move → Server
+server_after g [] = fresh_server g.mode g.count ready
+server_after g (m ∷ before) = server_next (scene_after g before) (server_after g before) m
+
+-- it serves a request
+pub serves-one : (s : Scene) (server : Server) → HasOne s server → (me : ℕ) → 0 < me → me ≤ s.group.count → (payload : List ℕ) (rest : Queue)
+    → HasOne (served_with s me rest (by_rule server me me payload)) (serve server me payload).next
+serves-one s server one me above upto payload rest = record {
+  group = one.group;
+  up_count = length-set_queue s.up me rest ∙ one.up_count;
+  down_count = length-set_queue s.down me _ ∙ one.down_count;
+  by = one.by;
+  only = ap (λ n. set_server s.servers n (Some (serve server me payload).next)) (server_of-one s.served_by s.group.count me one.by above upto)
+      ∙ ap (λ l. set_server l 1 (Some (serve server me payload).next)) one.only;
+}
 
 -- ---- serving and taking
 
-module _ (g : Group) (group : IsGroup g) where
-  sent_fit : (w : World) → WorldFits g w → (me : ℕ) → 0 < me → me ≤ g.count → (seen newer : List Ordered) → w.server.log ≡ newer ++ seen → (standing g me w.history).path ≡ entries seen
-      → StandingFits (standing g me w.history) → (sending : Sending) → w.down me ≡ [] → awaits_nothing (standing g me w.history).awaiting ≡ false
-      → RequestGoes g (texts_made g w.history) me (standing g me w.history) sending
-      → WorldFits g (serves w me (request_text (request_of g me (standing g me w.history) sending) ∷ []))
-  sent_fit w fit me above upto seen newer is path fits sending down_is busy goes =
-      let t : Standing = standing g me w.history in
-      let made : List (List ℕ) = texts_made g w.history in
-      let payload : List ℕ = request_text (request_of g me t sending) in
-      let a : Answered = serve w.server me payload in
-      let s : Served g made w.server.log seen newer a = payload_served g group made w.server me above upto t seen newer is path fits fit.server sending goes in
-      let up : ℕ → List (List ℕ) = changed w.up me [] in
-      let down : ℕ → List (List ℕ) = changed w.down me (queued (w.down me) (Some (answer_text a.answer))) in
-      let mine : ClientFits g made me a.next.log t (up me) (down me) = record {
+module _ (s : Scene) (server : Server) (fit : SceneFits s server) (me : ℕ) (above : 0 < me) (upto : me ≤ s.group.count) where
+  sent_fit : (seen newer : List Ordered) → server.log ≡ newer ++ seen → (standing s.group me s.history).path ≡ entries seen
+      → StandingFits (standing s.group me s.history) → (sending : Sending) → queue_of s.down me ≡ [] → awaits_nothing (standing s.group me s.history).awaiting ≡ false
+      → RequestGoes s.group (texts_made s.group s.history) me (standing s.group me s.history) sending
+      → (payload : List ℕ) → request_text (request_of s.group me (standing s.group me s.history) sending) ≡ payload → SceneFits (served_with s me [] (by_rule server me me payload)) (serve server me payload).next
+  sent_fit seen newer is path fits sending down_is busy goes payload payload_is =
+      let t : Standing = standing s.group me s.history in
+      let made : List (List ℕ) = texts_made s.group s.history in
+      let a : Answered = serve server me payload in
+      let v : Served s.group made server.log seen newer a =
+      subst (λ p. Served s.group made server.log seen newer (serve server me p)) payload_is (payload_served s.group fit.one.group made server me above upto t seen newer is path fits fit.fits.server sending goes) in
+      let up : List Queue = set_queue s.up me [] in
+      let joined : Queue = queue_of s.down me ++ answer_text a.answer ∷ [] in
+      let down : List Queue = set_queue s.down me joined in
+      let mine : ClientFits s.group made me a.next.log t (queue_of up me) (queue_of down me) = record {
         seen = seen;
-        newer = s.new ++ newer;
-        is = s.is ∙ ap (λ l. s.new ++ l) is ∙ sym (append_assoc s.new newer seen);
+        newer = v.new ++ newer;
+        is = v.is ∙ ap (λ l. v.new ++ l) is ∙ sym (append_assoc v.new newer seen);
         path = path;
         fits = fits;
         doing = Gets a.answer;
-        up_is = ap (λ b. if b then [] else w.up me) (eq-eqb me me refl);
-        down_is = ap (λ b. if b then queued (w.down me) (Some (answer_text a.answer)) else w.down me) (eq-eqb me me refl) ∙ ap (λ q. queued q (Some (answer_text a.answer))) down_is;
+        up_is = queue-set_same s.up me [] above (omega (arith, upto, fit.one.up_count));
+        down_is = queue-set_same s.down me joined above (omega (arith, upto, fit.one.down_count)) ∙ ap (λ q. q ++ answer_text a.answer ∷ []) down_is;
         busy = busy;
-        does = s.answer;
+        does = v.answer;
       } in
       record {
-        steps = fit.steps;
-        honest = fit.honest;
-        server = s.server;
-        clients = λ j low high. elim (cases_eq j me) [
-          | inl e ↦ subst (λ k. ClientFits g made k a.next.log (standing g k w.history) (up k) (down k)) (sym e) mine
-          | inr apart ↦
-              subst (λ u. ClientFits g made j a.next.log (standing g j w.history) u (down j)) (sym (ap (λ b. if b then [] else w.up j) (ne_eqb j me apart)))
-              (subst (λ d. ClientFits g made j a.next.log (standing g j w.history) (w.up j) d) (sym (ap (λ b. if b then queued (w.down me) (Some (answer_text a.answer)) else w.down j) (ne_eqb j me apart)))
-              (subst (λ l. ClientFits g made j l (standing g j w.history) (w.up j) (w.down j)) (sym s.is)
-              (client-stays g made made (λ text i. i) j w.server.log s.new (standing g j w.history) (w.up j) (w.down j) (fit.clients j low high))))
-        ];
+        one = serves-one s server fit.one me above upto payload [];
+        fits = record {
+          steps = fit.fits.steps;
+          honest = fit.fits.honest;
+          server = v.server;
+          clients = λ j low high. elim (cases_eq j me) [
+            | inl e ↦ subst (λ k. ClientFits s.group made k a.next.log (standing s.group k s.history) (queue_of up k) (queue_of down k)) (sym e) mine
+            | inr apart ↦
+                subst (λ u. ClientFits s.group made j a.next.log (standing s.group j s.history) u (queue_of down j)) (sym (queue-set_other s.up me j [] above low apart))
+                (subst (λ d. ClientFits s.group made j a.next.log (standing s.group j s.history) (queue_of s.up j) d) (sym (queue-set_other s.down me j joined above low apart))
+                (subst (λ l. ClientFits s.group made j l (standing s.group j s.history) (queue_of s.up j) (queue_of s.down j)) (sym v.is)
+                (client-stays s.group made made (λ text i. i) j server.log v.new (standing s.group j s.history) (queue_of s.up j) (queue_of s.down j) (fit.fits.clients j low high))))
+          ];
+        };
       }
 
-  serves_by : (w : World) → WorldFits g w → (me : ℕ) → 0 < me → me ≤ g.count → (w.up me ≡ [] → ⊥) → (seen newer : List Ordered) → w.server.log ≡ newer ++ seen
-      → (standing g me w.history).path ≡ entries seen → StandingFits (standing g me w.history) → (doing : Doing) → w.up me ≡ up_by g me (standing g me w.history) doing → w.down me ≡ down_by doing
-      → IsBusy (standing g me w.history) doing → Does g (texts_made g w.history) me w.server.log (standing g me w.history) seen newer doing → WorldFits g (serves w me (w.up me))
-  serves_by w fit me above upto waits seen newer is path fits Rests up_is down_is busy does = absurd (waits up_is)
-  serves_by w fit me above upto waits seen newer is path fits (Sends sending) up_is down_is busy does =
-      subst (λ q. WorldFits g (serves w me q)) (sym up_is) (sent_fit w fit me above upto seen newer is path fits sending down_is busy does)
-  serves_by w fit me above upto waits seen newer is path fits (Gets m) up_is down_is busy does = absurd (waits up_is)
+  serves_by : (queue_of s.up me ≡ [] → ⊥) → (seen newer : List Ordered) → server.log ≡ newer ++ seen
+      → (standing s.group me s.history).path ≡ entries seen → StandingFits (standing s.group me s.history) → (doing : Doing) → queue_of s.up me ≡ up_by s.group me (standing s.group me s.history) doing → queue_of s.down me ≡ down_by doing
+      → IsBusy (standing s.group me s.history) doing → Does s.group (texts_made s.group s.history) me server.log (standing s.group me s.history) seen newer doing → SceneFits (serves by_rule s me) (served_next server me (queue_of s.up me))
+  unfolding serves
+  serves_by waits seen newer is path fits Rests up_is down_is busy does = absurd (waits up_is)
+  serves_by waits seen newer is path fits (Sends sending) up_is down_is busy does =
+      let payload : List ℕ = request_text (request_of s.group me (standing s.group me s.history) sending) in
+      subst (λ q. SceneFits (served by_rule s me q (server_at s.servers (server_of s.served_by me))) (served_next server me q)) (sym up_is)
+      (subst (λ o. SceneFits (served by_rule s me (payload ∷ []) o) (serve server me payload).next) (sym (server_is s server fit.one me above upto))
+      (sent_fit seen newer is path fits sending down_is busy does payload refl))
+  serves_by waits seen newer is path fits (Gets m) up_is down_is busy does = absurd (waits up_is)
 
-  serves_fit : (w : World) → WorldFits g w → (me : ℕ) → 0 < me → me ≤ g.count → (w.up me ≡ [] → ⊥) → WorldFits g (serves w me (w.up me))
-  serves_fit w fit me above upto waits =
-      let c = fit.clients me above upto in serves_by w fit me above upto waits c.seen c.newer c.is c.path c.fits c.doing c.up_is c.down_is c.busy c.does
+  serves_fit : (queue_of s.up me ≡ [] → ⊥) → SceneFits (serves by_rule s me) (served_next server me (queue_of s.up me))
+  serves_fit waits = let c = fit.fits.clients me above upto in serves_by waits c.seen c.newer c.is c.path c.fits c.doing c.up_is c.down_is c.busy c.does
 
-  got_fit : (w : World) → WorldFits g w → (me : ℕ) → 0 < me → me ≤ g.count → (seen newer : List Ordered) → w.server.log ≡ newer ++ seen → (standing g me w.history).path ≡ entries seen
-      → StandingFits (standing g me w.history) → (m : ToClient) → w.up me ≡ [] → AnswerComes g (texts_made g w.history) w.server.log seen newer m → WorldFits g (takes g w me (answer_text m ∷ []))
-  got_fit w fit me above upto seen newer is path fits m up_is comes =
-      let taken = payload_taken g (texts_made g w.history) me w.server.log seen newer (standing g me w.history) is path fits (answer_text m) m (answer_again m comes.spelled) comes comes.bytes in
-      step_fits g w fit me above upto (input.Payload (answer_text m)) comes.bytes (changed w.down me []) (λ j apart. ap (λ b. if b then [] else w.down j) (ne_eqb j me apart))
-      taken.client up_is (ap (λ b. if b then [] else w.down me) (eq-eqb me me refl)) taken.texts
+  got_fit : (seen newer : List Ordered) → server.log ≡ newer ++ seen → (standing s.group me s.history).path ≡ entries seen
+      → StandingFits (standing s.group me s.history) → (m : ToClient) → queue_of s.up me ≡ [] → AnswerComes s.group (texts_made s.group s.history) server.log seen newer m → SceneFits (taken unchanged s me (answer_text m ∷ [])) server
+  got_fit seen newer is path fits m up_is comes =
+      let gone = payload_taken s.group (texts_made s.group s.history) me server.log seen newer (standing s.group me s.history) is path fits (answer_text m) m (answer_again m comes.spelled) comes comes.bytes in
+      step_fits s server fit me above upto (input.Payload (answer_text m)) comes.bytes (set_queue s.down me []) (length-set_queue s.down me [] ∙ fit.one.down_count) (λ j apart low. queue-set_other s.down me j [] above low apart)
+      gone.client up_is (queue-set_same s.down me [] above (omega (arith, upto, fit.one.down_count))) gone.texts
 
-  takes_by : (w : World) → WorldFits g w → (me : ℕ) → 0 < me → me ≤ g.count → (w.down me ≡ [] → ⊥) → (seen newer : List Ordered) → w.server.log ≡ newer ++ seen
-      → (standing g me w.history).path ≡ entries seen → StandingFits (standing g me w.history) → (doing : Doing) → w.up me ≡ up_by g me (standing g me w.history) doing → w.down me ≡ down_by doing
-      → Does g (texts_made g w.history) me w.server.log (standing g me w.history) seen newer doing → WorldFits g (takes g w me (w.down me))
-  takes_by w fit me above upto waits seen newer is path fits Rests up_is down_is does = absurd (waits down_is)
-  takes_by w fit me above upto waits seen newer is path fits (Sends sending) up_is down_is does = absurd (waits down_is)
-  takes_by w fit me above upto waits seen newer is path fits (Gets m) up_is down_is does =
-      subst (λ q. WorldFits g (takes g w me q)) (sym down_is) (got_fit w fit me above upto seen newer is path fits m up_is does)
+  takes_by : (queue_of s.down me ≡ [] → ⊥) → (seen newer : List Ordered) → server.log ≡ newer ++ seen
+      → (standing s.group me s.history).path ≡ entries seen → StandingFits (standing s.group me s.history) → (doing : Doing) → queue_of s.up me ≡ up_by s.group me (standing s.group me s.history) doing → queue_of s.down me ≡ down_by doing
+      → Does s.group (texts_made s.group s.history) me server.log (standing s.group me s.history) seen newer doing → SceneFits (takes unchanged s me) server
+  unfolding takes
+  takes_by waits seen newer is path fits Rests up_is down_is does = absurd (waits down_is)
+  takes_by waits seen newer is path fits (Sends sending) up_is down_is does = absurd (waits down_is)
+  takes_by waits seen newer is path fits (Gets m) up_is down_is does =
+      subst (λ q. SceneFits (taken unchanged s me q) server) (sym down_is) (got_fit seen newer is path fits m up_is does)
 
-  takes_fit : (w : World) → WorldFits g w → (me : ℕ) → 0 < me → me ≤ g.count → (w.down me ≡ [] → ⊥) → WorldFits g (takes g w me (w.down me))
-  takes_fit w fit me above upto waits =
-      let c = fit.clients me above upto in takes_by w fit me above upto waits c.seen c.newer c.is c.path c.fits c.doing c.up_is c.down_is c.does
+  takes_fit : (queue_of s.down me ≡ [] → ⊥) → SceneFits (takes unchanged s me) server
+  takes_fit waits = let c = fit.fits.clients me above upto in takes_by waits c.seen c.newer c.is c.path c.fits c.doing c.up_is c.down_is c.does
 
-  happens_fit : (w : World) → WorldFits g w → (e : Event) → MayBe g w e → WorldFits g (happens g w e)
-  unfolding happens
-  happens_fit w fit (Asks me i) may = let b = ask_bounds g w me i may in asks_fit g w fit me b.0 b.1 i may
-  happens_fit w fit (Serves me) may = serves_fit w fit me may.0 may.1 may.2
-  happens_fit w fit (Takes me) may = takes_fit w fit me may.0 may.1 may.2
+moved_fits : (s : Scene) (server : Server) → SceneFits s server → (m : Move) → MayHonestly s m → SceneFits (moved by_rule s m) (server_next s server m)
+moved_fits s server fit (Asks me i) may = asks_fit s server fit me may.1.0 may.1.1 i may.1.2
+moved_fits s server fit (Serves me) may = serves_fit s server fit me may.1.0 may.1.1 may.1.2
+moved_fits s server fit (Takes me) may = takes_fit s server fit me may.1.0 may.1.1 may.1.2
+moved_fits s server fit (Flips me n) may = absurd may.0
+moved_fits s server fit (Hears me payload) may = absurd may.0
+moved_fits s server fit (Resends me) may = absurd may.0
+moved_fits s server fit (Copies n t) may = absurd may.0
+moved_fits s server fit (Joins me n) may = absurd may.0
 
-  opening_fits : WorldFits g (opening g)
-  unfolding standing
-  opening_fits = record {
+opening_fits : (g : Group) → IsGroup g → SceneFits (opening g) (fresh_server g.mode g.count ready)
+unfolding standing
+opening_fits g group = record {
+  one = record { group = group; up_count = length-replicate g.count _; down_count = length-replicate g.count _; by = refl; only = refl };
+  fits = record {
     steps = tt;
     honest = λ no_step. no_step;
     server = record { log = tt; seals = tt; dictionary = proper-nothing; room = omega arith };
@@ -304,14 +366,15 @@ module _ (g : Group) (group : IsGroup g) where
       path = refl;
       fits = record { sealed = omega arith; own = tt; root = length-sha256 _; root_bytes = bytes-sha256 _; calls = omega arith };
       doing = Rests;
-      up_is = refl;
-      down_is = refl;
+      up_is = queue-fresh g.count j;
+      down_is = queue-fresh g.count j;
       busy = tt;
       does = tt;
     };
-  }
+  };
+}
 
-  pub all_fit : (events : List Event) → AreHonest g events → WorldFits g (world_after g events)
-  unfolding world_after
-  all_fit [] h = opening_fits
-  all_fit (e ∷ before) h = happens_fit (world_after g before) (all_fit before h.0) e h.1
+pub all_fit : (g : Group) → IsGroup g → (moves : List Move) → AreHonest g moves → SceneFits (scene_after g moves) (server_after g moves)
+unfolding server_after
+all_fit g group [] h = opening_fits g group
+all_fit g group (m ∷ before) h = moved_fits (scene_after g before) (server_after g before) (all_fit g group before h.0) m h.1

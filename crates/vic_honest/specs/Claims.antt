@@ -23,33 +23,20 @@ use Rattle.vic_rules.specs.Views.{confirmed_calls, view_of, IsLegal, left_by, Is
 use Rattle.vic_rules.specs.Trust.{IsForged}
 use Rattle.vic_order.specs.Order.{Ordered, Server, Answered, size, sealed_count, top_seal, is_put, op_weight, weight, serve}
 use Rattle.vic_order.specs.Fates.{entries, fate, dictionary_by}
-use Rattle.vic_order.specs.Honest.{Event, Serves, IsHonestRun, world_after}
-
--- every tag that a client takes was made by a client before
-abbrev pub TagsWereMade : Type 0
-TagsWereMade = (g : Group) (events : List Event) → IsHonestRun g events → IsForged g (world_after g events).history → ⊥
-
--- the steps of the clients are a lawful history
-abbrev pub HistoriesAreLawful : Type 0
-HistoriesAreLawful = (g : Group) (events : List Event) → IsHonestRun g events → IsLawful g (world_after g events).history
+use Rattle.vic_order.specs.Scenes.{Queue, Scene, SceneOf, queue_of, server_at, Move, Serves}
+use Rattle.vic_order.specs.Honest.{IsHonestRun, scene_after}
 
 -- the path of a client is what the server's log was at some time
-pub record IsFrontOf (g : Group) (events : List Event) (me : ℕ) : Type 0 where
+pub record IsFrontOf (s : Scene) (server : Server) (me : ℕ) : Type 0 where
   pub newer : List Ordered
   pub seen : List Ordered
-  pub log : (world_after g events).server.log ≡ newer ++ seen
-  pub path : (standing g me (world_after g events).history).path ≡ entries seen
-
-abbrev pub PathsAreFronts : Type 0
-PathsAreFronts = (g : Group) (events : List Event) → IsHonestRun g events → (me : ℕ) → 0 < me → me ≤ g.count → IsFrontOf g events me
+  pub log : server.log ≡ newer ++ seen
+  pub path : (standing s.group me s.history).path ≡ entries seen
 
 -- no client halts
-pub record GoesOn (g : Group) (events : List Event) (me : ℕ) : Type 0 where
-  pub standing_so : (standing g me (world_after g events).history).halted ≡ None
-  pub returns_so : (x : TraceStep) → IsIn (world_after g events).history x → (check : ℕ) → x.returned ≡ Some (outcome.Halted check) → ⊥
-
-abbrev pub NobodyHalts : Type 0
-NobodyHalts = (g : Group) (events : List Event) → IsHonestRun g events → (me : ℕ) → 0 < me → me ≤ g.count → GoesOn g events me
+pub record GoesOn (s : Scene) (me : ℕ) : Type 0 where
+  pub standing_so : (standing s.group me s.history).halted ≡ None
+  pub returns_so : (x : TraceStep) → IsIn s.history x → (check : ℕ) → x.returned ≡ Some (outcome.Halted check) → ⊥
 
 -- the completed call is an entry of the log, its path is the log up to there, and its outcome is what becomes of that entry
 pub record StandsAsFated (log : List Ordered) (c : Completion) : Type 0 where
@@ -60,9 +47,6 @@ pub record StandsAsFated (log : List Ordered) (c : Completion) : Type 0 where
   pub client : c.client ≡ o.entry.client
   pub prefix : c.prefix ≡ entries (o ∷ below)
   pub outcome : c.outcome ≡ fate o below
-
-abbrev pub ReturnsAreFates : Type 0
-ReturnsAreFates = (g : Group) (events : List Event) → IsHonestRun g events → (c : Completion) → IsIn (completions g (world_after g events).history) c → StandsAsFated (world_after g events).server.log c
 
 -- the call whose Reply the client awaited is an entry of the log, its path now is the log up to there, and it returned what becomes
 -- of that entry
@@ -76,17 +60,6 @@ pub record ReturnsItsFate (g : Group) (log : List Ordered) (past : List TraceSte
   pub awaited : (standing g x.client past).awaiting ≡ awaits.Reply o.entry.seq o.entry.op load
   pub path : (standing g x.client (x ∷ past)).path ≡ entries (o ∷ below)
   pub returned : x.returned ≡ Some (fate o below)
-
--- a client that takes a Reply returns so
-abbrev pub RepliesReturn : Type 0
-RepliesReturn = (g : Group) (events : List Event) → IsHonestRun g events → (newer : List TraceStep) (x : TraceStep) (past : List TraceStep) → (world_after g events).history ≡ newer ++ x ∷ past
-    → (payload : List ℕ) → x.input ≡ input.Payload payload → (seal : Seal) (told : List Tagged) (part : List ℕ) → read_answer payload ≡ Some (say.Reply seal told part)
-    → ReturnsItsFate g (world_after g events).server.log past x
-
--- a client that takes a refusal returns refused, with its number
-abbrev pub RefusalsReturn : Type 0
-RefusalsReturn = (g : Group) (events : List Event) → IsHonestRun g events → (newer : List TraceStep) (x : TraceStep) (past : List TraceStep) → (world_after g events).history ≡ newer ++ x ∷ past
-    → (payload : List ℕ) → x.input ≡ input.Payload payload → (r : ℕ) → read_answer payload ≡ Some (say.Refused r) → x.returned ≡ Some (outcome.Refused r)
 
 -- the number of the limit that a call would pass: entries in all, entries that aren't sealed, weight, entries that its client hasn't seen
 abbrev pub limit : Server → ℕ → Op → Option ℕ
@@ -103,16 +76,6 @@ pub record RefusedAtLimit (s : Server) (payload : List ℕ) (r : ℕ) : Type 0 w
   pub is : read_request payload ≡ Some (ask.Invoke known seq op tag)
   pub limit_is : limit s known op ≡ Some r
 
-abbrev pub RefusalsAreLimits : Type 0
-RefusalsAreLimits = (g : Group) (events : List Event) → IsHonestRun g events → (me : ℕ) → 0 < me → me ≤ g.count → (payload : List ℕ) (rest : List (List ℕ)) → (world_after g events).up me ≡ payload ∷ rest
-    → (r : ℕ) → (serve (world_after g events).server me payload).answer ≡ say.Refused r → RefusedAtLimit (world_after g events).server payload r
-
--- a call that would pass a limit is refused, with the number of that limit
-abbrev pub LimitsAreRefused : Type 0
-LimitsAreRefused = (g : Group) (events : List Event) → IsHonestRun g events → (me : ℕ) → 0 < me → me ≤ g.count → (payload : List ℕ) (rest : List (List ℕ)) → (world_after g events).up me ≡ payload ∷ rest
-    → (known seq : ℕ) (o : Op) (tag : Digest32) → read_request payload ≡ Some (ask.Invoke known seq o tag)
-    → (r : ℕ) → limit (world_after g events).server known o ≡ Some r → (serve (world_after g events).server me payload).answer ≡ say.Refused r
-
 -- the call is the newest entry of the log, with its tag, and a Reply answers it
 pub record IsOrderedBy (s : Server) (me seq : ℕ) (o : Op) (tag : Digest32) (a : Answered) : Type 0 where
   pub newest : Ordered
@@ -125,33 +88,20 @@ pub record IsOrderedBy (s : Server) (me seq : ℕ) (o : Op) (tag : Digest32) (a 
   pub part : List ℕ
   pub answer : a.answer ≡ say.Reply seal told part
 
--- a call that would pass no limit is ordered
-abbrev pub CallsAreOrdered : Type 0
-CallsAreOrdered = (g : Group) (events : List Event) → IsHonestRun g events → (me : ℕ) → 0 < me → me ≤ g.count → (payload : List ℕ) (rest : List (List ℕ)) → (world_after g events).up me ≡ payload ∷ rest
-    → (known seq : ℕ) (o : Op) (tag : Digest32) → read_request payload ≡ Some (ask.Invoke known seq o tag)
-    → limit (world_after g events).server known o ≡ None → IsOrderedBy (world_after g events).server me seq o tag (serve (world_after g events).server me payload)
-
--- the calls that return refused do so with the number of a limit
-abbrev pub RefusedCallsAreFew : Type 0
-RefusedCallsAreFew = (g : Group) (events : List Event) → IsHonestRun g events → (x : TraceStep) → IsIn (world_after g events).history x → (r : ℕ) → x.returned ≡ Some (outcome.Refused r) → (0 < r) × (r ≤ 4)
-
 -- the server refused a client's call when it served it, at that limit, and the client awaits the answer to this call
-pub record WasRefused (g : Group) (events : List Event) (me : ℕ) (s : Standing) (r : ℕ) : Type 0 where
-  pub later : List Event
-  pub before : List Event
+pub record WasRefused (g : Group) (moves : List Move) (me : ℕ) (t : Standing) (r : ℕ) : Type 0 where
+  pub later : List Move
+  pub before : List Move
   pub payload : List ℕ
-  pub rest : List (List ℕ)
-  pub is : events ≡ later ++ Serves me ∷ before
-  pub waited : (world_after g before).up me ≡ payload ∷ rest
-  pub answer : (serve (world_after g before).server me payload).answer ≡ say.Refused r
-  pub refused : RefusedAtLimit (world_after g before).server payload r
+  pub rest : Queue
+  pub server : Server
+  pub is : moves ≡ later ++ Serves me ∷ before
+  pub waited : queue_of (scene_after g before).up me ≡ payload ∷ rest
+  pub one : server_at (scene_after g before).servers 1 ≡ Some server
+  pub answer : (serve server me payload).answer ≡ say.Refused r
+  pub refused : RefusedAtLimit server payload r
   pub load : Bool
-  pub awaited : s.awaiting ≡ awaits.Reply refused.seq refused.op load
-
--- what a caller is told of a refusal is what the server answered to this call
-abbrev pub RefusalsAreTold : Type 0
-RefusalsAreTold = (g : Group) (events : List Event) → IsHonestRun g events → (newer : List TraceStep) (x : TraceStep) (past : List TraceStep) → (world_after g events).history ≡ newer ++ x ∷ past
-    → (r : ℕ) → x.returned ≡ Some (outcome.Refused r) → WasRefused g events x.client (standing g x.client past) r
+  pub awaited : t.awaiting ≡ awaits.Reply refused.seq refused.op load
 
 -- the sealed dictionary is what the done entries up to the sealed count leave, and the highest seal has its root
 pub record SealedSo (s : Server) : Type 0 where
@@ -161,9 +111,6 @@ pub record SealedSo (s : Server) : Type 0 where
   pub count : sealed_count s ≡ length sealed
   pub dictionary : s.dictionary ≡ dictionary_by sealed
   pub root : (top_seal s).root.bytes ≡ dictionary_root s.dictionary
-
-abbrev pub SealedDictionary : Type 0
-SealedDictionary = (g : Group) (events : List Event) → IsHonestRun g events → SealedSo (world_after g events).server
 
 -- an aborted call leaves nothing
 abbrev pub AbortsLeaveNothing : Type 0
@@ -205,11 +152,70 @@ pub record IsOneHistory (g : Group) (h : List TraceStep) (v : List Shown) : Type
   pub all : (me : ℕ) → HasAll g me h v
   pub only : ShowsOnlyCalls g h v
 
-abbrev pub CallsAreOneHistory : Type 0
-CallsAreOneHistory = (g : Group) (events : List Event) → IsHonestRun g events
-    → IsOneHistory g (world_after g events).history (completed_in g (world_after g events).history (world_after g events).server.log)
+-- ---- all of it
 
--- each client's view is what that history was at some time
-abbrev pub ViewsAreFronts : Type 0
-ViewsAreFronts = (g : Group) (events : List Event) → IsHonestRun g events → (me : ℕ)
-    → (newer : List Shown) × (completed_in g (world_after g events).history (world_after g events).server.log ≡ newer ++ view_of g me (world_after g events).history)
+-- no client has halted, and no step returned that a check failed; a call that is refused names one of four limits
+pub record NoneHalts (g : Group) (h : List TraceStep) : Type 0 where
+  pub stands_so : (i : ℕ) → 0 < i → i ≤ g.count → (standing g i h).halted ≡ None
+  pub returns_so : (x : TraceStep) → IsIn h x → (check : ℕ) → x.returned ≡ Some (outcome.Halted check) → ⊥
+  pub refuses_so : (x : TraceStep) → IsIn h x → (number : ℕ) → x.returned ≡ Some (outcome.Refused number) → (0 < number) × (number ≤ 4)
+
+-- a position aborts an entry exactly where it is the least that stands in the entry's way
+abbrev pub IsAbortedSo : Ordered → List Ordered → Type 0
+IsAbortedSo o below = (u : ℕ) → (fate o below ≡ outcome.Aborted u) ↔ (StandsInTheWay o below u × ((v : ℕ) → v < u → StandsInTheWay o below v → ⊥))
+
+-- what a step returned that took a payload
+pub record ReturnsSo (g : Group) (log : List Ordered) (past : List TraceStep) (x : TraceStep) (payload : List ℕ) : Type 0 where
+  -- of a Reply: what becomes of the entry of the call
+  pub reply : (seal : Seal) (told : List Tagged) (part : List ℕ) → read_answer payload ≡ Some (say.Reply seal told part) → ReturnsItsFate g log past x
+  -- of a refusal: refused, with its number
+  pub refusal : (number : ℕ) → read_answer payload ≡ Some (say.Refused number) → x.returned ≡ Some (outcome.Refused number)
+
+-- how a server answers a client's request
+pub record IsServedSo (server : Server) (me : ℕ) (payload : List ℕ) : Type 0 where
+  -- it refuses nothing but calls that would pass one of its limits, with the number of that limit
+  pub refused : (number : ℕ) → (serve server me payload).answer ≡ say.Refused number → RefusedAtLimit server payload number
+  -- a call that would pass a limit is refused, with the number of that limit
+  pub limited : (known seq : ℕ) (o : Op) (tag : Digest32) → read_request payload ≡ Some (ask.Invoke known seq o tag)
+      → (number : ℕ) → limit server known o ≡ Some number → (serve server me payload).answer ≡ say.Refused number
+  -- a call that would pass no limit is ordered as the newest entry of the log, and a Reply answers it
+  pub ordered : (known seq : ℕ) (o : Op) (tag : Digest32) → read_request payload ≡ Some (ask.Invoke known seq o tag)
+      → limit server known o ≡ None → IsOrderedBy server me seq o tag (serve server me payload)
+
+-- what holds of the history and the requests that wait, where these honest moves leave them with this server
+pub record HoldsHonestly (g : Group) (h : List TraceStep) (up : List Queue) (moves : List Move) (server : Server) : Type 0 where
+  -- the clients stepped by the rules
+  pub lawful : IsLawful g h
+  -- every tag that a client took was made by a client before
+  pub unforged : IsForged g h → ⊥
+  -- each completed call is an entry of the server's log, and returned what becomes of that entry
+  pub fated : (c : Completion) → IsIn (completions g h) c → StandsAsFated server.log c
+  -- no client has halted, no step returned that a check failed, and a call that is refused names one of four limits
+  pub goes_on : NoneHalts g h
+  -- each client's path is the oldest entries of the server's log, up to some position
+  pub paths : (i : ℕ) → 0 < i → i ≤ g.count → (n : ℕ) × ((standing g i h).path ≡ entries (front n server.log))
+  -- an entry of the log is aborted exactly by the least position of a conflicting entry of another client, unsealed when it was ordered
+  pub aborted : (newer : List Ordered) (o : Ordered) (below : List Ordered) → server.log ≡ newer ++ o ∷ below → IsAbortedSo o below
+  -- an aborted entry leaves the dictionary as it was
+  pub left_alone : (newer : List Ordered) (o : Ordered) (below : List Ordered) → server.log ≡ newer ++ o ∷ below
+      → is_done (fate o below) ≡ false → dictionary_by (o ∷ below) ≡ dictionary_by below
+  -- the sealed dictionary is what the done entries up to the sealed count leave, and the highest seal has its root
+  pub sealed : SealedSo server
+  -- the completed calls of all clients, in the order of the log, are one legal history in real-time order
+  pub one_history : IsOneHistory g h (completed_in g h server.log)
+  -- each client's view is what that history was at some time
+  pub views : (i : ℕ) → (newer : List Shown) × (completed_in g h server.log ≡ newer ++ view_of g i h)
+  -- a step that took a Reply returned what becomes of the call, and one that took a refusal returned refused, with its number
+  pub returned : (newer : List TraceStep) (x : TraceStep) (past : List TraceStep) → h ≡ newer ++ x ∷ past
+      → (payload : List ℕ) → x.input ≡ input.Payload payload → ReturnsSo g server.log past x payload
+  -- a call that returned refused was refused when the run's server served it, at the limit whose number it returned
+  pub refused : (newer : List TraceStep) (x : TraceStep) (past : List TraceStep) → h ≡ newer ++ x ∷ past
+      → (number : ℕ) → x.returned ≡ Some (outcome.Refused number) → WasRefused g moves x.client (standing g x.client past) number
+  -- a client's next request is refused exactly where it is a call that would pass a limit; every other call is ordered
+  pub served_so : (i : ℕ) → 0 < i → i ≤ g.count → (payload : List ℕ) (rest : Queue) → queue_of up i ≡ payload ∷ rest → IsServedSo server i payload
+
+abbrev pub IsHonestScene : {V : Type 0} → SceneOf V → List Move → Server → Type 0
+IsHonestScene s moves server = HoldsHonestly s.group s.history s.up moves server
+
+abbrev pub HonestRunsHold : Type 0
+HonestRunsHold = (s : Scene) (server : Server) (moves : List Move) → IsHonestRun s server moves → IsHonestScene s moves server

@@ -2,3 +2,4 @@ pub mod Order
 pub mod Fates
 pub mod Honest
 pub mod Serving
+pub mod Scenes

@@ -3,18 +3,19 @@ use Rattle.std.proofs.Common.{◌≡◌, ℕ, ◌+◌, Bool, true, false, List, 
 use Rattle.vic_rules.specs.Client.{first_failing, awaits_nothing}
 use Rattle.vic_order.specs.Order.{Server}
 use Rattle.vic_order.specs.Serving.{by_rule}
+use Rattle.vic_order.specs.Honest.{IsSame}
 use Rattle.vic_script.specs.declared.line.Line.{Line}
 use Rattle.vic_script.specs.declared.line.Line.TheVariants as line
 use Rattle.vic_script.specs.Lines.{line_of}
-use Rattle.vic_script.specs.Scenes.{SceneOf, Scene, Shown, stands, done_line, is_client, waits_in, is_plain_call, asked_tests, bad_kind, is_honest_line}
+use Rattle.vic_order.specs.Scenes.{SceneOf, Scene, stands, is_client, waits_in}
+use Rattle.vic_script.specs.Scenes.{Shown, done_line, is_plain_call, asked_tests, bad_kind, is_honest_line}
 use Rattle.vic_script.specs.Run.{Bad, Played, Tried, Fails, Does, tried_by, try_line, mode_in, run_of, is_honest_script}
 use Rattle.vic_runs.specs.Claims.{NoLineIsHalted}
-use Rattle.vic_runs.specs.Reached.{IsHonestlyReached, IsSame}
+use Rattle.vic_runs.specs.Reached.{IsHonestlyReached}
 use Rattle.vic_runs.proofs.Words.{text_fits}
 use Rattle.vic_runs.proofs.Tests.{client_is}
-use Rattle.vic_runs.proofs.HonestScenes.{honest-going}
 use Rattle.vic_runs.proofs.Plays.{GoesSo, EachLine, claimed-run}
-use Rattle.vic_runs.proofs.Runs.{HonestIn, HonestFor, TriedHonest, honest_tried, IsHonestText, honest_for, honest-texts, StandsHonest}
+use Rattle.vic_runs.proofs.Runs.{holds_at, HonestIn, HonestFor, TriedHonest, honest_tried, IsHonestText, honest_for, honest-texts, StandsHonest}
 
 -- ---- tests
 
@@ -40,7 +41,7 @@ one_more true others h e = h e
 
 module _ {V : Type 0} (R : V → Server → Type 0) (s : SceneOf V) (n : ℕ) (r : IsHonestlyReached R s n) where
   goes_on : (i : ℕ) → is_client s i ≡ true → is_none (stands s i).halted ≡ true
-  goes_on i e = let bounds = client_is s i e in ap is_none (honest-going R s n r i bounds.0 bounds.1)
+  goes_on i e = let bounds = client_is s i e in ap is_none ((holds_at R s r.comes).goes_on.stands_so i bounds.0 bounds.1)
 
   asked_goes : (i : ℕ) → first_failing (asked_tests s i) ≡ Some 3 → ⊥
   asked_goes i e = asked_three (is_client s i) (is_none (stands s i).halted) (awaits_nothing (stands s i).awaiting) (goes_on i) e

@@ -3,7 +3,7 @@ use Rattle.std.proofs.Common.{◌≡◌, ℕ, List, [], ◌∷◌, ap}
 use Rattle.vic_wire.specs.Messages.{answer_text}
 use Rattle.vic_order.specs.Order.{Server, serve}
 use Rattle.vic_order.specs.Serving.{Serving, by_rule, Request, IsAsked, answers_to, AnswersAs}
-use Rattle.vic_runs.specs.Reached.{IsSame}
+use Rattle.vic_order.specs.Honest.{IsSame}
 
 -- where R relates a server to one that follows the rule, it answers the same to a request that a call can make, and R relates what
 -- both are then

@@ -5,15 +5,14 @@ pub mod Servers
 pub mod Tests
 pub mod Scenes
 pub mod Seats
+pub mod Moves
 pub mod Counting
 pub mod Keeping
 pub mod Sent
-pub mod Reached
 pub mod Lines
+pub mod Reached
 pub mod Kept
-pub mod Shows
 pub mod Honest
-pub mod HonestScenes
 pub mod Plays
 pub mod Runs
 pub mod Outcomes

@@ -1,41 +1,25 @@
--- A line that isn't bad leads from a scene that is reached to another.
-use Rattle.std.proofs.Common.{◌≡◌, ℕ, zero, suc, ◌+◌, ◌<◌, ◌≤◌, ◌^◌, Bool, true, false, [], ◌∷◌, length, None, is_some, ap, arith}
+-- The moves of a line that isn't bad may be made.
+use Rattle.std.proofs.Common.{◌≡◌, ℕ, zero, suc, ◌+◌, ◌<◌, ◌≤◌, ◌^◌, Bool, true, false, List, [], ◌∷◌, ◌++◌, length, Option, Some, None, is_some, refl, ap, arith}
 use Rattle.std.specs.Prelude.{if◌then◌else◌, nat_eq}
-use Rattle.vic_rules.specs.declared.trace.Input.TheVariants as input
-use Rattle.vic_order.specs.Serving.{by_rule}
+use Rattle.std.specs.List.{AllByRecursion}
+use Rattle.vic_dict.specs.Lists.{AreBytes}
+use Rattle.vic_dict.specs.declared.op.Mode.TheVariants as mode
+use Rattle.vic_rules.specs.History.{IsLawful}
+use Rattle.vic_order.specs.Serving.{Serving}
+use Rattle.vic_order.specs.Scenes.{SceneOf, queue_of, stands, last_taken, last_sent, is_client, is_server, waits_in, has_byte, serves, Move, Serves, Takes, after_moves, MayMoves}
+use Rattle.vic_order.specs.Honest.{IsHonestMove}
+use Rattle.vic_honest.proofs.Moves.{after-group, serves-group}
 use Rattle.vic_script.specs.declared.line.Line.{Line}
 use Rattle.vic_script.specs.declared.line.Line.TheVariants as line
 use Rattle.vic_script.specs.Lines.{is_place}
-use Rattle.vic_script.specs.Scenes.{SceneOf, Scene, Shown, queue_of, stands, serves, takes_aloud, unchanged, flipped, last_taken, resends, copies, joins, quietly, behind, turns, most_turns, done_line, waits_in, has_byte, is_client, is_server, bad_kind}
+use Rattle.vic_script.specs.Scenes.{hears_if, turns, most_turns, moves_of, bad_kind, is_honest_line}
 use Rattle.vic_runs.specs.Claims.{FitsLine}
-use Rattle.vic_runs.specs.Reached.{IsReached}
-use Rattle.vic_runs.proofs.Tests.{client_first, passed_last, asked_is, called_is}
-use Rattle.vic_runs.proofs.Scenes.{serves-group, takes_aloud-group}
-use Rattle.vic_runs.proofs.Sent.{last_taken-bytes, flipped-bytes}
-use Rattle.vic_runs.proofs.Reached.{KeepsBytes, reached-more, reached-steps, reached-payload, reached-serves, reached-takes_aloud, reached-hears, reached-resends, reached-copies, reached-joins}
-
--- a payload that comes as it was sent
-pub unchanged-bytes : KeepsBytes unchanged
-unchanged-bytes payload bytes = bytes
-
--- ---- serve and take in turn
-
-shown-either : (n : ℕ) (b : Bool) (x y : Shown) → IsReached x.scene n → IsReached y.scene n → IsReached (if b then x else y).scene n
-shown-either n true x y h k = h
-shown-either n false x y h k = k
-
-pub reached-turns : (k : ℕ) (s : Scene) (n : ℕ) → IsReached s n → (i : ℕ) → 0 < i → i ≤ s.group.count → IsReached (turns by_rule k s i).scene n
-unfolding turns
-reached-turns zero s n r i above upto = r
-reached-turns (suc k) s n r i above upto =
-    let turn : Shown = takes_aloud unchanged (serves by_rule s i) i in
-    let count : (serves by_rule s i).group.count ≡ s.group.count = ap (λ g. g.count) (serves-group by_rule s i) in
-    let later : turn.scene.group.count ≡ (serves by_rule s i).group.count = ap (λ g. g.count) (takes_aloud-group unchanged (serves by_rule s i) i) in
-    let next : IsReached turn.scene n = reached-takes_aloud unchanged unchanged-bytes (serves by_rule s i) n (reached-serves s n r i above upto) i above (omega (arith, upto, count)) in
-    shown-either n (nat_eq (length (queue_of s.up i)) 0) (quietly s) (behind turn.text (turns by_rule k turn.scene i)) r
-    (reached-turns k turn.scene n next i above (omega (arith, upto, count, later)))
-
--- ---- the lines
+use Rattle.vic_runs.specs.Reached.{IfThere}
+use Rattle.vic_runs.proofs.Tests.{client_first, passed_last, asked_is, called_is, waits_is, full, has_byte_waits}
+use Rattle.vic_runs.proofs.Scenes.{serves-waits}
+use Rattle.vic_runs.proofs.Seats.{IsSeated, seated-server, seated-after}
+use Rattle.vic_runs.proofs.Sent.{last_taken-bytes}
+use Rattle.vic_runs.proofs.Moves.{asks, may-joined, good-joined, asks-joined}
 
 -- the client of a line that calls may call once more
 abbrev pub HasCallLeft : {V : Type 0} → SceneOf V → Line → Type 0
@@ -61,38 +45,111 @@ few_calls s n calls few (line.Copy k t) = tt
 few_calls s n calls few (line.Move i k) = tt
 few_calls s n calls few line.Skip = tt
 
--- a line that isn't bad leads on to a scene that is reached
-pub reached-line : (s : Scene) (n : ℕ) (l : Line) → IsReached s n → HasCallLeft s l → bad_kind s l ≡ None → FitsLine l → IsReached (done_line by_rule s l).scene (n + 1)
-unfolding bad_kind
-reached-line s n (line.Clients count) r left good fits = absurd cc
-reached-line s n (line.Key digits) r left good fits = absurd cc
-reached-line s n (line.Hostile name k) r left good fits = absurd cc
-reached-line s n (line.Call i o) r left good fits =
-    let a = called_is s i o good in
-    reached-steps s n r i a.above a.upto (input.Call o) (a.idle, (r.plain, (fits.0, (fits.1, left))))
-reached-line s n (line.Poll i) r left good fits = let a = asked_is s i good in reached-steps s n r i a.above a.upto input.Poll a.idle
-reached-line s n (line.Sync i) r left good fits = let a = asked_is s i good in reached-steps s n r i a.above a.upto input.Sync a.idle
-reached-line s n (line.Serve i) r left good fits =
-    let bounds = client_first s i ((5, waits_in s.up i) ∷ []) good in
-    reached-more (serves by_rule s i) n (n + 1) (omega arith) (reached-serves s n r i bounds.0 bounds.1)
-reached-line s n (line.Take i) r left good fits =
-    let bounds = client_first s i ((5, waits_in s.down i) ∷ []) good in
-    reached-more (takes_aloud unchanged s i).scene n (n + 1) (omega arith) (reached-takes_aloud unchanged unchanged-bytes s n r i bounds.0 bounds.1)
-reached-line s n (line.Run i) r left good fits =
-    let bounds = client_first s i [] good in
-    reached-more (turns by_rule most_turns s i).scene n (n + 1) (omega arith) (reached-turns most_turns s n r i bounds.0 bounds.1)
-reached-line s n (line.Give i payload) r left good fits =
-    let bounds = client_first s i [] good in
-    reached-more _ n (n + 1) (omega arith) (reached-payload s n r i bounds.0 bounds.1 payload fits)
-reached-line s n (line.Again i) r left good fits =
-    let bounds = client_first s i ((5, is_some (last_taken i s.history)) ∷ []) good in
-    reached-more _ n (n + 1) (omega arith) (reached-hears s n r i bounds.0 bounds.1 (last_taken i s.history) (last_taken-bytes s.group s.history r.lawful i))
-reached-line s n (line.Flip i k) r left good fits =
-    let bounds = client_first s i ((5, has_byte s.down i k) ∷ []) good in
-    reached-more (takes_aloud (flipped k) s i).scene n (n + 1) (omega arith) (reached-takes_aloud (flipped k) (flipped-bytes k) s n r i bounds.0 bounds.1)
-reached-line s n (line.Resend i) r left good fits = reached-more (resends s i) n (n + 1) (omega arith) (reached-resends s n r i)
-reached-line s n (line.Copy k t) r left good fits =
-    reached-more (copies s k t) n (n + 1) (omega arith) (reached-copies s n r k t (passed_last 1 (is_place t) 6 (is_server s k) good))
-reached-line s n (line.Move i k) r left good fits =
-    reached-more (joins s i k) n (n + 1) (omega arith) (reached-joins s n r i k (passed_last 2 (is_client s i) 6 (is_server s k) good))
-reached-line s n line.Skip r left good fits = reached-more s n (n + 1) (omega arith) r
+-- ---- serve and take in turn
+
+module _ {V : Type 0} (rule : Serving V) where
+  by_test : (P : List Move → Type 0) (b : Bool) (some : List Move) → P [] → (b ≡ false → P some) → P (if b then [] else some)
+  by_test P true some none h = none
+  by_test P false some none h = h refl
+
+  pub turns-may : (k : ℕ) (s : SceneOf V) → IsSeated s → (i : ℕ) → 0 < i → i ≤ s.group.count → MayMoves rule s (turns rule k s i)
+  unfolding turns
+  turns-may zero s h i above upto = tt
+  turns-may (suc k) s h i above upto =
+      by_test (MayMoves rule s) (nat_eq (length (queue_of s.up i)) 0) (turns rule k (after_moves rule s (Takes i ∷ Serves i ∷ [])) i ++ Takes i ∷ Serves i ∷ []) tt (λ e.
+      let waits = full (queue_of s.up i) e in
+      let served : SceneOf V = serves rule s i in
+      let answer = serves-waits rule s i above (omega (arith, upto, h.down_count)) waits (seated-server s h i above upto) in
+      let count : served.group.count ≡ s.group.count = ap (λ g. g.count) (serves-group rule s i) in
+      let two : MayMoves rule s (Takes i ∷ Serves i ∷ []) = ((tt, (above, upto, waits)), (above, omega (arith, upto, count), answer)) in
+      let next : SceneOf V = after_moves rule s (Takes i ∷ Serves i ∷ []) in
+      let later : next.group.count ≡ s.group.count = ap (λ g. g.count) (after-group rule s (Takes i ∷ Serves i ∷ [])) in
+      may-joined rule s (turns rule k next i) (Takes i ∷ Serves i ∷ []) two (turns-may k next (seated-after rule s (Takes i ∷ Serves i ∷ []) h two) i above (omega (arith, upto, later))))
+
+  -- they are honest, and ask nothing
+  pub turns-honest : (k : ℕ) (s : SceneOf V) (i : ℕ) → AllByRecursion IsHonestMove (turns rule k s i)
+  unfolding turns
+  turns-honest zero s i = tt
+  turns-honest (suc k) s i =
+      by_test (AllByRecursion IsHonestMove) (nat_eq (length (queue_of s.up i)) 0) (turns rule k (after_moves rule s (Takes i ∷ Serves i ∷ [])) i ++ Takes i ∷ Serves i ∷ []) tt
+      (λ e. good-joined rule IsHonestMove (turns rule k (after_moves rule s (Takes i ∷ Serves i ∷ [])) i) (Takes i ∷ Serves i ∷ []) (turns-honest k (after_moves rule s (Takes i ∷ Serves i ∷ [])) i) (tt, (tt, tt)))
+
+  pub turns-ask : (k : ℕ) (s : SceneOf V) (i : ℕ) → asks (turns rule k s i) ≡ 0
+  unfolding turns
+  turns-ask zero s i = refl
+  turns-ask (suc k) s i =
+      by_test (λ moves. asks moves ≡ 0) (nat_eq (length (queue_of s.up i)) 0) (turns rule k (after_moves rule s (Takes i ∷ Serves i ∷ [])) i ++ Takes i ∷ Serves i ∷ []) refl
+      (λ e. omega (arith, asks-joined rule (turns rule k (after_moves rule s (Takes i ∷ Serves i ∷ [])) i) (Takes i ∷ Serves i ∷ []), turns-ask k (after_moves rule s (Takes i ∷ Serves i ∷ [])) i))
+
+  -- ---- the lines
+
+  hears-may : (s : SceneOf V) (i : ℕ) → 0 < i → i ≤ s.group.count → (o : Option (List ℕ)) → IfThere AreBytes o → MayMoves rule s (hears_if i o)
+  hears-may s i above upto None bytes = tt
+  hears-may s i above upto (Some payload) bytes = (tt, (above, upto, bytes))
+
+  -- in a group without objects whose clients step by the rules
+  pub line-may : (s : SceneOf V) (l : Line) → IsSeated s → IsLawful s.group s.history → s.group.mode ≡ mode.Plain → HasCallLeft s l → bad_kind s l ≡ None → FitsLine l → MayMoves rule s (moves_of rule s l)
+  unfolding bad_kind
+  line-may s (line.Clients count) h lawful plain left good fits = tt
+  line-may s (line.Key digits) h lawful plain left good fits = tt
+  line-may s (line.Hostile name k) h lawful plain left good fits = tt
+  line-may s (line.Call i o) h lawful plain left good fits = let a = called_is s i o good in (tt, (a.above, a.upto, (a.idle, (plain, (fits.0, (fits.1, left))))))
+  line-may s (line.Poll i) h lawful plain left good fits = let a = asked_is s i good in (tt, (a.above, a.upto, a.idle))
+  line-may s (line.Sync i) h lawful plain left good fits = let a = asked_is s i good in (tt, (a.above, a.upto, a.idle))
+  line-may s (line.Serve i) h lawful plain left good fits =
+      let bounds = client_first s i ((5, waits_in s.up i) ∷ []) good in (tt, (bounds.0, bounds.1, waits_is (queue_of s.up i) (passed_last 2 (is_client s i) 5 (waits_in s.up i) good)))
+  line-may s (line.Take i) h lawful plain left good fits =
+      let bounds = client_first s i ((5, waits_in s.down i) ∷ []) good in (tt, (bounds.0, bounds.1, waits_is (queue_of s.down i) (passed_last 2 (is_client s i) 5 (waits_in s.down i) good)))
+  line-may s (line.Run i) h lawful plain left good fits = let bounds = client_first s i [] good in turns-may most_turns s h i bounds.0 bounds.1
+  line-may s (line.Give i payload) h lawful plain left good fits = let bounds = client_first s i [] good in (tt, (bounds.0, bounds.1, fits))
+  line-may s (line.Again i) h lawful plain left good fits =
+      let bounds = client_first s i ((5, is_some (last_taken i s.history)) ∷ []) good in hears-may s i bounds.0 bounds.1 (last_taken i s.history) (last_taken-bytes s.group s.history lawful i)
+  line-may s (line.Flip i k) h lawful plain left good fits =
+      let bounds = client_first s i ((5, has_byte s.down i k) ∷ []) good in (tt, (bounds.0, bounds.1, has_byte_waits (queue_of s.down i) k (passed_last 2 (is_client s i) 5 (has_byte s.down i k) good)))
+  line-may s (line.Resend i) h lawful plain left good fits = let bounds = client_first s i ((5, is_some (last_sent i s.history)) ∷ []) good in (tt, (bounds.0, bounds.1))
+  line-may s (line.Copy k t) h lawful plain left good fits = (tt, passed_last 1 (is_place t) 6 (is_server s k) good)
+  line-may s (line.Move i k) h lawful plain left good fits =
+      let bounds = client_first s i ((6, is_server s k) ∷ []) good in (tt, (bounds.0, bounds.1, passed_last 2 (is_client s i) 6 (is_server s k) good))
+  line-may s line.Skip h lawful plain left good fits = tt
+
+  hears-ask : (i : ℕ) (o : Option (List ℕ)) → asks (hears_if i o) ≤ 1
+  hears-ask i None = omega arith
+  hears-ask i (Some payload) = omega arith
+
+  -- a line asks at most once
+  pub line-asks : (s : SceneOf V) (l : Line) → asks (moves_of rule s l) ≤ 1
+  line-asks s (line.Clients count) = omega arith
+  line-asks s (line.Key digits) = omega arith
+  line-asks s (line.Hostile name k) = omega arith
+  line-asks s (line.Call i o) = omega arith
+  line-asks s (line.Poll i) = omega arith
+  line-asks s (line.Sync i) = omega arith
+  line-asks s (line.Serve i) = omega arith
+  line-asks s (line.Take i) = omega arith
+  line-asks s (line.Run i) = omega (arith, turns-ask most_turns s i)
+  line-asks s (line.Give i payload) = omega arith
+  line-asks s (line.Again i) = hears-ask i (last_taken i s.history)
+  line-asks s (line.Flip i k) = omega arith
+  line-asks s (line.Resend i) = omega arith
+  line-asks s (line.Copy k t) = omega arith
+  line-asks s (line.Move i k) = omega arith
+  line-asks s line.Skip = omega arith
+
+  -- an honest line makes honest moves
+  pub line-honest : (s : SceneOf V) (l : Line) → is_honest_line l ≡ true → AllByRecursion IsHonestMove (moves_of rule s l)
+  line-honest s (line.Clients count) e = tt
+  line-honest s (line.Key digits) e = tt
+  line-honest s (line.Hostile name k) e = tt
+  line-honest s (line.Call i o) e = (tt, tt)
+  line-honest s (line.Poll i) e = (tt, tt)
+  line-honest s (line.Sync i) e = (tt, tt)
+  line-honest s (line.Serve i) e = (tt, tt)
+  line-honest s (line.Take i) e = (tt, tt)
+  line-honest s (line.Run i) e = turns-honest most_turns s i
+  line-honest s (line.Give i payload) e = absurd cc
+  line-honest s (line.Again i) e = absurd cc
+  line-honest s (line.Flip i k) e = absurd cc
+  line-honest s (line.Resend i) e = absurd cc
+  line-honest s (line.Copy k t) e = absurd cc
+  line-honest s (line.Move i k) e = absurd cc
+  line-honest s line.Skip e = tt

@@ -4,7 +4,7 @@ use Rattle.std.specs.Prelude.{if◌then◌else◌, nat_lt}
 use Rattle.std.specs.List.{AllByRecursion}
 use Rattle.std.proofs.lemmas.List.{length-take}
 use Rattle.vic_script.specs.Lines.{lines_of, line_of}
-use Rattle.vic_script.specs.Scenes.{Scene}
+use Rattle.vic_order.specs.Scenes.{Scene}
 use Rattle.vic_script.specs.Run.{limit, Played, stops, printed_before, Tried, Fails, Does, try_line, mode_in, follow, place_behind, play, run_of}
 use Rattle.vic_runs.proofs.Words.{length-lines_of}
 

@@ -1,5 +1,6 @@
 -- Scenes that any lines reach: what they have, and how one leads to another.
 use Rattle.std.proofs.Common.{◌≡◌, ℕ, ◌+◌, ◌<◌, ◌≤◌, true, List, [], ◌∷◌, Option, Some, None, refl, ◌∙◌, arith}
+use Rattle.std.specs.List.{AllByRecursion}
 use Rattle.std.proofs.lemmas.List.{length-set}
 use Rattle.vic_dict.specs.Lists.{AreBytes}
 use Rattle.vic_wire.specs.Messages.{answer_text}
@@ -10,17 +11,23 @@ use Rattle.vic_rules.specs.Client.{MayStep}
 use Rattle.vic_rules.specs.History.{standing, IsLawful}
 use Rattle.vic_order.specs.Order.{Server, ready, serve}
 use Rattle.vic_order.specs.Serving.{by_rule}
-use Rattle.vic_script.specs.Scenes.{Queue, Scene, opening, queue_of, set_queue, server_at, server_of, stands, steps, served, serves, taken, takes, takes_aloud, hears_aloud, last_sent, resends, copies, joins, is_server}
+use Rattle.vic_order.specs.Scenes.{Queue, Scene, opening, queue_of, set_queue, server_at, server_of, stands, steps, served, serves, taken, takes, unchanged, flipped, last_sent, resends, copies, joins, is_server, Move, Asks, Serves, Takes, Flips, Hears, Resends, Copies, Joins, moved, after_moves, MayMove, MayMoves}
+use Rattle.vic_script.specs.declared.line.Line.{Line}
+use Rattle.vic_script.specs.Scenes.{moves_of, done_line, bad_kind}
 use Rattle.vic_script.specs.Run.{plain_group}
+use Rattle.vic_runs.specs.Claims.{FitsLine}
 use Rattle.vic_runs.specs.Reached.{ServerHolds, IfThere, HoldsBytes, IsReached}
 use Rattle.vic_runs.proofs.Lists.{all-set, all-replicate}
-use Rattle.vic_runs.proofs.Queues.{length-set_queue, queue-bytes, joined-bytes, queued-bytes}
+use Rattle.vic_honest.proofs.Queues.{length-set_queue}
+use Rattle.vic_runs.proofs.Queues.{queue-bytes, joined-bytes, queued-bytes}
 use Rattle.vic_runs.proofs.Servers.{there-at}
 use Rattle.vic_runs.proofs.Seats.{IsSeated, seated-opening, seated-served, seated-copies, seated-joins}
 use Rattle.vic_runs.proofs.Scenes.{step_by}
 use Rattle.vic_runs.proofs.Counting.{calls-step, calls-payload}
 use Rattle.vic_runs.proofs.Keeping.{holds-fresh, holds-serve}
-use Rattle.vic_runs.proofs.Sent.{sent-bytes, last_sent-bytes}
+use Rattle.vic_runs.proofs.Sent.{sent-bytes, last_sent-bytes, flipped-bytes}
+use Rattle.vic_runs.proofs.Moves.{asked, asks, kept-after, may-step}
+use Rattle.vic_runs.proofs.Lines.{HasCallLeft, line-may, line-asks}
 
 -- ---- what such a scene has
 
@@ -176,14 +183,6 @@ pub reached-takes : (change : List ℕ → List ℕ) → KeepsBytes change → (
 unfolding takes
 reached-takes change keeps s n r i above upto = reached-taken change keeps s n r i above upto (queue_of s.down i) (reached-down_bytes s n r i)
 
-pub reached-takes_aloud : (change : List ℕ → List ℕ) → KeepsBytes change → (s : Scene) (n : ℕ) → IsReached s n → (i : ℕ) → 0 < i → i ≤ s.group.count → IsReached (takes_aloud change s i).scene n
-unfolding takes_aloud
-reached-takes_aloud change keeps s n r i above upto = reached-takes change keeps s n r i above upto
-
-pub reached-hears : (s : Scene) (n : ℕ) → IsReached s n → (i : ℕ) → 0 < i → i ≤ s.group.count → (o : Option (List ℕ)) → IfThere AreBytes o → IsReached (hears_aloud s i o).scene n
-reached-hears s n r i above upto None bytes = r
-reached-hears s n r i above upto (Some payload) bytes = reached-payload s n r i above upto payload bytes
-
 -- ---- what it sent joins its requests again
 
 pub reached-resends : (s : Scene) (n : ℕ) → IsReached s n → (i : ℕ) → IsReached (resends s i) n
@@ -236,3 +235,31 @@ reached-joins s n r i k there =
       servers_count = r.servers_count;
       servers = r.servers;
     }
+
+-- ---- moves
+
+abbrev Any : Move → Type 0
+Any m = Unit {0}
+
+any : (moves : List Move) → AllByRecursion Any moves
+any [] = tt
+any (m ∷ before) = (tt, any before)
+
+-- a move that may be made leads on to a scene that is reached
+reached-moved : (s : Scene) (n : ℕ) (m : Move) → IsReached s n → MayMove s m → Any m → IsReached (moved by_rule s m) (n + asked m)
+reached-moved s n (Asks i given) r may any = reached-steps s n r i may.0 may.1 given (may-step s i given may.2)
+reached-moved s n (Serves i) r may any = reached-more _ n (n + 0) (omega arith) (reached-serves s n r i may.0 may.1)
+reached-moved s n (Takes i) r may any = reached-more _ n (n + 0) (omega arith) (reached-takes unchanged (λ payload bytes. bytes) s n r i may.0 may.1)
+reached-moved s n (Flips i k) r may any = reached-more _ n (n + 0) (omega arith) (reached-takes (flipped k) (flipped-bytes k) s n r i may.0 may.1)
+reached-moved s n (Hears i payload) r may any = reached-more _ n (n + 0) (omega arith) (reached-payload s n r i may.0 may.1 payload may.2)
+reached-moved s n (Resends i) r may any = reached-more _ n (n + 0) (omega arith) (reached-resends s n r i)
+reached-moved s n (Copies k t) r may any = reached-more _ n (n + 0) (omega arith) (reached-copies s n r k t may)
+reached-moved s n (Joins i k) r may any = reached-more _ n (n + 0) (omega arith) (reached-joins s n r i k may.2)
+
+pub reached-after : (s : Scene) (n : ℕ) (moves : List Move) → IsReached s n → MayMoves by_rule s moves → IsReached (after_moves by_rule s moves) (n + asks moves)
+reached-after s n moves r may = kept-after by_rule IsReached Any reached-moved s n moves r may (any moves)
+
+-- a line that isn't bad leads on to a scene that is reached
+pub reached-line : (s : Scene) (n : ℕ) (l : Line) → IsReached s n → HasCallLeft s l → bad_kind s l ≡ None → FitsLine l → IsReached (done_line by_rule s l).scene (n + 1)
+reached-line s n l r left good fits =
+    reached-more _ _ (n + 1) (omega (arith, line-asks by_rule s l)) (reached-after s n (moves_of by_rule s l) r (line-may by_rule s l (reached-seated s n r) r.lawful r.plain left good fits))

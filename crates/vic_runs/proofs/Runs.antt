@@ -1,32 +1,33 @@
 -- The run of a script reaches its scene, and that of an honest script one of an honest run.
-use Rattle.std.proofs.Common.{◌≡◌, ℕ, ◌+◌, ◌<◌, ◌≤◌, ◌^◌, true, List, [], length, take, Option, Some, None, refl, sym, ap, subst, ◌∙◌, arith}
+use Rattle.std.proofs.Common.{◌≡◌, ℕ, ◌+◌, ◌<◌, ◌≤◌, ◌^◌, true, List, length, take, Option, Some, None, refl, sym, subst, arith}
 use Rattle.std.specs.List.{AllByRecursion}
 use Rattle.std.proofs.lemmas.List.{length-take}
-use Rattle.std.proofs.lemmas.Option.{same_Some}
 use Rattle.vic_dict.specs.declared.op.Mode.TheVariants as mode
 use Rattle.vic_wire.specs.Hashes.{Group}
 use Rattle.vic_rules.specs.History.{IsLawful}
 use Rattle.vic_rules.specs.Trust.{IsForged}
+use Rattle.vic_honest.specs.Claims.{IsHonestScene}
+use Rattle.vic_honest.proofs.Scenes.{honest_runs_hold}
 use Rattle.vic_laws.proofs.EveryHistory.{every_history_holds}
 use Rattle.vic_laws.proofs.Words.{all_true}
 use Rattle.vic_order.specs.Order.{Server, fresh_server, ready}
 use Rattle.vic_order.specs.Serving.{by_rule}
-use Rattle.vic_order.specs.Honest.{Event, IsHonestRun, world_after}
+use Rattle.vic_order.specs.Honest.{ruled, ComesHonestly, IsSame}
 use Rattle.vic_script.specs.declared.line.Line.{Line}
 use Rattle.vic_script.specs.declared.line.Line.TheVariants as line
 use Rattle.vic_script.specs.Lines.{lines_of, line_of}
-use Rattle.vic_script.specs.Scenes.{Scene, Shown, opening, server_at, done_line, bad_kind}
+use Rattle.vic_order.specs.Scenes.{Scene, SceneOf, opening}
+use Rattle.vic_script.specs.Scenes.{Shown, done_line, bad_kind}
 use Rattle.vic_script.specs.Run.{limit, Played, plain_group, Tried, Fails, Does, tried_by, try_line, mode_in, run_of, is_honest, is_honest_script, group_in, history_in, group_of, history_of}
-use Rattle.vic_runs.specs.Claims.{RunsAreLawful, NothingIsForged, IsRunOf, RunsAreHonest, ClaimsHold}
-use Rattle.vic_runs.specs.Reached.{IsReached, IsHonestlyReached, IsHonestScene, IsSame}
+use Rattle.vic_runs.specs.Claims.{RunsAreLawful, NothingIsForged, RunsAreHonest, ClaimsHold}
+use Rattle.vic_runs.specs.Reached.{IsReached, IsHonestlyReached}
 use Rattle.vic_script.proofs.Forged.{is_forged-none}
 use Rattle.vic_runs.proofs.Lists.{all_each}
 use Rattle.vic_runs.proofs.Words.{FitsIn, text_fits}
-use Rattle.vic_runs.proofs.Reached.{reached-more, reached-opening, reached-lawful}
-use Rattle.vic_runs.proofs.Lines.{few_calls, reached-line}
+use Rattle.vic_runs.proofs.Reached.{reached-more, reached-opening, reached-lawful, reached-line}
+use Rattle.vic_runs.proofs.Lines.{few_calls}
 use Rattle.vic_runs.proofs.Kept.{same_is_kept}
 use Rattle.vic_runs.proofs.Honest.{honest-more, honest-opening, honest-line}
-use Rattle.vic_runs.proofs.HonestScenes.{honest-unforged, honest_is_honest_scene}
 use Rattle.vic_runs.proofs.Plays.{AnyText, GoesSo, EachLine, claimed-run}
 
 -- what is known of a script has at most as many bytes
@@ -77,7 +78,7 @@ tried (Some s) (Some l) n h few fits = tried-by (bad_kind s l) (done_line by_rul
 -- ---- all lines
 
 -- where a script stands after n lines, and what its run leaves
-abbrev StandsReached : ℕ → Option Scene → Type 0
+abbrev pub StandsReached : ℕ → Option Scene → Type 0
 StandsReached n scene = ReachedIn scene n
 
 abbrev LeavesReached : Option Scene → Played → Type 0
@@ -205,9 +206,13 @@ honest-run script honest = claimed-run IsHonestText StandsHonest LeavesHonest ea
 
 -- ---- what each honest run is
 
+-- what holds where honest moves lead
+pub holds_at : {V : Type 0} (R : V → Server → Type 0) (s : SceneOf V) (c : ComesHonestly R s) → IsHonestScene s c.moves c.server
+holds_at R s c = honest_runs_hold (ruled s c.server) c.server c.moves c.run
+
 unforged-in : (scene : Option Scene) (n : ℕ) → HonestIn scene n → IsForged (group_in scene) (history_in scene) → ⊥
 unforged-in None n h forged = forged
-unforged-in (Some s) n h forged = honest-unforged IsSame s n h forged
+unforged-in (Some s) n h forged = (holds_at IsSame s h.comes).unforged forged
 
 pub none_forged : NothingIsForged
 none_forged script honest =
@@ -215,42 +220,12 @@ none_forged script honest =
     let never : IsForged (group_of script) (history_of script) → ⊥ = unforged-in (run_of script).scene r.0 r.1 in
     (is_forged-none (group_of script) (history_of script) never, never)
 
--- an honest run that has what a scene has, and what holds of that scene
-record IsRunIn (scene : Option Scene) : Type 0 where
-  events : List Event
-  honest : IsHonestRun (group_in scene) events
-  history : (world_after (group_in scene) events).history ≡ history_in scene
-  server : (s : Scene) → scene ≡ Some s → server_at s.servers 1 ≡ Some (world_after (group_in scene) events).server
-  holds : (s : Scene) → scene ≡ Some s → (server : Server) → server_at s.servers 1 ≡ Some server → IsHonestScene s events server
+honest-in : (scene : Option Scene) (n : ℕ) → HonestIn scene n → (s : Scene) → scene ≡ Some s → IsHonestlyReached IsSame s n
+honest-in scene n h s e = subst (λ o. HonestIn o n) e h
 
--- server 1 is the server of that run
-server_is : (s : Scene) (n : ℕ) (r : IsHonestlyReached IsSame s n) (server : Server) → server_at s.servers 1 ≡ Some server → (world_after s.group r.events).server ≡ server
-server_is s n r server is = sym r.shows.same ∙ same_Some r.shows.server server (sym (ap (λ l. server_at l 1) r.shows.only) ∙ is)
-
-holds_in : (s : Scene) (n : ℕ) (r : IsHonestlyReached IsSame s n) (server : Server) → server_at s.servers 1 ≡ Some server → IsHonestScene s r.events server
-holds_in s n r server is = subst (IsHonestScene s r.events) (server_is s n r server is) (honest_is_honest_scene IsSame s n r)
-
-run-in : (scene : Option Scene) (n : ℕ) → HonestIn scene n → IsRunIn scene
-unfolding world_after
-run-in None n h = record { events = []; honest = record { group = record { count = (omega arith, omega arith); key = (omega arith, omega arith) }; steps = tt }; history = refl; server = λ s e. absurd cc; holds = λ s e server is. absurd cc }
-run-in (Some s) n h = record {
-  events = h.events;
-  honest = h.honest;
-  history = h.shows.history;
-  server = λ t e. let same : s ≡ t = cc in ap (λ x. server_at x.servers 1) (sym same) ∙ ap (λ l. server_at l 1) h.shows.only ∙ ap (λ v. Some v) h.shows.same;
-  holds = λ t e server is. let same : s ≡ t = cc in subst (λ x. IsHonestScene x h.events server) same (holds_in s n h server (ap (λ x. server_at x.servers 1) same ∙ is));
-}
-
--- an honest run that has a script's history, and what holds of the scene that the script's run leaves
-pub record RunsHonestly (script : List ℕ) : Type 0 where
-  pub run : IsRunOf script
-  pub scene : (s : Scene) → (run_of script).scene ≡ Some s → (server : Server) → server_at s.servers 1 ≡ Some server → IsHonestScene s run.events server
-
-pub run_is_honest : (script : List ℕ) → is_honest_script script ≡ true → RunsHonestly script
-run_is_honest script honest =
-    let r = honest-run script honest in
-    let run = run-in (run_of script).scene r.0 r.1 in
-    record { run = record { events = run.events; honest = run.honest; history = run.history; server = run.server }; scene = run.holds }
+-- the run of an honest script leaves such a scene
+pub run_is_reached : (script : List ℕ) → is_honest_script script ≡ true → (s : Scene) → (run_of script).scene ≡ Some s → (n : ℕ) × IsHonestlyReached IsSame s n
+run_is_reached script honest s e = let r = honest-run script honest in (r.0, honest-in (run_of script).scene r.0 r.1 s e)
 
 pub all_honest : RunsAreHonest
-all_honest script honest = (run_is_honest script honest).run
+all_honest script honest s e = (run_is_reached script honest s e).1.comes

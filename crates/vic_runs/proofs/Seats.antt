@@ -1,6 +1,5 @@
--- Each client of a scene has its queues and a server that exists, whatever lines do.
-use Rattle.std.proofs.Common.{◌≡◌, ℕ, zero, suc, ◌-◌, ◌<◌, ◌≤◌, Bool, true, false, List, [], ◌∷◌, length, Option, Some, None, refl, ◌∙◌, arith}
-use Rattle.std.specs.Prelude.{if◌then◌else◌, nat_eq}
+-- Each client of a scene has its queues and a server that exists, whatever moves are made.
+use Rattle.std.proofs.Common.{◌≡◌, ℕ, ◌-◌, ◌<◌, ◌≤◌, true, List, [], ◌∷◌, length, Option, Some, None, refl, ◌∙◌, arith}
 use Rattle.std.specs.List.{AllByRecursion}
 use Rattle.std.proofs.lemmas.List.{length-replicate, length-set}
 use Rattle.vic_wire.specs.Hashes.{Group}
@@ -8,14 +7,10 @@ use Rattle.vic_rules.specs.declared.trace.Input.{Input}
 use Rattle.vic_rules.specs.declared.trace.Input.TheVariants as input
 use Rattle.vic_laws.proofs.Words.{all_weaker}
 use Rattle.vic_order.specs.Serving.{Serving}
-use Rattle.vic_script.specs.declared.line.Line.{Line}
-use Rattle.vic_script.specs.declared.line.Line.TheVariants as line
-use Rattle.vic_script.specs.Lines.{is_place}
-use Rattle.vic_script.specs.Scenes.{Queue, SceneOf, ShownOf, opening_with, queue_of, set_queue, server_at, server_of, steps, served, serves, taken, takes, unchanged, flipped, last_taken, resends, copies, joins, quietly, takes_aloud, hears_aloud, behind, turns, most_turns, done_line, is_client, is_server, bad_kind}
+use Rattle.vic_order.specs.Scenes.{Queue, SceneOf, opening_with, queue_of, set_queue, server_at, server_of, steps, served, serves, taken, takes, unchanged, flipped, resends, copies, joins, is_server, Move, Asks, Serves, Takes, Flips, Hears, Resends, Copies, Joins, moved, after_moves, MayMove, MayMoves}
 use Rattle.vic_runs.proofs.Lists.{all-set, all-at, all-replicate}
-use Rattle.vic_runs.proofs.Queues.{length-set_queue}
+use Rattle.vic_honest.proofs.Queues.{length-set_queue}
 use Rattle.vic_runs.proofs.Servers.{is_server-set}
-use Rattle.vic_runs.proofs.Tests.{passed_last}
 
 -- each client has a queue of requests, one of answers, and a server that exists
 pub record IsSeated {V : Type 0} (s : SceneOf V) : Type 0 where
@@ -67,14 +62,6 @@ module _ {V : Type 0} where
   unfolding takes
   seated-takes change s h i = seated-taken change s h i (queue_of s.down i)
 
-  pub seated-takes_aloud : (change : List ℕ → List ℕ) (s : SceneOf V) → IsSeated s → (i : ℕ) → IsSeated (takes_aloud change s i).scene
-  unfolding takes_aloud
-  seated-takes_aloud change s h i = seated-takes change s h i
-
-  pub seated-hears : (s : SceneOf V) → IsSeated s → (i : ℕ) (o : Option (List ℕ)) → IsSeated (hears_aloud s i o).scene
-  seated-hears s h i None = h
-  seated-hears s h i (Some payload) = seated-steps s h i (input.Payload payload)
-
   pub seated-resends : (s : SceneOf V) → IsSeated s → (i : ℕ) → IsSeated (resends s i)
   seated-resends s h i = record { up_count = length-set_queue s.up i _ ∙ h.up_count; down_count = h.down_count; by_count = h.by_count; placed = h.placed }
 
@@ -96,36 +83,17 @@ module _ {V : Type 0} where
     placed = all-set (λ m. is_server s m ≡ true) s.served_by (i - 1) n h.placed there;
   }
 
-  seated-either : (b : Bool) (x y : ShownOf V) → IsSeated x.scene → IsSeated y.scene → IsSeated (if b then x else y).scene
-  seated-either true x y h k = h
-  seated-either false x y h k = k
+  -- a move that may be made leaves each client its queues and a server that exists
+  pub seated-moved : (rule : Serving V) (s : SceneOf V) (m : Move) → IsSeated s → MayMove s m → IsSeated (moved rule s m)
+  seated-moved rule s (Asks i given) h may = seated-steps s h i given
+  seated-moved rule s (Serves i) h may = seated-serves rule s h i
+  seated-moved rule s (Takes i) h may = seated-takes unchanged s h i
+  seated-moved rule s (Flips i n) h may = seated-takes (flipped n) s h i
+  seated-moved rule s (Hears i payload) h may = seated-steps s h i (input.Payload payload)
+  seated-moved rule s (Resends i) h may = seated-resends s h i
+  seated-moved rule s (Copies n t) h may = seated-copies s h n t may
+  seated-moved rule s (Joins i n) h may = seated-joins s h i n may.2
 
-  pub seated-turns : (rule : Serving V) (k : ℕ) (s : SceneOf V) → IsSeated s → (i : ℕ) → IsSeated (turns rule k s i).scene
-  unfolding turns
-  seated-turns rule zero s h i = h
-  seated-turns rule (suc k) s h i =
-      let turn : ShownOf V = takes_aloud unchanged (serves rule s i) i in
-      let next : IsSeated turn.scene = seated-takes_aloud unchanged (serves rule s i) (seated-serves rule s h i) i in
-      seated-either (nat_eq (length (queue_of s.up i)) 0) (quietly s) (behind turn.text (turns rule k turn.scene i)) h (seated-turns rule k turn.scene next i)
-
-  -- ---- the lines
-
-  -- a line that isn't bad leaves each client its queues and a server that exists
-  pub seated-line : (rule : Serving V) (s : SceneOf V) (l : Line) → IsSeated s → bad_kind s l ≡ None → IsSeated (done_line rule s l).scene
-  unfolding bad_kind
-  seated-line rule s (line.Clients n) h good = h
-  seated-line rule s (line.Key digits) h good = h
-  seated-line rule s (line.Hostile name n) h good = h
-  seated-line rule s (line.Call i o) h good = seated-steps s h i (input.Call o)
-  seated-line rule s (line.Poll i) h good = seated-steps s h i input.Poll
-  seated-line rule s (line.Sync i) h good = seated-steps s h i input.Sync
-  seated-line rule s (line.Serve i) h good = seated-serves rule s h i
-  seated-line rule s (line.Take i) h good = seated-takes_aloud unchanged s h i
-  seated-line rule s (line.Run i) h good = seated-turns rule most_turns s h i
-  seated-line rule s (line.Give i payload) h good = seated-steps s h i (input.Payload payload)
-  seated-line rule s (line.Again i) h good = seated-hears s h i (last_taken i s.history)
-  seated-line rule s (line.Flip i n) h good = seated-takes_aloud (flipped n) s h i
-  seated-line rule s (line.Resend i) h good = seated-resends s h i
-  seated-line rule s (line.Copy n t) h good = seated-copies s h n t (passed_last 1 (is_place t) 6 (is_server s n) good)
-  seated-line rule s (line.Move i n) h good = seated-joins s h i n (passed_last 2 (is_client s i) 6 (is_server s n) good)
-  seated-line rule s line.Skip h good = h
+  pub seated-after : (rule : Serving V) (s : SceneOf V) (moves : List Move) → IsSeated s → MayMoves rule s moves → IsSeated (after_moves rule s moves)
+  seated-after rule s [] h may = h
+  seated-after rule s (m ∷ before) h may = seated-moved rule (after_moves rule s before) m (seated-after rule s before h may.0) may.1

@@ -35,7 +35,7 @@ use Rattle.vic_laws.proofs.Calls.{kind_of}
 use Rattle.vic_wire.specs.Walks.{tree_after}
 use Rattle.vic_laws.proofs.PartRoots.{StubsFit, read_stubs, root_digest, after_stubs}
 use Rattle.vic_honest.proofs.Spoken.{tag_bytes}
-use Rattle.vic_script.specs.Scenes.{or_before, payload_in, last_taken, last_sent, flipped}
+use Rattle.vic_order.specs.Scenes.{or_before, payload_in, last_taken, last_sent, flipped}
 use Rattle.vic_runs.specs.Reached.{IfThere}
 
 -- ---- roots are bytes

@@ -2,7 +2,7 @@
 use Rattle.std.proofs.Common.{◌≡◌, ℕ, zero, suc, ◌-◌, Bool, true, false, List, [], ◌∷◌, Option, None, is_some}
 use Rattle.std.specs.Prelude.{if◌then◌else◌, nat_eq, slice_get, slice_set}
 use Rattle.std.specs.List.{AllByRecursion}
-use Rattle.vic_script.specs.Scenes.{or_none, server_at, set_server}
+use Rattle.vic_order.specs.Scenes.{or_none, server_at, set_server}
 use Rattle.vic_runs.specs.Reached.{IfThere}
 
 module _ {V : Type 0} where

@@ -6,7 +6,8 @@ use Rattle.vic_dict.specs.declared.op.Op.{Op}
 use Rattle.vic_dict.specs.declared.op.Op.TheVariants as op
 use Rattle.vic_dict.specs.Dictionary.{IsKey, Fits}
 use Rattle.vic_rules.specs.Client.{first_failing, awaits_nothing, IsIdle}
-use Rattle.vic_script.specs.Scenes.{Queue, SceneOf, stands, is_client, oldest, is_key, fits_op, is_plain_call, asked_tests}
+use Rattle.vic_order.specs.Scenes.{Queue, SceneOf, stands, is_client, oldest}
+use Rattle.vic_script.specs.Scenes.{is_key, fits_op, is_plain_call, asked_tests}
 
 -- a test before others was passed, and so were they
 pub passed : (k : ℕ) (b : Bool) (others : List (ℕ × Bool)) → first_failing ((k, b) ∷ others) ≡ None → (b ≡ true) × (first_failing others ≡ None)

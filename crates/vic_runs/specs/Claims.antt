@@ -11,14 +11,14 @@ use Rattle.vic_rules.specs.History.{IsLawful, Completion, completions}
 use Rattle.vic_rules.specs.Trust.{IsForged}
 use Rattle.vic_rules.specs.Headline.{Headline}
 use Rattle.vic_order.specs.Order.{Server}
-use Rattle.vic_order.specs.Honest.{Event, IsHonestRun, world_after}
-use Rattle.vic_honest.specs.Claims.{StandsAsFated}
+use Rattle.vic_order.specs.Honest.{ComesHonestly, IsSame}
+use Rattle.vic_honest.specs.Claims.{StandsAsFated, NoneHalts}
 use Rattle.vic_script.specs.declared.line.Line.{Line}
 use Rattle.vic_script.specs.declared.line.Line.TheVariants as line
-use Rattle.vic_script.specs.Scenes.{Scene, server_at, said}
+use Rattle.vic_order.specs.Scenes.{Scene, server_at}
+use Rattle.vic_script.specs.Scenes.{said}
 use Rattle.vic_script.specs.Run.{Bad, run_of, is_honest_script, group_of, history_of, bad_line_of}
 use Rattle.vic_script.specs.Print.{is_forged}
-use Rattle.vic_runs.specs.Reached.{GoesOn}
 
 -- the operation of a call is within its lengths and is bytes, a group has 1 to 64 clients, and a payload is bytes
 abbrev pub FitsLine : Line → Type 0
@@ -79,15 +79,8 @@ abbrev pub NothingIsForged : Type 0
 NothingIsForged = (script : List ℕ) → is_honest_script script ≡ true
     → (is_forged (group_of script) (history_of script) ≡ false) × (IsForged (group_of script) (history_of script) → ⊥)
 
--- a run of clients with one honest server that has a script's history, and its one server where the script opened
-pub record IsRunOf (script : List ℕ) : Type 0 where
-  pub events : List Event
-  pub honest : IsHonestRun (group_of script) events
-  pub history : (world_after (group_of script) events).history ≡ history_of script
-  pub server : (s : Scene) → (run_of script).scene ≡ Some s → server_at s.servers 1 ≡ Some (world_after (group_of script) events).server
-
 abbrev pub RunsAreHonest : Type 0
-RunsAreHonest = (script : List ℕ) → is_honest_script script ≡ true → IsRunOf script
+RunsAreHonest = (script : List ℕ) → is_honest_script script ≡ true → (s : Scene) → (run_of script).scene ≡ Some s → ComesHonestly IsSame s
 
 -- every completed call is an entry of the server's log, and its outcome is what becomes of that entry
 abbrev pub OutcomesAreFates : Type 0
@@ -96,7 +89,7 @@ OutcomesAreFates = (script : List ℕ) → is_honest_script script ≡ true → 
 
 -- no client halts
 abbrev pub NobodyHalts : Type 0
-NobodyHalts = (script : List ℕ) → is_honest_script script ≡ true → (s : Scene) → (run_of script).scene ≡ Some s → GoesOn s
+NobodyHalts = (script : List ℕ) → is_honest_script script ≡ true → (s : Scene) → (run_of script).scene ≡ Some s → NoneHalts s.group s.history
 
 -- no line is bad for that its client has halted
 abbrev pub NoLineIsHalted : Type 0

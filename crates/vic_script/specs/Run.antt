@@ -9,7 +9,8 @@ use Rattle.vic_script.specs.declared.line.Line.{Line}
 use Rattle.vic_script.specs.declared.line.Line.TheVariants as line
 use Rattle.vic_script.specs.Lines.{lines_of, line_of}
 use Rattle.vic_order.specs.Serving.{by_rule}
-use Rattle.vic_script.specs.Scenes.{Scene, Shown, opening, done_line, bad_kind, is_honest_line}
+use Rattle.vic_order.specs.Scenes.{Scene, opening}
+use Rattle.vic_script.specs.Scenes.{Shown, done_line, bad_kind, is_honest_line}
 
 -- the most bytes that a script may have
 abbrev pub limit : ℕ

@@ -1,6 +1,6 @@
 use Rattle.std.proofs.Common.{refl, rules}
 use Rattle.vic_rules.specs.History.{standing}
-use Rattle.vic_script.specs.Scenes.{last_taken, last_sent}
+use Rattle.vic_order.specs.Scenes.{last_taken, last_sent}
 use Rattle.vic_group.proofs.opening.entered.Goals as goal
 
 pub returns-clause-stands : goal.returns-clause-stands

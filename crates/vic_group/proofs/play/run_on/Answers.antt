@@ -1,7 +1,7 @@
 use Rattle.std.proofs.Common.{◌≡◌, ℕ, ◌+◌, List, length, Some, sym, ap, ◌∙◌, arith}
 use Rattle.std.proofs.lemmas.Bool.{eqb-true}
 use Rattle.vic_script.specs.Lines.{lines_of}
-use Rattle.vic_script.specs.Scenes.{Scene}
+use Rattle.vic_order.specs.Scenes.{Scene}
 use Rattle.vic_script.specs.Run.{Played as Run, printed_before, play}
 use Rattle.vic_group.specs.Playing.{scene_of, tried_at}
 use Rattle.vic_group.proofs.Playing.{run_line, goes_on, leaves_stop, leaves_end, lines_none}

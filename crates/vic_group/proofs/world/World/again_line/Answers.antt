@@ -1,6 +1,6 @@
 use Rattle.std.proofs.Common.{◌≡◌, [], ◌∷◌, None, Some, is_some, refl, rules, sym, ◌∙◌}
 use Rattle.vic_script.specs.declared.line.Line.TheVariants as line
-use Rattle.vic_script.specs.Scenes.{last_taken}
+use Rattle.vic_order.specs.Scenes.{last_taken}
 use Rattle.vic_group.specs.World.{states}
 use Rattle.vic_group.proofs.Asking.{is_there, not_there}
 use Rattle.vic_group.proofs.Lines.{absent, repeated_line, unrepeated_line}

@@ -1,5 +1,5 @@
 use Rattle.std.proofs.Common.{◌≡◌, Some, is_some, option_map, sym, ap, ◌∙◌, arith}
-use Rattle.vic_script.specs.Scenes.{server_at, set_server}
+use Rattle.vic_order.specs.Scenes.{server_at, set_server}
 use Rattle.vic_group.specs.World.{states}
 use Rattle.vic_group.proofs.Scenes.{shows_copied, shows_kept}
 use Rattle.vic_group.proofs.Lines.{copied_line, misplaced_line, uncopied_line, server_shown}

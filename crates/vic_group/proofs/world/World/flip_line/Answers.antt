@@ -1,6 +1,6 @@
 use Rattle.std.proofs.Common.{[], ◌∷◌, refl}
 use Rattle.vic_script.specs.declared.line.Line.TheVariants as line
-use Rattle.vic_script.specs.Scenes.{has_byte}
+use Rattle.vic_order.specs.Scenes.{has_byte}
 use Rattle.vic_group.specs.World.{states}
 use Rattle.vic_group.proofs.Asking.{is_there, not_there}
 use Rattle.vic_group.proofs.Lines.{absent, flipped_line, unflipped_line}

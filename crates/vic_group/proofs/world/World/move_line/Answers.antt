@@ -1,6 +1,6 @@
 use Rattle.std.proofs.Common.{◌≡◌, [], ◌∷◌, true, false, is_some, refl, rules, sym, ◌∙◌, slice_set}
 use Rattle.vic_script.specs.declared.line.Line.TheVariants as line
-use Rattle.vic_script.specs.Scenes.{is_server, server_at}
+use Rattle.vic_order.specs.Scenes.{is_server, server_at}
 use Rattle.vic_group.specs.World.{states}
 use Rattle.vic_group.proofs.Asking.{is_there, not_there}
 use Rattle.vic_group.proofs.Lines.{absent, moved_shows, unmoved_line, server_shown}

@@ -1,6 +1,6 @@
 use Rattle.std.proofs.Common.{◌≡◌, [], ◌∷◌, true, false, is_some, refl, sym, ap, ◌∙◌, slice_set}
 use Rattle.vic_script.specs.declared.line.Line.TheVariants as line
-use Rattle.vic_script.specs.Scenes.{last_sent}
+use Rattle.vic_order.specs.Scenes.{last_sent}
 use Rattle.vic_group.specs.World.{states}
 use Rattle.vic_group.proofs.Asking.{is_there, not_there}
 use Rattle.vic_group.proofs.Lines.{absent, resent_shows, unresent_shows}

@@ -1,6 +1,6 @@
 use Rattle.std.proofs.Common.{◌≡◌, ℕ, List, [], ◌∷◌, drop, Option, refl, subst}
 use Rattle.std.specs.Prelude.{MatchOption}
-use Rattle.vic_script.specs.Scenes.{unchanged}
+use Rattle.vic_order.specs.Scenes.{unchanged}
 use Rattle.vic_group.specs.declared.member.Member.{Member}
 use Rattle.vic_group.specs.World.{states}
 use Rattle.vic_group.proofs.Scenes.{stands_here}

@@ -1,6 +1,6 @@
 use Rattle.std.proofs.Common.{◌≡◌, ℕ, List, length, Option, true, false, is_some, nat_lt, refl, sym, ap, subst, ◌∙◌}
 use Rattle.std.specs.Prelude.{IfSome}
-use Rattle.vic_script.specs.Scenes.{flipped, oldest}
+use Rattle.vic_order.specs.Scenes.{flipped, oldest}
 use Rattle.vic_group.specs.declared.member.Member.{Member}
 use Rattle.vic_group.specs.World.{states}
 use Rattle.vic_group.proofs.Scenes.{stands_here}

@@ -1,6 +1,6 @@
 use Rattle.std.proofs.Common.{[], ◌∷◌, refl}
 use Rattle.vic_script.specs.declared.line.Line.TheVariants as line
-use Rattle.vic_script.specs.Scenes.{waits_in}
+use Rattle.vic_order.specs.Scenes.{waits_in}
 use Rattle.vic_group.specs.World.{states}
 use Rattle.vic_group.proofs.Asking.{is_there, not_there}
 use Rattle.vic_group.proofs.Lines.{absent, took_line, untook_line}

@@ -1,0 +1,233 @@
+-- Scenes of clients and servers, and the moves by which one leads to another.
+use Rattle.std.specs.Prelude.{◌≡◌, ℕ, ◌-◌, ◌<◌, ◌≤◌, Bool, true, ◌&&◌, List, [], ◌∷◌, ◌++◌, length, replicate, Option, Some, None, is_some, nat_eq, nat_lt, nat_le, if◌then◌else◌, slice_get, slice_set, unwrap_or}
+use Rattle.std.specs.Int.Bits.{bit_xor}
+use Rattle.vic_dict.specs.Lists.{AreBytes}
+use Rattle.vic_wire.specs.Hashes.{Group}
+use Rattle.vic_rules.specs.declared.trace.Input.{Input}
+use Rattle.vic_rules.specs.declared.trace.Input.TheVariants as input
+use Rattle.vic_rules.specs.declared.trace.TraceStep.{TraceStep}
+use Rattle.vic_rules.specs.Client.{Standing, step, payload_of, MayStep}
+use Rattle.vic_rules.specs.History.{standing}
+use Rattle.vic_order.specs.Order.{Server, fresh_server, ready}
+use Rattle.vic_order.specs.Serving.{Serving}
+
+-- payloads that wait, the oldest first
+abbrev pub Queue : Type 0
+Queue = List (List ℕ)
+
+-- a group, its history (the newest step first), each client's queue of requests and its queue of answers, the number of the
+-- server that each client is served by, and servers 1 to 4, as far as they exist. V is what a server is
+pub record SceneOf (V : Type 0) : Type 0 where
+  pub group : Group
+  pub history : List TraceStep
+  pub up : List Queue
+  pub down : List Queue
+  pub served_by : List ℕ
+  pub servers : List (Option V)
+
+-- with servers that follow the rule
+abbrev pub Scene : Type 0
+Scene = SceneOf Server
+
+-- nothing has happened, all clients have come in, and this server, the only one, serves them
+abbrev pub opening_with : {V : Type 0} → Group → V → SceneOf V
+opening_with g server = record {
+  group = g;
+  history = [];
+  up = replicate g.count [];
+  down = replicate g.count [];
+  served_by = replicate g.count 1;
+  servers = Some server ∷ None ∷ None ∷ None ∷ [];
+}
+
+-- the same with a server that follows the rule
+abbrev pub opening : Group → Scene
+opening g = opening_with g (fresh_server g.mode g.count ready)
+
+-- a client's queue
+abbrev pub queue_of : List Queue → ℕ → Queue
+queue_of queues i = unwrap_or (slice_get queues (i - 1)) []
+
+abbrev pub set_queue : List Queue → ℕ → Queue → List Queue
+set_queue queues i queue = slice_set queues (i - 1) queue
+
+-- a payload joins a queue, if there is one
+abbrev pub queued : Queue → Option (List ℕ) → Queue
+queued queue None = queue
+queued queue (Some payload) = queue ++ payload ∷ []
+
+abbrev pub or_none : {V : Type 0} → Option (Option V) → Option V
+or_none None = None
+or_none (Some o) = o
+
+-- the server of a number, if it exists
+abbrev pub server_at : {V : Type 0} → List (Option V) → ℕ → Option V
+server_at servers n = if nat_eq n 0 then None else or_none (slice_get servers (n - 1))
+
+abbrev pub set_server : {V : Type 0} → List (Option V) → ℕ → Option V → List (Option V)
+set_server servers n server = slice_set servers (n - 1) server
+
+-- the number of the server that serves a client
+abbrev pub server_of : List ℕ → ℕ → ℕ
+server_of served_by i = unwrap_or (slice_get served_by (i - 1)) 0
+
+-- where a client stands
+abbrev pub stands : {V : Type 0} → SceneOf V → ℕ → Standing
+stands s i = standing s.group i s.history
+
+-- ---- what happens
+
+-- a client makes a step: it joins the history, and what was sent joins the queue of requests
+unfoldable pub steps : {V : Type 0} → SceneOf V → ℕ → Input → SceneOf V
+steps s i given =
+    let v = step s.group i (stands s i) given in
+    let sent = payload_of s.group i v.next v.sends in
+    record s {
+      history = record { client = i; input = given; sent = sent; returned = v.returns } ∷ s.history;
+      up = set_queue s.up i (queued (queue_of s.up i) sent);
+    }
+
+-- the server of a client serves its request, and the answer joins the queue of answers. There is always such a server
+abbrev pub served_with : {V : Type 0} → SceneOf V → ℕ → Queue → List ℕ × V → SceneOf V
+served_with s i rest a = record s {
+  up = set_queue s.up i rest;
+  down = set_queue s.down i (queue_of s.down i ++ a.0 ∷ []);
+  servers = set_server s.servers (server_of s.served_by i) (Some a.1);
+}
+
+abbrev pub served : {V : Type 0} → Serving V → SceneOf V → ℕ → Queue → Option V → SceneOf V
+served rule s i [] server = s
+served rule s i (payload ∷ rest) None = s
+served rule s i (payload ∷ rest) (Some server) = served_with s i rest (rule server i i payload)
+
+unfoldable pub serves : {V : Type 0} → Serving V → SceneOf V → ℕ → SceneOf V
+serves rule s i = served rule s i (queue_of s.up i) (server_at s.servers (server_of s.served_by i))
+
+-- a client takes its oldest answer, as it comes through a change
+abbrev pub taken : {V : Type 0} → (List ℕ → List ℕ) → SceneOf V → ℕ → Queue → SceneOf V
+taken change s i [] = s
+taken change s i (payload ∷ rest) = steps (record s { down = set_queue s.down i rest }) i (input.Payload (change payload))
+
+unfoldable pub takes : {V : Type 0} → (List ℕ → List ℕ) → SceneOf V → ℕ → SceneOf V
+takes change s i = taken change s i (queue_of s.down i)
+
+abbrev pub unchanged : List ℕ → List ℕ
+unchanged payload = payload
+
+-- the lowest bit of one byte changes; bytes are counted from 0
+abbrev pub flipped : ℕ → List ℕ → List ℕ
+flipped n payload = slice_set payload n (bit_xor (unwrap_or (slice_get payload n) 0) 1)
+
+-- ---- what a client took and sent last
+
+abbrev pub or_before : Option (List ℕ) → Option (List ℕ) → Option (List ℕ)
+or_before (Some payload) before = Some payload
+or_before None before = before
+
+abbrev pub payload_in : Input → Option (List ℕ)
+payload_in (input.Call o) = None
+payload_in input.Poll = None
+payload_in input.Sync = None
+payload_in (input.Payload payload) = Some payload
+
+-- the payload that a client took last, if it took one
+unfoldable pub last_taken : ℕ → List TraceStep → Option (List ℕ)
+last_taken i [] = None
+last_taken i (x ∷ past) = if nat_eq x.client i then or_before (payload_in x.input) (last_taken i past) else last_taken i past
+
+-- the payload that a client sent last, if it sent one
+unfoldable pub last_sent : ℕ → List TraceStep → Option (List ℕ)
+last_sent i [] = None
+last_sent i (x ∷ past) = if nat_eq x.client i then or_before x.sent (last_sent i past) else last_sent i past
+
+-- it joins the client's requests again
+abbrev pub resends : {V : Type 0} → SceneOf V → ℕ → SceneOf V
+resends s i = record s { up = set_queue s.up i (queued (queue_of s.up i) (last_sent i s.history)) }
+
+-- ---- servers
+
+-- a server becomes a copy of another
+abbrev pub copies : {V : Type 0} → SceneOf V → ℕ → ℕ → SceneOf V
+copies s n t = record s { servers = set_server s.servers t (server_at s.servers n) }
+
+-- a client is served by another server from now on
+abbrev pub joins : {V : Type 0} → SceneOf V → ℕ → ℕ → SceneOf V
+joins s i n = record s { served_by = slice_set s.served_by (i - 1) n }
+
+-- ---- tests
+
+abbrev pub is_client : {V : Type 0} → SceneOf V → ℕ → Bool
+is_client s i = nat_lt 0 i && nat_le i s.group.count
+
+abbrev pub is_server : {V : Type 0} → SceneOf V → ℕ → Bool
+is_server s n = is_some (server_at s.servers n)
+
+abbrev pub waits_in : List Queue → ℕ → Bool
+waits_in queues i = nat_lt 0 (length (queue_of queues i))
+
+-- the oldest payload of a queue; of no bytes where none waits
+abbrev pub oldest : Queue → List ℕ
+oldest [] = []
+oldest (payload ∷ rest) = payload
+
+-- the oldest payload has a byte of this number
+abbrev pub has_byte : List Queue → ℕ → ℕ → Bool
+has_byte queues i n = nat_lt n (length (oldest (queue_of queues i)))
+
+-- ---- moves
+
+-- what may happen in a scene
+pub data Move : Type 0 where
+  -- a client is asked for something
+  Asks : (client : ℕ) (given : Input) → Move
+  -- a client's server serves the oldest of its requests
+  Serves : (client : ℕ) → Move
+  -- a client takes the oldest of its answers
+  Takes : (client : ℕ) → Move
+  -- it takes it with the lowest bit of one byte changed
+  Flips : (client byte : ℕ) → Move
+  -- a client takes a payload from elsewhere
+  Hears : (client : ℕ) (payload : List ℕ) → Move
+  -- what a client sent last joins its requests again
+  Resends : (client : ℕ) → Move
+  -- a server becomes a copy of another
+  Copies : (server copy : ℕ) → Move
+  -- a client is served by another server from now on
+  Joins : (client server : ℕ) → Move
+
+abbrev pub moved : {V : Type 0} → Serving V → SceneOf V → Move → SceneOf V
+moved rule s (Asks i given) = steps s i given
+moved rule s (Serves i) = serves rule s i
+moved rule s (Takes i) = takes unchanged s i
+moved rule s (Flips i n) = takes (flipped n) s i
+moved rule s (Hears i payload) = steps s i (input.Payload payload)
+moved rule s (Resends i) = resends s i
+moved rule s (Copies n t) = copies s n t
+moved rule s (Joins i n) = joins s i n
+
+-- a scene after moves, the newest first
+abbrev pub after_moves : {V : Type 0} → Serving V → SceneOf V → List Move → SceneOf V
+after_moves rule s [] = s
+after_moves rule s (m ∷ before) = moved rule (after_moves rule s before) m
+
+-- what a client may be asked for; a payload is none of it
+abbrev pub MayAsk : {V : Type 0} → SceneOf V → ℕ → Input → Type 0
+MayAsk s i (input.Payload payload) = ⊥
+MayAsk s i given = MayStep s.group (stands s i) given
+
+-- a move may be made: the client is one of the group, and it may be asked for this, or a payload waits, or what it takes is bytes; and a
+-- server that is copied or joined exists
+abbrev pub MayMove : {V : Type 0} → SceneOf V → Move → Type 0
+MayMove s (Asks i given) = (0 < i) × (i ≤ s.group.count) × MayAsk s i given
+MayMove s (Serves i) = (0 < i) × (i ≤ s.group.count) × (queue_of s.up i ≡ [] → ⊥)
+MayMove s (Takes i) = (0 < i) × (i ≤ s.group.count) × (queue_of s.down i ≡ [] → ⊥)
+MayMove s (Flips i n) = (0 < i) × (i ≤ s.group.count) × (queue_of s.down i ≡ [] → ⊥)
+MayMove s (Hears i payload) = (0 < i) × (i ≤ s.group.count) × AreBytes payload
+MayMove s (Resends i) = (0 < i) × (i ≤ s.group.count)
+MayMove s (Copies n t) = is_server s n ≡ true
+MayMove s (Joins i n) = (0 < i) × (i ≤ s.group.count) × (is_server s n ≡ true)
+
+-- each move is one that may be made after those before it
+abbrev pub MayMoves : {V : Type 0} → Serving V → SceneOf V → List Move → Type 0
+MayMoves rule s [] = Unit {0}
+MayMoves rule s (m ∷ before) = MayMoves rule s before × MayMove (after_moves rule s before) m
