@@ -9,6 +9,12 @@ use Rattle.vic_wire.specs.Bits.{key_bit}
 use Rattle.vic_wire.specs.Walks.{gathered, end_at, least, is_whole, is_stub}
 use Rattle.vic_tree.specs.Grown.{LeavesFit}
 use Rattle.vic_tree.proofs.Reached.{laid_is}
+use Rattle.vic_tree.proofs.Lists.{key_cmp}
+use Rattle.vic_prune.specs.Parts.{found_at}
+use Rattle.std.specs.Prelude.{if◌then◌else◌}
+use Rattle.std.specs.Str.{bytes_eq}
+use Rattle.std.proofs.lemmas.Cmp.{nat_list_cmp_total}
+use Rattle.std.proofs.lemmas.Map.Text.{is_eq-slice_cmp}
 
 pub gathered_append : (d : Dictionary) (ps qs : List Pair) → gathered d (ps ++ qs) ≡ gathered (gathered d ps) qs
 gathered_append d [] qs = refl
@@ -51,3 +57,10 @@ end_whole k Empty = refl
 end_whole k (Leaf q w) = refl
 end_whole k (Inner i l r) = elim (key_bit k i) as (λ b. is_whole (cond b (end_at k r) (end_at k l)) ≡ not (is_stub (cond b (end_at k r) (end_at k l)))) [ true ↦ end_whole k r | false ↦ end_whole k l ]
 end_whole k (Stub root) = refl
+
+-- what the walk of a get finds
+pub found_end : (k : List ℕ) (t : Tree) → found_at k (end_at k t) ≡ map.get (gathered nothing (pairs_of (end_at k t))) k
+found_end k Empty = sym (map.get-empty key_cmp k)
+found_end k (Leaf q w) = sym (map.get-insert nat_list_cmp_total nothing q w k ∙ (λ i. cond (is_eq-slice_cmp k q i) (Some w) (map.get-empty key_cmp k i)))
+found_end k (Inner i l r) = elim (key_bit k i) as (λ b. found_at k (cond b (end_at k r) (end_at k l)) ≡ map.get (gathered nothing (pairs_of (cond b (end_at k r) (end_at k l)))) k) [ true ↦ found_end k r | false ↦ found_end k l ]
+found_end k (Stub root) = sym (map.get-empty key_cmp k)

@@ -1,4 +1,4 @@
-ghost use Rattle.std.specs.Prelude.{◌≡◌, ◌<◌, ◌↔◌, length, false, true, IfOk, IfErr, MatchOption, OnOk, Err, ◌++◌, List, ℕ, ◌⊎◌};
+ghost use Rattle.std.specs.Prelude.{◌≡◌, ◌<◌, ◌↔◌, length, false, true, IfOk, IfErr, MatchOption, OnOk, option_copied, Err, ◌++◌, List, ℕ, ◌⊎◌};
 ghost use Rattle.vic_dict.specs.Dictionary.{Dictionary, IsKey, Fits, AreBytesIn, HasByteKeys, nothing, reply, after};
 ghost use Rattle.vic_dict.specs.Lists.{AreBytes};
 ghost use Rattle.vic_tree.specs.Binding.{Collides};
@@ -9,7 +9,7 @@ ghost use Rattle.vic_wire.specs.Parts.{IsPart};
 ghost use Rattle.std.specs.Prelude.{map as map_list, filter, nat_eq, IfSome, IsTrue};
 ghost use Rattle.std.specs.List.{starts_with};
 ghost use Rattle.std.specs.FinMap as map;
-ghost use Rattle.vic_prune.specs.Parts.{part, KeysFit};
+ghost use Rattle.vic_prune.specs.Parts.{part, found_at, KeysFit};
 ghost use Rattle.vic_prune.specs.Listed.{AreListed};
 
 use std::alloc::Global;
@@ -326,6 +326,26 @@ impl Pruned {
         ensures { result ≡ reaches (part self.now) op.now }
     {
         self.seen(op).is_whole()
+    }
+
+    // The value of a leaf of this key.
+    fn value_of(&self, key: &[u8]) -> Option<&Bytes>
+        ensures { option_copied result ≡ found_at key.now (part self.now) }
+    {
+        match self {
+            Pruned::Leaf(held, value) => if key == held.as_slice() { Some(value) } else { None },
+            _ => None,
+        }
+    }
+
+    /// What stands under a key, by its walk; at a stub nothing does. It takes no memory.
+    #[tactic(auto, using(vic_tree::proofs::Grammar::part_fits, crate::proofs::Gathered::found_end))]
+    pub fn get(&self, key: &[u8]) -> Option<&Bytes>
+        requires part { IsPart (part self.now) }
+        requires fits { IsKey key.now }
+        ensures { option_copied result ≡ map.get (walked (part self.now) (Op.Get key.now)) key.now }
+    {
+        self.end_node(key).value_of(key)
     }
 
     fn revalued_root(&self, key: &[u8], value: &[u8]) -> Digest32

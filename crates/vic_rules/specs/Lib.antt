@@ -1,3 +1,4 @@
+pub mod Objects
 pub mod Client
 pub mod History
 pub mod Views

@@ -4,10 +4,12 @@
 //! code is the two tests of equality in [`same`].
 #![tactic(auto)]
 
+pub mod object;
 pub mod same;
 pub mod state;
 pub mod trace;
 
+pub use object::{Next, ObjectCall, ObjectOutcome, Phase};
 pub use same::{same_entry, same_op};
 pub use state::{Awaiting, Own};
 pub use trace::{Input, Shown, TraceStep};
