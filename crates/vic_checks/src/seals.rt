@@ -166,7 +166,12 @@ fn shows_own(found: Option<&Pruned>, own: &OwnList) -> bool
 /// Whether the part, if the answer carries one, has the root of the answer's seal and shows what is walked over: in a Reply by
 /// the open call, in an Update by the call that is sealed next. `found` is what the bytes of the answer's part spell. It costs
 /// what the part costs.
-pub fn is_proved(found: Option<&Pruned>, awaiting: &Awaiting, own: &OwnList, message: &ToClient) -> bool
+pub fn is_proved(
+    found: Option<&Pruned>,
+    awaiting: &Awaiting,
+    own: &OwnList,
+    message: &ToClient,
+) -> bool
     requires part { seen (option_copied found) ≡ part_of message.now }
     requires grammar { IfSome (option_copied found) IsGrammar }
     requires fits { AwaitsFit awaiting.now }

@@ -5,8 +5,8 @@ use crate::{Awaiting, Own, OwnList, State, Verdict, decide, judge};
 use std::alloc::Global;
 use std::test::Fail;
 use vic_chain::Window;
-use vic_prune::Pruned;
 use vic_dict::{Answer, Bytes, Entry, Mode, NoMemory, Op, Outcome};
+use vic_prune::Pruned;
 use vic_tag::GroupKey;
 use vic_wire::{Digest32, Tagged, TaggedList, ToClient};
 
@@ -93,26 +93,12 @@ fn decisions(rt: HostRuntime) -> Result<(), Fail> {
     let list = entries(rt.alloc())?;
     let own = get(rt.alloc(), b"a")?;
     let other = put(rt.alloc(), b"b", b"y")?;
-    let found = decide(
-        rt.alloc(),
-        &state,
-        &list,
-        0,
-        &Pruned::Empty,
-        &own,
-    )?;
+    let found = decide(rt.alloc(), &state, &list, 0, &Pruned::Empty, &own)?;
     match &found {
         Outcome::Done(Answer::Found(value)) => assert!(rt; value.as_slice() == b"x".as_slice()),
         _ => assert!(rt; false),
     }
-    let aborted = decide(
-        rt.alloc(),
-        &state,
-        &list,
-        0,
-        &Pruned::Empty,
-        &other,
-    )?;
+    let aborted = decide(rt.alloc(), &state, &list, 0, &Pruned::Empty, &other)?;
     assert!(rt; matches!(&aborted, Outcome::Aborted(1)));
     Ok(())
 }

@@ -184,8 +184,10 @@ steps_own g me (x ∷ past) steps = now (cases_eq x.client me) (steps_own g me p
   where
     now : (x.client ≡ me) ⊎ (x.client ≡ me → ⊥) → AreSteps g (own_steps me past) → AreSteps g (own_steps me (x ∷ past))
     now (inl e) before =
-        subst (AreSteps g) (sym (own_here me x past e)) (before,
-        step_at g x past (own_steps me past) (subst (λ i. standing g i past ≡ standing g i (own_steps me past)) (sym e) (standing_own g me past)) steps.1)
+        subst (AreSteps g) (sym (own_here me x past e)) (
+          before,
+          step_at g x past (own_steps me past) (subst (λ i. standing g i past ≡ standing g i (own_steps me past)) (sym e) (standing_own g me past)) steps.1,
+        )
     now (inr apart) before = subst (AreSteps g) (sym (own_other me x past apart)) before
 
 steps_merged : (g : Group) (h : List TraceStep) → ((me : ℕ) → AreSteps g (own_steps me h)) → AreSteps g h

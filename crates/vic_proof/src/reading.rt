@@ -10,8 +10,7 @@ ghost use Rattle.vic_proof.specs.Nodes.{node_from, inner_from, after_byte};
 
 use std::alloc::Global;
 use thiserror::Error;
-use vic_dict::NoMemory as OutOfMemory;
-use vic_dict::Bytes;
+use vic_dict::{Bytes, NoMemory as OutOfMemory};
 use vic_fields::{Cut, CutFault};
 use vic_prune::Pruned;
 

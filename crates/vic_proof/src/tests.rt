@@ -20,10 +20,30 @@ fn first_faults(rt: HostRuntime) -> Result<(), Fail> {
     assert!(rt; matches!(part_of(rt.alloc(), &[]), Err(ProofFault::Short(0))));
     assert!(rt; matches!(part_of(rt.alloc(), &[1]), Err(ProofFault::Short(1))));
     assert!(rt; matches!(part_of(rt.alloc(), &[1, 5]), Err(ProofFault::BadTag(1))));
-    assert!(rt; matches!(part_of(rt.alloc(), &[1, 1, 0]), Err(ProofFault::BadLength(2))));
-    assert!(rt; matches!(part_of(rt.alloc(), &[1, 0, 0]), Err(ProofFault::Trailing(2))));
-    assert!(rt; matches!(part_of(rt.alloc(), &[1, 2, 9, 0]), Err(ProofFault::IndexNotRising(2))));
-    assert!(rt; matches!(part_of(rt.alloc(), &[0, 0, 0, 0, 0]), Err(ProofFault::BadTag(0))));
+    assert!(rt;
+        matches!(
+            part_of(rt.alloc(), &[1, 1, 0]),
+            Err(ProofFault::BadLength(2))
+        )
+    );
+    assert!(rt;
+        matches!(
+            part_of(rt.alloc(), &[1, 0, 0]),
+            Err(ProofFault::Trailing(2))
+        )
+    );
+    assert!(rt;
+        matches!(
+            part_of(rt.alloc(), &[1, 2, 9, 0]),
+            Err(ProofFault::IndexNotRising(2))
+        )
+    );
+    assert!(rt;
+        matches!(
+            part_of(rt.alloc(), &[0, 0, 0, 0, 0]),
+            Err(ProofFault::BadTag(0))
+        )
+    );
     Ok(())
 }
 

@@ -48,11 +48,14 @@ below_more a b (p ∷ ps) less h =
 
 next_listed : (p : List ℕ) (k : List ℕ) (ks : List (List ℕ)) (n : ℕ) → AreListed p (k ∷ ks) (suc n) → AreListed p ks n
 next_listed p k ks n h zero lt = ((h 1 (omega arith)).0, λ q. absurd (omega arith))
-next_listed p k ks n h (suc i) lt = ((h (suc (suc i)) (omega arith)).0, λ q.
-    let e : suc (suc i) - 1 ≡ suc i = omega arith in
-    let f : suc i - 1 ≡ i = omega arith in
-    let found : bytes_cmp (get_or (k ∷ ks) (suc (suc i) - 1) []) (get_or ks (suc i) []) ≡ Less = (h (suc (suc i)) (omega arith)).1 (omega arith) in
-    subst (λ j. bytes_cmp (get_or ks j []) (get_or ks (suc i) []) ≡ Less) (sym f) (subst (λ j. bytes_cmp (get_or (k ∷ ks) j []) (get_or ks (suc i) []) ≡ Less) e found))
+next_listed p k ks n h (suc i) lt = (
+  (h (suc (suc i)) (omega arith)).0,
+  λ q.
+      let e : suc (suc i) - 1 ≡ suc i = omega arith in
+      let f : suc i - 1 ≡ i = omega arith in
+      let found : bytes_cmp (get_or (k ∷ ks) (suc (suc i) - 1) []) (get_or ks (suc i) []) ≡ Less = (h (suc (suc i)) (omega arith)).1 (omega arith) in
+      subst (λ j. bytes_cmp (get_or ks j []) (get_or ks (suc i) []) ≡ Less) (sym f) (subst (λ j. bytes_cmp (get_or (k ∷ ks) j []) (get_or ks (suc i) []) ≡ Less) e found),
+)
 
 listed_sorted : (p : List ℕ) (ps : List Pair) → AreListed p (keys_of ps) (length ps) → IsSorted ps
 listed_sorted p [] h = tt

@@ -279,7 +279,11 @@ impl Pruned {
     {
         let node = self.below(prefix);
         let first = node.least_node();
-        if first.has_prefix(prefix) { node } else { first }
+        if first.has_prefix(prefix) {
+            node
+        } else {
+            first
+        }
     }
 
     // The node whose leaves the walk visits: all of them are shown exactly where it meets no stub.
@@ -333,7 +337,11 @@ impl Pruned {
         ensures { option_copied result ≡ found_at key.now (part self.now) }
     {
         match self {
-            Pruned::Leaf(held, value) => if key == held.as_slice() { Some(value) } else { None },
+            Pruned::Leaf(held, value) => if key == held.as_slice() {
+                Some(value)
+            } else {
+                None
+            },
             _ => None,
         }
     }

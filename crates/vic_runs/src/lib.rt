@@ -8,7 +8,6 @@
 #![tactic(auto)]
 
 ghost use Rattle.vic_runs.specs.Claims.{RunsAreLawful, NothingIsForged, ForgedIs, RunsAreHonest, ClaimsHold, OutcomesAreFates, NobodyHalts, NoLineIsHalted, PrintsAreReturns};
-
 ghost use Rattle.vic_runs.specs.Tampering.{HonestLineIs};
 
 pub mod agreements;

@@ -87,12 +87,7 @@ fn is_write(op: &Op) -> bool
 }
 
 /// The part that an Update carries.
-fn part_of_update(
-    alloc: Global,
-    dictionary: &Trie,
-    op: &Op,
-    done: bool,
-) -> Result<Bytes, NoMemory>
+fn part_of_update(alloc: Global, dictionary: &Trie, op: &Op, done: bool) -> Result<Bytes, NoMemory>
     requires fits { Fits op.now }
     requires light { pairs_weight dictionary.now ≤ 8388608 }
     ensures is { IfOk result (λ b. b ≡ update_part dictionary.now op.now done) }

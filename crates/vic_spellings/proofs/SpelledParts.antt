@@ -146,19 +146,19 @@ node_takes all (suc levels) low bytes x fits e =
     let kinds : NodeTakes low (tag.0.0 ∷ left) x = elim (chosen (eqb tag.0.0 1) (leaf_at all left) _ (Ok x) tag.2) [
       | inl h ↦ subst (λ n. NodeTakes low (n ∷ left) x) (sym (eqb-true tag.0.0 1 h.0)) (leaf_takes all low left x t.2 h.1)
       | inr h ↦ elim (chosen (eqb tag.0.0 2) (field all left IndexNotRising (index_at low left) then after_index all levels) _ (Ok x) h.1) [
-          | inl g ↦
-              let i = then_ok (field all left IndexNotRising (index_at low left)) (after_index all levels) x g.1 in
-              let index = index_takes low left i.0 t.2 (field_ok all left IndexNotRising (index_at low left) i.0 i.1) in
-              let l = then_ok (node_at all levels (i.0.0 + 1) i.0.1) (after_left all levels i.0.0) x i.2 in
-              let on_left = node_takes all levels (i.0.0 + 1) i.0.1 l.0 index.0.rest_fits l.1 in
-              let r = then_ok (node_at all levels (i.0.0 + 1) l.0.1) (after_right i.0.0 l.0) x l.2 in
-              let on_right = node_takes all levels (i.0.0 + 1) l.0.1 r.0 on_left.0.rest_fits r.1 in
-              subst (λ n. NodeTakes low (n ∷ left) x) (sym (eqb-true tag.0.0 2 g.0)) (inner_takes left low i.0 l.0 r.0 x index on_left on_right (done_is (Inner i.0.0 l.0.0 r.0.0, r.0.1) x r.2))
-          | inr g ↦ elim (chosen (eqb tag.0.0 3) (stub_at all left) _ (Ok x) g.1) [
-              | inl f ↦ subst (λ n. NodeTakes low (n ∷ left) x) (sym (eqb-true tag.0.0 3 f.0)) (stub_takes all low left x t.2 f.1)
-              | inr f ↦ absurd (fails_not (BadTag (place all bytes)) x f.1)
-            ]
+        | inl g ↦
+            let i = then_ok (field all left IndexNotRising (index_at low left)) (after_index all levels) x g.1 in
+            let index = index_takes low left i.0 t.2 (field_ok all left IndexNotRising (index_at low left) i.0 i.1) in
+            let l = then_ok (node_at all levels (i.0.0 + 1) i.0.1) (after_left all levels i.0.0) x i.2 in
+            let on_left = node_takes all levels (i.0.0 + 1) i.0.1 l.0 index.0.rest_fits l.1 in
+            let r = then_ok (node_at all levels (i.0.0 + 1) l.0.1) (after_right i.0.0 l.0) x l.2 in
+            let on_right = node_takes all levels (i.0.0 + 1) l.0.1 r.0 on_left.0.rest_fits r.1 in
+            subst (λ n. NodeTakes low (n ∷ left) x) (sym (eqb-true tag.0.0 2 g.0)) (inner_takes left low i.0 l.0 r.0 x index on_left on_right (done_is (Inner i.0.0 l.0.0 r.0.0, r.0.1) x r.2))
+        | inr g ↦ elim (chosen (eqb tag.0.0 3) (stub_at all left) _ (Ok x) g.1) [
+          | inl f ↦ subst (λ n. NodeTakes low (n ∷ left) x) (sym (eqb-true tag.0.0 3 f.0)) (stub_takes all low left x t.2 f.1)
+          | inr f ↦ absurd (fails_not (BadTag (place all bytes)) x f.1)
         ]
+      ]
     ] in
     subst (λ b. NodeTakes low b x) (sym t.0) kinds
 

@@ -14,7 +14,6 @@ no_way e = cc
 other : (z k : List ℕ) → eq_by_cmp key_cmp z k ≡ false → z ≡ k → ⊥
 other z k e same = no_way (sym (ap (λ x. eq_by_cmp key_cmp x k) same ∙ key_same k) ∙ e)
 
-
 pub gone_back : (d e : Dictionary) (k : List ℕ) → finmap.get d k ≡ None → ((q : List ℕ) → (q ≡ k → ⊥) → finmap.get e q ≡ finmap.get d q) → finmap.remove e k ≡ d
 gone_back d e k none agree = same_dictionary _ _ (λ z. get-remove nat_list_cmp_total e k z
     ∙ elim (eq_by_cmp key_cmp z k) as (λ b. eq_by_cmp key_cmp z k ≡ b → cond b None (finmap.get e z) ≡ finmap.get d z) [

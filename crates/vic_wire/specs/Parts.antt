@@ -100,7 +100,7 @@ node_at all zero low left = Err (BadTag (place all left))
 node_at all (suc levels) low left = field all left BadTag (byte_at left) then (λ tag.
     if tag.0 == 1 then leaf_at all tag.1
     else if tag.0 == 2 then field all tag.1 IndexNotRising (index_at low tag.1) then (λ i.
-      node_at all levels (i.0 + 1) i.1 then (λ l. node_at all levels (i.0 + 1) l.1 then (λ r. Ok (Inner i.0 l.0 r.0, r.1))))
+    node_at all levels (i.0 + 1) i.1 then (λ l. node_at all levels (i.0 + 1) l.1 then (λ r. Ok (Inner i.0 l.0 r.0, r.1))))
     else if tag.0 == 3 then stub_at all tag.1
     else Err (BadTag (place all left)))
 
