@@ -9,7 +9,7 @@ use Rattle.vic_rules.specs.declared.trace.Input.TheVariants as input
 use Rattle.vic_rules.specs.declared.trace.TraceStep.{TraceStep}
 use Rattle.vic_order.specs.Order.{Server, Ordered, size, sealed_count, weight, ordered_at}
 use Rattle.vic_order.specs.Serving.{by_rule}
-use Rattle.vic_order.specs.Scenes.{Scene, opening, server_at, waits_in, Move, Asks, Serves, Takes, moved}
+use Rattle.vic_order.specs.Scenes.{Scene, opening, server_at, waits_in, Event, Asks, Serves, Takes, happens}
 use Rattle.vic_gen.specs.declared.Act.{Act}
 use Rattle.vic_gen.specs.declared.Act.TheVariants as act
 use Rattle.vic_gen.specs.Drawing.{Drawing, drawing_from, moved as step_on, picked, act_of, acted}
@@ -18,18 +18,18 @@ use Rattle.vic_gen.specs.Drawing.{Drawing, drawing_from, moved as step_on, picke
 abbrev pub group_of : ℕ → Group
 group_of clients = record { mode = mode.Plain; count = clients; key = replicate 32 0 }
 
--- what is drawn from, how many calls were made, the moves so far (the newest first), and the scene to which they lead
+-- what is drawn from, how many calls were made, the events so far (the newest first), and the scene to which they lead
 pub record Drill : Type 0 where
   pub drawing : Drawing
   pub calls : ℕ
-  pub moves : List Move
+  pub events : List Event
   pub scene : Scene
 
 abbrev pub begun : ℕ → ℕ → Drill
-begun number clients = record { drawing = drawing_from number clients; calls = 0; moves = []; scene = opening (group_of clients) }
+begun number clients = record { drawing = drawing_from number clients; calls = 0; events = []; scene = opening (group_of clients) }
 
-abbrev pub makes : Move → Drill → Drill
-makes m d = record d { moves = m ∷ d.moves; scene = moved by_rule d.scene m }
+abbrev pub makes : Event → Drill → Drill
+makes m d = record d { events = m ∷ d.events; scene = happens by_rule d.scene m }
 
 -- ---- the main phase
 

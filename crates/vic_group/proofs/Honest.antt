@@ -11,7 +11,7 @@ use Rattle.vic_order.specs.Order.{fresh_server, ready, same_mode}
 use Rattle.vic_order.specs.Serving.{Serving, AnswersAs}
 use Rattle.vic_script.specs.declared.line.Line.{Line}
 use Rattle.vic_script.specs.declared.line.Line.TheVariants as line
-use Rattle.vic_order.specs.Scenes.{SceneOf, opening_with, serves, after_moves}
+use Rattle.vic_order.specs.Scenes.{SceneOf, opening_with, serves, after_events}
 use Rattle.vic_script.specs.Scenes.{turns, done_line, bad_kind, asked_tests, is_honest_line, fits_op, is_plain_call}
 use Rattle.vic_runs.specs.Claims.{FitsLine}
 use Rattle.vic_runs.specs.Reached.{IsHonestlyReached}
@@ -106,8 +106,8 @@ module _ {S V : Type 0} (state : S → V) (rule : Serving V) where
       let bounds = client_is s i left.0 in
       let both = honest-left (AnswersAs rule) rule (alike_is_kept rule) s n r i bounds.0 bounds.1 left.1.0 in
       elim left.1.1.1 [
-        | inl turned ↦ left_at new (after_moves rule s (turns rule left.1.0 s i)) n turned both.0
-        | inr served ↦ left_at new (serves rule (after_moves rule s (turns rule left.1.0 s i)) i) n served both.1
+        | inl turned ↦ left_at new (after_events rule s (turns rule left.1.0 s i)) n turned both.0
+        | inr served ↦ left_at new (serves rule (after_events rule s (turns rule left.1.0 s i)) i) n served both.1
       ]
   left_so new s n (line.Clients k) r left = left_at new s n left r
   left_so new s n (line.Key digits) r left = left_at new s n left r

@@ -11,8 +11,8 @@ use Rattle.vic_order.specs.Serving.{Serving}
 use Rattle.vic_script.specs.declared.line.Line.{Line}
 use Rattle.vic_script.specs.declared.line.Line.TheVariants as line
 use Rattle.vic_script.specs.Lines.{is_place}
-use Rattle.vic_order.specs.Scenes.{SceneOf, steps, serves, resends, copies, joins, last_taken, last_sent, is_client, is_server, server_at, waits_in, has_byte, Move, Asks, Takes, Flips, Hears}
-use Rattle.vic_script.specs.Scenes.{hears_if, most_turns, turns, moves_of, is_plain_call, asked_tests, line_tests, bad_kind}
+use Rattle.vic_order.specs.Scenes.{SceneOf, steps, serves, resends, copies, joins, last_taken, last_sent, is_client, is_server, server_at, waits_in, has_byte, Event, Asks, Takes, Flips, Hears}
+use Rattle.vic_script.specs.Scenes.{hears_if, most_turns, turns, events_of, is_plain_call, asked_tests, line_tests, bad_kind}
 use Rattle.vic_view.specs.declared.transcript.Transcript.{Transcript}
 use Rattle.vic_group.specs.declared.member.Member.{Member}
 use Rattle.vic_group.specs.declared.world.World.{World}
@@ -44,7 +44,7 @@ module _ {S V : Type 0} (state : S → V) (rule : Serving V) where
   uncalled_line s i o w other shows = (first_fails 1 (is_plain_call s o) (asked_tests s i) other, shows)
 
   -- a line by which a client is asked for something
-  pub asks : (r : Result (Option ℕ) NoMemory) (s : SceneOf V) (l : Line) (i : ℕ) (given : Input) (w : World S) (out : List ℕ) → line_tests s l ≡ asked_tests s i → moves_of rule s l ≡ Asks i given ∷ []
+  pub asks : (r : Result (Option ℕ) NoMemory) (s : SceneOf V) (l : Line) (i : ℕ) (given : Input) (w : World S) (out : List ℕ) → line_tests s l ≡ asked_tests s i → events_of rule s l ≡ Asks i given ∷ []
       → (ShowsScene state w s → IsLeft state rule s l w)
       → IfOk r (λ bad. (first_failing (asked_tests s i) ≡ bad) × MatchOption bad (ShowsScene state w (steps s i given)) (λ kind. ShowsScene state w s)) → OnErr r (ShowsScene state w s)
       → Does state rule s l r w out out
@@ -52,7 +52,7 @@ module _ {S V : Type 0} (state : S → V) (rule : Serving V) where
   asks (Err e) s l i given w out tests does left went kept = left kept
   asks (Ok None) s l i given w out tests does left went kept = (
     ap (λ (cs : List (ℕ × Bool)). first_failing cs) tests ∙ went.0,
-    subst (λ (ms : List Move). Makes state rule s ms w out out) (sym does) (sym (append-nil out), went.1),
+    subst (λ (ms : List Event). Makes state rule s ms w out out) (sym does) (sym (append-nil out), went.1),
   )
   asks (Ok (Some k)) s l i given w out tests does left went kept = (ap (λ (cs : List (ℕ × Bool)). first_failing cs) tests ∙ went.0, went.1)
 

@@ -7,9 +7,9 @@ use Rattle.std.proofs.lemmas.List.{append-nil, append_assoc, length-append, leng
 use Rattle.vic_dict.specs.declared.bytes.NoMemory.{NoMemory}
 use Rattle.vic_order.specs.Serving.{Serving}
 use Rattle.vic_view.specs.declared.transcript.Transcript.{Transcript}
-use Rattle.vic_order.specs.Scenes.{SceneOf, Queue, queue_of, server_at, server_of, served, serves, waits_in, Move, Serves, Takes, after_moves}
-use Rattle.vic_runs.proofs.Moves.{after-joined, print-joined}
-use Rattle.vic_script.specs.Scenes.{print_of_moves, turns}
+use Rattle.vic_order.specs.Scenes.{SceneOf, Queue, queue_of, server_at, server_of, served, serves, waits_in, Event, Serves, Takes, after_events}
+use Rattle.vic_runs.proofs.Events.{after-joined, print-joined}
+use Rattle.vic_script.specs.Scenes.{print_of_events, turns}
 use Rattle.vic_group.specs.declared.member.Member.{Member}
 use Rattle.vic_group.specs.declared.world.World.{World}
 use Rattle.vic_group.specs.World.{Shows, ShowsScene, Makes, MakesIf, IsLeftOf, states}
@@ -46,17 +46,17 @@ module _ {V : Type 0} (rule : Serving V) where
   unfolding turns
   turns_rest zero s i none = refl
   turns_rest (suc n) s i none =
-      ap (λ (b : Bool). if b then [] else turns rule n (after_moves rule s (Takes i ∷ Serves i ∷ [])) i ++ Takes i ∷ Serves i ∷ []) (is_empty (queue_of s.up i) none)
+      ap (λ (b : Bool). if b then [] else turns rule n (after_events rule s (Takes i ∷ Serves i ∷ [])) i ++ Takes i ∷ Serves i ∷ []) (is_empty (queue_of s.up i) none)
 
   -- one turn, and those behind it
   pub turns_on : (n m : ℕ) (s : SceneOf V) (i : ℕ) → n ≡ m + 1 → waits_in s.up i ≡ true
-      → turns rule n s i ≡ turns rule m (after_moves rule s (Takes i ∷ Serves i ∷ [])) i ++ Takes i ∷ Serves i ∷ []
+      → turns rule n s i ≡ turns rule m (after_events rule s (Takes i ∷ Serves i ∷ [])) i ++ Takes i ∷ Serves i ∷ []
   unfolding turns
   turns_on zero m s i is some = absurd (omega arith)
   turns_on (suc n) m s i is some =
       let same : n ≡ m = omega arith in
-      ap (λ (b : Bool). if b then [] else turns rule n (after_moves rule s (Takes i ∷ Serves i ∷ [])) i ++ Takes i ∷ Serves i ∷ []) (not_empty (queue_of s.up i) some)
-      ∙ ap (λ (k : ℕ). turns rule k (after_moves rule s (Takes i ∷ Serves i ∷ [])) i ++ Takes i ∷ Serves i ∷ []) same
+      ap (λ (b : Bool). if b then [] else turns rule n (after_events rule s (Takes i ∷ Serves i ∷ [])) i ++ Takes i ∷ Serves i ∷ []) (not_empty (queue_of s.up i) some)
+      ∙ ap (λ (k : ℕ). turns rule k (after_events rule s (Takes i ∷ Serves i ∷ [])) i ++ Takes i ∷ Serves i ∷ []) same
 
   -- where a request was served, an answer waits
   pub answer_waits : (s : SceneOf V) (i : ℕ) → i - 1 < length s.down → is_some (server_at s.servers (server_of s.served_by i)) ≡ true → waits_in s.up i ≡ true → waits_in (serves rule s i).down i ≡ true
@@ -97,25 +97,25 @@ module _ {S V : Type 0} (state : S → V) (rule : Serving V) where
   taken_aloud s i w before after went is some does = subst (λ (g : Bool). MakesIf state rule s (Takes i) w before after g) (sym is ∙ some) does
 
   -- what a run prints where it does nothing
-  pub runs_quietly : (moves : List Move) (s : SceneOf V) (w : World S) (before : List ℕ) → moves ≡ [] → ShowsScene state w s → Makes state rule s moves w before before
-  runs_quietly moves s w before is shows = subst (λ (ms : List Move). Makes state rule s ms w before before) (sym is) (sym (append-nil before), shows)
+  pub runs_quietly : (events : List Event) (s : SceneOf V) (w : World S) (before : List ℕ) → events ≡ [] → ShowsScene state w s → Makes state rule s events w before before
+  runs_quietly events s w before is shows = subst (λ (ms : List Event). Makes state rule s ms w before before) (sym is) (sym (append-nil before), shows)
 
-  -- moves behind others
-  makes_on : (s : SceneOf V) (later first : List Move) (before mid after : List ℕ) (w : World S) → mid ≡ before ++ print_of_moves rule s first → Makes state rule (after_moves rule s first) later w mid after
+  -- events behind others
+  makes_on : (s : SceneOf V) (later first : List Event) (before mid after : List ℕ) (w : World S) → mid ≡ before ++ print_of_events rule s first → Makes state rule (after_events rule s first) later w mid after
       → Makes state rule s (later ++ first) w before after
   makes_on s later first before mid after w printed goes = (
-    goes.0 ∙ ap (λ (front : List ℕ). front ++ print_of_moves rule (after_moves rule s first) later) printed
-        ∙ append_assoc before (print_of_moves rule s first) (print_of_moves rule (after_moves rule s first) later)
+    goes.0 ∙ ap (λ (front : List ℕ). front ++ print_of_events rule (after_events rule s first) later) printed
+        ∙ append_assoc before (print_of_events rule s first) (print_of_events rule (after_events rule s first) later)
         ∙ ap (λ (text : List ℕ). before ++ text) (sym (print-joined rule s later first)),
     subst (λ (t : SceneOf V). ShowsScene state w t) (sym (after-joined rule s later first)) goes.1,
   )
 
   -- the same of what may have found no memory
-  pub makes_on_if : {T : Type 0} (r : Result T NoMemory) (s : SceneOf V) (all later first : List Move) (before mid after : List ℕ) (w : World S) → all ≡ later ++ first → mid ≡ before ++ print_of_moves rule s first
-      → OnOk r (Makes state rule (after_moves rule s first) later w mid after) → OnOk r (Makes state rule s all w before after)
+  pub makes_on_if : {T : Type 0} (r : Result T NoMemory) (s : SceneOf V) (all later first : List Event) (before mid after : List ℕ) (w : World S) → all ≡ later ++ first → mid ≡ before ++ print_of_events rule s first
+      → OnOk r (Makes state rule (after_events rule s first) later w mid after) → OnOk r (Makes state rule s all w before after)
   makes_on_if (Err e) s all later first before mid after w is printed goes = tt
   makes_on_if (Ok done) s all later first before mid after w is printed goes =
-      subst (λ (ms : List Move). Makes state rule s ms w before after) (sym is) (makes_on s later first before mid after w printed goes)
+      subst (λ (ms : List Event). Makes state rule s ms w before after) (sym is) (makes_on s later first before mid after w printed goes)
 
   -- ---- where memory ran out
 
@@ -130,12 +130,12 @@ module _ {S V : Type 0} (state : S → V) (rule : Serving V) where
   left_untaken n s i w lt shows = (0, (lt, inr shows))
 
   -- later on, what was left then
-  pub left_later : (n m : ℕ) (s : SceneOf V) (i : ℕ) (w : World S) → n ≡ m + 1 → waits_in s.up i ≡ true → IsLeftOf state rule m (after_moves rule s (Takes i ∷ Serves i ∷ [])) i w → IsLeftOf state rule n s i w
+  pub left_later : (n m : ℕ) (s : SceneOf V) (i : ℕ) (w : World S) → n ≡ m + 1 → waits_in s.up i ≡ true → IsLeftOf state rule m (after_events rule s (Takes i ∷ Serves i ∷ [])) i w → IsLeftOf state rule n s i w
   left_later n m s i w is some left =
-      let two : List Move = Takes i ∷ Serves i ∷ [] in
-      let next : SceneOf V = after_moves rule s two in
-      let on : after_moves rule s (turns rule (left.0 + 1) s i) ≡ after_moves rule next (turns rule left.0 next i) =
-      ap (after_moves rule s) (turns_on rule (left.0 + 1) left.0 s i refl some) ∙ after-joined rule s (turns rule left.0 next i) two in (
+      let two : List Event = Takes i ∷ Serves i ∷ [] in
+      let next : SceneOf V = after_events rule s two in
+      let on : after_events rule s (turns rule (left.0 + 1) s i) ≡ after_events rule next (turns rule left.0 next i) =
+      ap (after_events rule s) (turns_on rule (left.0 + 1) left.0 s i refl some) ∙ after-joined rule s (turns rule left.0 next i) two in (
         left.0 + 1,
         (
           omega (arith, is, left.1.0),
@@ -144,7 +144,7 @@ module _ {S V : Type 0} (state : S → V) (rule : Serving V) where
       )
 
   pub left_later_if : {T : Type 0} (r : Result T NoMemory) (n m : ℕ) (s : SceneOf V) (i : ℕ) (w : World S) → n ≡ m + 1 → waits_in s.up i ≡ true
-      → OnErr r (IsLeftOf state rule m (after_moves rule s (Takes i ∷ Serves i ∷ [])) i w) → OnErr r (IsLeftOf state rule n s i w)
+      → OnErr r (IsLeftOf state rule m (after_events rule s (Takes i ∷ Serves i ∷ [])) i w) → OnErr r (IsLeftOf state rule n s i w)
   left_later_if (Ok done) n m s i w is some left = tt
   left_later_if (Err e) n m s i w is some left = left_later n m s i w is some left
 

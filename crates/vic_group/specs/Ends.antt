@@ -82,13 +82,13 @@ IsComplete right t k result =
 
 -- what holds of the run of a script in which no line tampers with what its one server answers
 pub record IsHonest (script : List ℕ) : Type 0 where
-  -- honest moves lead where it ends, with one server that follows the rule
+  -- honest events lead where it ends, with one server that follows the rule
   pub comes : (s : Scene) → (run_of script).scene ≡ Some s → ComesHonestly IsSame s
   -- every tag that a client took was made by a client before
   pub tags_made : is_forged (group_of script) (history_of script) ≡ false
   -- so what holds of honest runs holds there: each completed call returned what becomes of it in the server's log, no step returned
   -- that a check failed, and more
-  pub holds : (s : Scene) (is : (run_of script).scene ≡ Some s) → IsHonestScene s (comes s is).moves (comes s is).server
+  pub holds : (s : Scene) (is : (run_of script).scene ≡ Some s) → IsHonestScene s (comes s is).events (comes s is).server
   -- no line is bad for that its client has halted
   pub none_halted : (b : Bad) → bad_line_of script ≡ Some b → b.kind ≡ 3 → ⊥
 

@@ -16,8 +16,8 @@ use Rattle.vic_view.specs.declared.transcript.Transcript.{Transcript}
 use Rattle.vic_view.specs.Transcripts.{steps_of, history_of, group_of as transcript_group}
 use Rattle.vic_script.specs.declared.line.Line.{Line}
 use Rattle.vic_script.specs.declared.line.Line.TheVariants as line
-use Rattle.vic_order.specs.Scenes.{SceneOf, queued, server_at, last_taken, last_sent, is_client, Move, Serves, after_moves}
-use Rattle.vic_script.specs.Scenes.{print_of_moves, most_turns, turns, moves_of, bad_kind}
+use Rattle.vic_order.specs.Scenes.{SceneOf, queued, server_at, last_taken, last_sent, is_client, Event, Serves, after_events}
+use Rattle.vic_script.specs.Scenes.{print_of_events, most_turns, turns, events_of, bad_kind}
 use Rattle.vic_honest.specs.Claims.{IsHonestScene}
 use Rattle.vic_runs.specs.Reached.{IsHonestlyReached}
 use Rattle.vic_group.specs.declared.member.Member.{Member}
@@ -106,18 +106,18 @@ CanAsk m (input.Payload payload) = ⊥
 
 -- ---- what a line does
 
--- a world shows what moves make of a scene, and what is printed of them was appended
-abbrev pub Makes : {S V : Type 0} → (S → V) → Serving V → SceneOf V → List Move → World S → List ℕ → List ℕ → Type 0
-Makes state rule s moves w before after = (after ≡ before ++ print_of_moves rule s moves) × ShowsScene state w (after_moves rule s moves)
+-- a world shows what events make of a scene, and what is printed of them was appended
+abbrev pub Makes : {S V : Type 0} → (S → V) → Serving V → SceneOf V → List Event → World S → List ℕ → List ℕ → Type 0
+Makes state rule s events w before after = (after ≡ before ++ print_of_events rule s events) × ShowsScene state w (after_events rule s events)
 
 -- one move was made; or there was nothing to be taken, and nothing changed
-abbrev pub MakesIf : {S V : Type 0} → (S → V) → Serving V → SceneOf V → Move → World S → List ℕ → List ℕ → Bool → Type 0
+abbrev pub MakesIf : {S V : Type 0} → (S → V) → Serving V → SceneOf V → Event → World S → List ℕ → List ℕ → Bool → Type 0
 MakesIf state rule s m w before after true = Makes state rule s (m ∷ []) w before after
 MakesIf state rule s m w before after false = (after ≡ before) × ShowsScene state w s
 
 -- what so many turns leave that found no memory: those that were done, the last of which may have been served alone
 abbrev pub IsLeftOf : {S V : Type 0} → (S → V) → Serving V → ℕ → SceneOf V → ℕ → World S → Type 0
-IsLeftOf state rule n s i w = (k : ℕ) × ((k < n) × (ShowsScene state w (after_moves rule s (turns rule k s i)) ⊎ ShowsScene state w (after_moves rule s (Serves i ∷ turns rule k s i))))
+IsLeftOf state rule n s i w = (k : ℕ) × ((k < n) × (ShowsScene state w (after_events rule s (turns rule k s i)) ⊎ ShowsScene state w (after_events rule s (Serves i ∷ turns rule k s i))))
 
 -- what a line leaves that found no memory: the scene as it was, but for the turns of a client's run that were done
 abbrev pub IsLeft : {S V : Type 0} → (S → V) → Serving V → SceneOf V → Line → World S → Type 0
@@ -126,7 +126,7 @@ IsLeft state rule s l w = ShowsScene state w s
 
 -- a line was done, and its text was appended; or it was bad by its first kind, and nothing changed; or it found no memory
 abbrev pub Does : {S V : Type 0} → (S → V) → Serving V → SceneOf V → Line → Result (Option ℕ) NoMemory → World S → List ℕ → List ℕ → Type 0
-Does state rule s l (Ok None) w before after = (bad_kind s l ≡ None) × Makes state rule s (moves_of rule s l) w before after
+Does state rule s l (Ok None) w before after = (bad_kind s l ≡ None) × Makes state rule s (events_of rule s l) w before after
 Does state rule s l (Ok (Some k)) w before after = (bad_kind s l ≡ Some k) × ShowsScene state w s
 Does state rule s l (Err e) w before after = IsLeft state rule s l w
 
@@ -138,4 +138,4 @@ pub record StandsHonestly {S V : Type 0} (state : S → V) (rule : Serving V) (w
   pub scene : SceneOf V
   pub shows : ShowsScene state w scene
   pub reached : IsHonestlyReached (AnswersAs rule) scene n
-  pub holds : IsHonestScene scene reached.comes.moves reached.comes.server
+  pub holds : IsHonestScene scene reached.comes.events reached.comes.server

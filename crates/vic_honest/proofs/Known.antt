@@ -13,13 +13,13 @@ use Rattle.vic_rules.specs.declared.state.Awaiting.TheVariants as awaits
 use Rattle.vic_rules.specs.declared.trace.Input.{Input}
 use Rattle.vic_rules.specs.declared.trace.Input.TheVariants as input
 use Rattle.vic_rules.specs.declared.trace.TraceStep.{TraceStep}
-use Rattle.vic_rules.specs.Client.{Standing, Sending, Invokes, Commits, Polls, Seals, Syncs, Move as Stepped, step, IsIdle, request_of, awaits_nothing}
+use Rattle.vic_rules.specs.Client.{Standing, Sending, Invokes, Commits, Polls, Seals, Syncs, Move, step, IsIdle, request_of, awaits_nothing}
 use Rattle.vic_rules.specs.History.{standing, Completion, completion, completions, path}
 use Rattle.vic_rules.specs.Trust.{texts_made}
 use Rattle.vic_order.specs.Order.{Ordered, Server, Answered, fresh_server, ready, or_away, member, serve, serve_read}
 use Rattle.vic_order.specs.Fates.{entries}
 use Rattle.vic_order.specs.Serving.{by_rule}
-use Rattle.vic_order.specs.Scenes.{Queue, Scene, opening, queue_of, set_queue, queued, server_at, server_of, steps, served_with, served, serves, taken, takes, unchanged, Move, Asks, Serves, Takes, Flips, Hears, Resends, Copies, Joins, moved, MayAsk}
+use Rattle.vic_order.specs.Scenes.{Queue, Scene, opening, queue_of, set_queue, queued, server_at, server_of, steps, served_with, served, serves, taken, takes, unchanged, Event, Asks, Serves, Takes, Flips, Hears, Resends, Copies, Joins, happens, MayAsk}
 use Rattle.vic_order.specs.Honest.{MayHonestly, scene_after, AreHonest}
 use Rattle.vic_spellings.proofs.SpelledAnswers.{answer_again}
 use Rattle.vic_spellings.proofs.SpelledRequests.{request_again}
@@ -77,7 +77,7 @@ module _ (s : Scene) (server : Server) (one : HasOne s server) (know : WorldKnow
   abbrev x : TraceStep
   x = step_of s.group (world_of s server) me i
 
-  abbrev v : Stepped
+  abbrev v : Move
   v = move s.group (world_of s server) me i
 
   abbrev up : List Queue
@@ -338,17 +338,17 @@ opening_knows g = record {
   fine = tt;
 }
 
-moved_known : (s : Scene) (server : Server) → SceneFits s server → SceneKnows s server → (m : Move) → MayHonestly s m → SceneKnows (moved by_rule s m) (server_next s server m)
-moved_known s server fit know (Asks me i) may = asks_know s server fit know me may.1.0 may.1.1 i may.1.2
-moved_known s server fit know (Serves me) may = serves_know s server fit know me may.1.0 may.1.1 may.1.2
-moved_known s server fit know (Takes me) may = takes_know s server fit know me may.1.0 may.1.1 may.1.2
-moved_known s server fit know (Flips me n) may = absurd may.0
-moved_known s server fit know (Hears me payload) may = absurd may.0
-moved_known s server fit know (Resends me) may = absurd may.0
-moved_known s server fit know (Copies n t) may = absurd may.0
-moved_known s server fit know (Joins me n) may = absurd may.0
+happens_known : (s : Scene) (server : Server) → SceneFits s server → SceneKnows s server → (m : Event) → MayHonestly s m → SceneKnows (happens by_rule s m) (server_next s server m)
+happens_known s server fit know (Asks me i) may = asks_know s server fit know me may.1.0 may.1.1 i may.1.2
+happens_known s server fit know (Serves me) may = serves_know s server fit know me may.1.0 may.1.1 may.1.2
+happens_known s server fit know (Takes me) may = takes_know s server fit know me may.1.0 may.1.1 may.1.2
+happens_known s server fit know (Flips me n) may = absurd may.0
+happens_known s server fit know (Hears me payload) may = absurd may.0
+happens_known s server fit know (Resends me) may = absurd may.0
+happens_known s server fit know (Copies n t) may = absurd may.0
+happens_known s server fit know (Joins me n) may = absurd may.0
 
-pub all_known : (g : Group) → IsGroup g → (moves : List Move) → AreHonest g moves → SceneKnows (scene_after g moves) (server_after g moves)
+pub all_known : (g : Group) → IsGroup g → (events : List Event) → AreHonest g events → SceneKnows (scene_after g events) (server_after g events)
 unfolding server_after
 all_known g group [] h = opening_knows g
-all_known g group (m ∷ before) h = moved_known (scene_after g before) (server_after g before) (all_fit g group before h.0) (all_known g group before h.0) m h.1
+all_known g group (m ∷ before) h = happens_known (scene_after g before) (server_after g before) (all_fit g group before h.0) (all_known g group before h.0) m h.1

@@ -1,7 +1,7 @@
 pub mod SentParts
 pub mod Words
 pub mod Queues
-pub mod Moves
+pub mod Events
 pub mod Standing
 pub mod Spoken
 pub mod Serving

@@ -1,7 +1,7 @@
 -- The completed calls in the order of the log are one legal history in real-time order.
 use Rattle.vic_honest.specs.Claims.{IsOneHistory, completed_in}
 use Rattle.vic_order.specs.Honest.{IsHonestRun}
-use Rattle.vic_order.specs.Scenes.{Move, Scene}
+use Rattle.vic_order.specs.Scenes.{Event, Scene}
 use Rattle.std.proofs.Common.{◌≡◌, ℕ, suc, ◌<◌, ◌≤◌, Bool, true, false, List, [], ◌∷◌, ◌++◌, length, Option, Some, None, ◌⊎◌, inl, inr, refl, sym, ap, subst, ◌∙◌, arith, append_assoc}
 use Rattle.std.specs.Prelude.{if◌then◌else◌, nat_eq, nat_lt}
 use Rattle.std.specs.List.{AllByRecursion}
@@ -261,12 +261,12 @@ world_has g w know c there =
     let f : IsFated w.server.log c = all_at (IsFated w.server.log) (completions g w.history) c know.fates there in
     (entries f.newer, ap entries f.is ∙ entries-joined f.newer (f.o ∷ f.below) ∙ ap (λ p. entries f.newer ++ p) (sym f.prefix))
 
-pub one_history : (s : Scene) (server : Server) (moves : List Move) → IsHonestRun s server moves
+pub one_history : (s : Scene) (server : Server) (events : List Event) → IsHonestRun s server events
     → IsOneHistory s.group s.history (completed_in s.group s.history server.log)
-one_history s server moves run =
+one_history s server events run =
     let w : World = world_of s server in
-    let fit : WorldFits s.group w = (run_fits s server moves run).fits in
-    let know : WorldKnows s.group w = run_knows s server moves run in
+    let fit : WorldFits s.group w = (run_fits s server events run).fits in
+    let know : WorldKnows s.group w = run_knows s server events run in
     record {
       legal = world_legal s.group w fit know;
       in_order = in_order_at s.group w.history fit.steps fit.honest (entries w.server.log);
@@ -288,12 +288,12 @@ last_front me log (c ∷ cs) h =
       | false ↦ last_front me log cs h.1
     ]
 
-pub views_are_fronts : (s : Scene) (server : Server) (moves : List Move) → IsHonestRun s server moves → (me : ℕ)
+pub views_are_fronts : (s : Scene) (server : Server) (events : List Event) → IsHonestRun s server events → (me : ℕ)
     → (newer : List Shown) × (completed_in s.group s.history server.log ≡ newer ++ view_of s.group me s.history)
 unfolding view_of
-views_are_fronts s server moves run me =
+views_are_fronts s server events run me =
     let w : World = world_of s server in
     let cs : List Completion = completions s.group w.history in
-    let grown = last_front me w.server.log cs (run_knows s server moves run).fates in
+    let grown = last_front me w.server.log cs (run_knows s server events run).fates in
     let shown = confirmed_below cs grown.0 (last_prefix me cs) in
     (shown.0, ap (confirmed_calls cs) grown.1 ∙ shown.1)

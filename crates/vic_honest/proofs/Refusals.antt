@@ -1,6 +1,6 @@
 -- The server refuses exactly the calls that would pass a limit.
 use Rattle.vic_order.specs.Honest.{IsHonestRun}
-use Rattle.vic_order.specs.Scenes.{Move, Scene, queue_of}
+use Rattle.vic_order.specs.Scenes.{Event, Scene, queue_of}
 use Rattle.std.proofs.Common.{◌≡◌, ℕ, ◌<◌, ◌≤◌, ◌^◌, Bool, false, List, [], ◌∷◌, ◌++◌, length, Option, Some, None, refl, sym, ap, subst, ◌∙◌}
 use Rattle.vic_dict.specs.declared.op.Op.{Op}
 use Rattle.vic_wire.specs.declared.message.Digest32.{Digest32}
@@ -149,26 +149,26 @@ module _ (g : Group) (w : World) (fit : WorldFits g w) (know : WorldKnows g w) (
   world_awaits payload rest up_is known seq o tag read =
       let x : IsSent g w me payload = sent_by payload rest up_is in awaited_by x.seen x.newer x.sending x.does known seq o tag (some_same (sym x.read ∙ read))
 
-pub refusals_are_limits : (s : Scene) (server : Server) (moves : List Move) → IsHonestRun s server moves → (me : ℕ) → 0 < me → me ≤ s.group.count → (payload : List ℕ) (rest : List (List ℕ)) → queue_of s.up me ≡ payload ∷ rest
+pub refusals_are_limits : (s : Scene) (server : Server) (events : List Event) → IsHonestRun s server events → (me : ℕ) → 0 < me → me ≤ s.group.count → (payload : List ℕ) (rest : List (List ℕ)) → queue_of s.up me ≡ payload ∷ rest
     → (r : ℕ) → (serve server me payload).answer ≡ say.Refused r → RefusedAtLimit server payload r
-refusals_are_limits s server moves run me above upto payload rest up_is r refused =
-    world_refuses s.group (world_of s server) (run_fits s server moves run).fits (run_knows s server moves run) me above upto payload rest up_is r refused
+refusals_are_limits s server events run me above upto payload rest up_is r refused =
+    world_refuses s.group (world_of s server) (run_fits s server events run).fits (run_knows s server events run) me above upto payload rest up_is r refused
 
-pub limits_are_refused : (s : Scene) (server : Server) (moves : List Move) → IsHonestRun s server moves → (me : ℕ) → 0 < me → me ≤ s.group.count → (payload : List ℕ) (rest : List (List ℕ)) → queue_of s.up me ≡ payload ∷ rest
+pub limits_are_refused : (s : Scene) (server : Server) (events : List Event) → IsHonestRun s server events → (me : ℕ) → 0 < me → me ≤ s.group.count → (payload : List ℕ) (rest : List (List ℕ)) → queue_of s.up me ≡ payload ∷ rest
     → (known seq : ℕ) (o : Op) (tag : Digest32) → read_request payload ≡ Some (ask.Invoke known seq o tag)
     → (r : ℕ) → limit server known o ≡ Some r → (serve server me payload).answer ≡ say.Refused r
-limits_are_refused s server moves run me above upto payload rest up_is known seq o tag read r at =
+limits_are_refused s server events run me above upto payload rest up_is known seq o tag read r at =
     let a : Answered = ordered_by server me known seq o tag in
-    ap (λ x. x.answer) (world_calls s.group (world_of s server) (run_fits s server moves run).fits (run_knows s server moves run) me above upto payload rest up_is known seq o tag read)
+    ap (λ x. x.answer) (world_calls s.group (world_of s server) (run_fits s server events run).fits (run_knows s server events run) me above upto payload rest up_is known seq o tag read)
     ∙ ap (λ l. (unless_refused server l a).answer) at
 
-pub calls_are_ordered : (s : Scene) (server : Server) (moves : List Move) → IsHonestRun s server moves → (me : ℕ) → 0 < me → me ≤ s.group.count → (payload : List ℕ) (rest : List (List ℕ)) → queue_of s.up me ≡ payload ∷ rest
+pub calls_are_ordered : (s : Scene) (server : Server) (events : List Event) → IsHonestRun s server events → (me : ℕ) → 0 < me → me ≤ s.group.count → (payload : List ℕ) (rest : List (List ℕ)) → queue_of s.up me ≡ payload ∷ rest
     → (known seq : ℕ) (o : Op) (tag : Digest32) → read_request payload ≡ Some (ask.Invoke known seq o tag)
     → limit server known o ≡ None → IsOrderedBy server me seq o tag (serve server me payload)
-calls_are_ordered s server moves run me above upto payload rest up_is known seq o tag read none =
+calls_are_ordered s server events run me above upto payload rest up_is known seq o tag read none =
     let a : Answered = ordered_by server me known seq o tag in
     let is : serve server me payload ≡ a =
-    world_calls s.group (world_of s server) (run_fits s server moves run).fits (run_knows s server moves run) me above upto payload rest up_is known seq o tag read ∙ ap (λ l. unless_refused server l a) none in
+    world_calls s.group (world_of s server) (run_fits s server events run).fits (run_knows s server events run) me above upto payload rest up_is known seq o tag read ∙ ap (λ l. unless_refused server l a) none in
     subst (IsOrderedBy server me seq o tag) (sym is) (record {
       newest = record { entry = record { client = me; seq = seq; op = o }; tag = tag; sealed_then = sealed_count server };
       log = refl;

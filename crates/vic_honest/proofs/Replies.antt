@@ -18,7 +18,7 @@ use Rattle.vic_rules.specs.declared.state.Awaiting.TheVariants as awaits
 use Rattle.vic_rules.specs.declared.trace.Input.{Input}
 use Rattle.vic_rules.specs.declared.trace.Input.TheVariants as input
 use Rattle.vic_rules.specs.declared.trace.TraceStep.{TraceStep}
-use Rattle.vic_rules.specs.Client.{Standing, Move as Stepped, step, grown, decision, decided, replied, taken, taken_or_halts, on_payload, verdict}
+use Rattle.vic_rules.specs.Client.{Standing, Move, step, grown, decision, decided, replied, taken, taken_or_halts, on_payload, verdict}
 use Rattle.vic_rules.specs.History.{standing, move_of, AreSteps, IsStep, completion, completions}
 use Rattle.vic_laws.proofs.Words.{some_same, in_right, all_at}
 use Rattle.vic_laws.proofs.Steps.{Kind, is_quiet, is_called, is_replied, is_updated, is_listed, Replied, call_of}
@@ -27,7 +27,7 @@ use Rattle.vic_laws.proofs.Calls.{kind_of, RepliedAt, completed_by, completion_j
 use Rattle.vic_laws.proofs.Complete.{completions_stay}
 use Rattle.vic_order.specs.Fates.{entries}
 use Rattle.vic_order.specs.Order.{Server}
-use Rattle.vic_order.specs.Scenes.{Scene, Move}
+use Rattle.vic_order.specs.Scenes.{Scene, Event}
 use Rattle.vic_order.specs.Honest.{IsHonestRun}
 use Rattle.vic_honest.specs.Claims.{StandsAsFated, ReturnsItsFate}
 use Rattle.vic_honest.proofs.Learning.{IsFine}
@@ -54,26 +54,26 @@ unfolding step
 step_passes g me t payload m read goes = payload_passes g me t t.halted payload m read goes
 
 -- a step of the history that took this answer
-module _ (s : Scene) (server : Server) (moves : List Move) (run : IsHonestRun s server moves) (newer : List TraceStep) (x : TraceStep) (past : List TraceStep) (is : s.history ≡ newer ++ x ∷ past)
+module _ (s : Scene) (server : Server) (events : List Event) (run : IsHonestRun s server events) (newer : List TraceStep) (x : TraceStep) (past : List TraceStep) (is : s.history ≡ newer ++ x ∷ past)
     (payload : List ℕ) (input_is : x.input ≡ input.Payload payload) (m : ToClient) (read : read_answer payload ≡ Some m) where
   step_is : IsStep s.group past x
   step_is =
-      let now : AreSteps s.group (x ∷ past) = earlier_steps s.group newer (x ∷ past) (subst (AreSteps s.group) is (run_fits s server moves run).fits.steps) in now.1
+      let now : AreSteps s.group (x ∷ past) = earlier_steps s.group newer (x ∷ past) (subst (AreSteps s.group) is (run_fits s server events run).fits.steps) in now.1
 
   goes_on : Halts (move_of s.group past x).returns → ⊥
   goes_on h =
       let there : IsIn s.history x = subst (λ l. IsIn l x) (sym is) (in_right newer (x ∷ past) x (inl refl)) in
-      never_halted x.returned h.0 (all_at (λ y. IsFine y.returned) s.history x (run_knows s server moves run).fine there) (step_is.returned ∙ h.1)
+      never_halted x.returned h.0 (all_at (λ y. IsFine y.returned) s.history x (run_knows s server events run).fine there) (step_is.returned ∙ h.1)
 
   taken_here : move_of s.group past x ≡ taken x.client (standing s.group x.client past) m
   taken_here =
       let as_payload : move_of s.group past x ≡ step s.group x.client (standing s.group x.client past) (input.Payload payload) = ap (step s.group x.client (standing s.group x.client past)) input_is in
       as_payload ∙ step_passes s.group x.client (standing s.group x.client past) payload m read (λ h. goes_on (h.0, ap (λ v. v.returns) as_payload ∙ h.1))
 
-pub refusals_return : (s : Scene) (server : Server) (moves : List Move) → IsHonestRun s server moves → (newer : List TraceStep) (x : TraceStep) (past : List TraceStep) → s.history ≡ newer ++ x ∷ past
+pub refusals_return : (s : Scene) (server : Server) (events : List Event) → IsHonestRun s server events → (newer : List TraceStep) (x : TraceStep) (past : List TraceStep) → s.history ≡ newer ++ x ∷ past
     → (payload : List ℕ) → x.input ≡ input.Payload payload → (r : ℕ) → read_answer payload ≡ Some (say.Refused r) → x.returned ≡ Some (outcome.Refused r)
-refusals_return s server moves run newer x past is payload input_is r read =
-    (step_is s server moves run newer x past is payload input_is (say.Refused r) read).returned ∙ ap (λ v. v.returns) (taken_here s server moves run newer x past is payload input_is (say.Refused r) read)
+refusals_return s server events run newer x past is payload input_is r read =
+    (step_is s server events run newer x past is payload input_is (say.Refused r) read).returned ∙ ap (λ v. v.returns) (taken_here s server events run newer x past is payload input_is (say.Refused r) read)
 
 -- ---- a Reply
 
@@ -103,7 +103,7 @@ none_decides : (returned : Option Outcome) → returned ≡ None → Decides ret
 none_decides returned e d = let f = d.decided_so in absurd cc
 
 -- a step that decides a call took a Reply to it
-decides_replied : (g : Group) (me : ℕ) (t : Standing) (i : Input) (v : Stepped) → Kind g me t i v → Decides v.returns → Replied g me t i v
+decides_replied : (g : Group) (me : ℕ) (t : Standing) (i : Input) (v : Move) → Kind g me t i v → Decides v.returns → Replied g me t i v
 decides_replied g me t i v (is_quiet q) d =
     absurd (decided_completes me v.next.path d.blocking d.dictionary d.op (ap (completion me v.next.path) (sym d.decided_so) ∙ q.completes_nothing me v.next.path))
 decides_replied g me t i v (is_called c) d = absurd (none_decides v.returns (ap (λ w. w.returns) c.moved) d)
@@ -112,12 +112,12 @@ decides_replied g me t i v (is_updated u) d = absurd (none_decides v.returns (ap
 decides_replied g me t i v (is_listed l) d = absurd (none_decides v.returns (ap (λ w. w.returns) l.moved) d)
 
 -- the Reply that a step took completes its call, which has its fate
-replied_fated : (s : Scene) (server : Server) (moves : List Move) → IsHonestRun s server moves → (newer : List TraceStep) (x : TraceStep) (past : List TraceStep) → s.history ≡ newer ++ x ∷ past
+replied_fated : (s : Scene) (server : Server) (events : List Event) → IsHonestRun s server events → (newer : List TraceStep) (x : TraceStep) (past : List TraceStep) → s.history ≡ newer ++ x ∷ past
     → IsStep s.group past x → (r : RepliedAt s.group past x) → ReturnsItsFate s.group server.log past x
-replied_fated s server moves run newer x past is step_so r =
+replied_fated s server events run newer x past is step_so r =
     let there : IsIn (completions s.group s.history) (completed_by r) =
     subst (λ h. IsIn (completions s.group h) (completed_by r)) (sym is) (completions_stay s.group newer (x ∷ past) (completed_by r) (completion_joins s.group past x step_so r)) in
-    let f : StandsAsFated server.log (completed_by r) = all_fated s server moves run (completed_by r) there in
+    let f : StandsAsFated server.log (completed_by r) = all_fated s server events run (completed_by r) there in
     let grown_path : call_of x.client r.seq r.op ∷ (r.others ++ (standing s.group x.client past).path) ≡ f.o.entry ∷ entries f.below = f.prefix in
     let entry : call_of x.client r.seq r.op ≡ f.o.entry = cc in
     record {
@@ -132,15 +132,15 @@ replied_fated s server moves run newer x past is step_so r =
       returned = step_so.returned ∙ ap (λ v. v.returns) r.moved ∙ ap Some f.outcome;
     }
 
-pub replies_return : (s : Scene) (server : Server) (moves : List Move) → IsHonestRun s server moves → (newer : List TraceStep) (x : TraceStep) (past : List TraceStep) → s.history ≡ newer ++ x ∷ past
+pub replies_return : (s : Scene) (server : Server) (events : List Event) → IsHonestRun s server events → (newer : List TraceStep) (x : TraceStep) (past : List TraceStep) → s.history ≡ newer ++ x ∷ past
     → (payload : List ℕ) → x.input ≡ input.Payload payload → (seal : Seal) (told : List Tagged) (part : List ℕ) → read_answer payload ≡ Some (say.Reply seal told part)
     → ReturnsItsFate s.group server.log past x
-replies_return s server moves run newer x past is payload input_is seal told part read =
+replies_return s server events run newer x past is payload input_is seal told part read =
     let t : Standing = standing s.group x.client past in
     let m : ToClient = say.Reply seal told part in
-    let step_so : IsStep s.group past x = step_is s server moves run newer x past is payload input_is m read in
-    let taken_so : move_of s.group past x ≡ replied x.client t seal (grown t told) (read_part part) t.awaiting = taken_here s server moves run newer x past is payload input_is m read in
+    let step_so : IsStep s.group past x = step_is s server events run newer x past is payload input_is m read in
+    let taken_so : move_of s.group past x ≡ replied x.client t seal (grown t told) (read_part part) t.awaiting = taken_here s server events run newer x past is payload input_is m read in
     let goes : Halts (replied x.client t seal (grown t told) (read_part part) t.awaiting).returns → ⊥ =
-    λ h. goes_on s server moves run newer x past is payload input_is m read (h.0, ap (λ v. v.returns) taken_so ∙ h.1) in
+    λ h. goes_on s server events run newer x past is payload input_is m read (h.0, ap (λ v. v.returns) taken_so ∙ h.1) in
     let ends : Decides (move_of s.group past x).returns = subst (λ v. Decides v.returns) (sym taken_so) (reply_decides x.client t seal (grown t told) (read_part part) t.awaiting goes) in
-    replied_fated s server moves run newer x past is step_so (decides_replied s.group x.client t x.input (move_of s.group past x) (kind_of s.group past x step_so) ends)
+    replied_fated s server events run newer x past is step_so (decides_replied s.group x.client t x.input (move_of s.group past x) (kind_of s.group past x step_so) ends)

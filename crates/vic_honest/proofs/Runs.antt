@@ -16,7 +16,7 @@ use Rattle.vic_rules.specs.Views.{left_by, outcome_leaves, Explains}
 use Rattle.vic_laws.proofs.Words.{all_at}
 use Rattle.vic_order.specs.Order.{Ordered, Server}
 use Rattle.vic_order.specs.Fates.{entries, fate, dictionary_by}
-use Rattle.vic_order.specs.Scenes.{Scene, server_at, Move}
+use Rattle.vic_order.specs.Scenes.{Scene, server_at, Event}
 use Rattle.vic_order.specs.Honest.{IsHonestRun}
 use Rattle.vic_honest.specs.Claims.{AbortsLeaveNothing, LogsAreLegal, shown_log, GoesOn, IsFrontOf, SealedSo, StandsAsFated}
 use Rattle.vic_honest.proofs.Standing.{SceneFits}
@@ -28,56 +28,56 @@ use Rattle.vic_honest.proofs.Answering.{count_is, top_is}
 use Rattle.vic_honest.proofs.Learning.{IsFated, IsFine}
 use Rattle.vic_honest.proofs.Known.{SceneKnows, all_known}
 
--- the server that honest moves leave is the run's
-server_left : (s : Scene) (server v : Server) (moves : List Move) → IsHonestRun s server moves → SceneFits s v → v ≡ server
-server_left s server v moves run fit = same_Some v server (sym (ap (λ l. server_at l 1) fit.one.only) ∙ run.one)
+-- the server that honest events leave is the run's
+server_left : (s : Scene) (server v : Server) (events : List Event) → IsHonestRun s server events → SceneFits s v → v ≡ server
+server_left s server v events run fit = same_Some v server (sym (ap (λ l. server_at l 1) fit.one.only) ∙ run.one)
 
-scene_fits : (s : Scene) (server : Server) (moves : List Move) → IsHonestRun s server moves → SceneFits s (server_after s.group moves)
-scene_fits s server moves run = subst (λ t. SceneFits t (server_after s.group moves)) (sym run.is) (all_fit s.group run.group moves run.may)
+scene_fits : (s : Scene) (server : Server) (events : List Event) → IsHonestRun s server events → SceneFits s (server_after s.group events)
+scene_fits s server events run = subst (λ t. SceneFits t (server_after s.group events)) (sym run.is) (all_fit s.group run.group events run.may)
 
-pub run_fits : (s : Scene) (server : Server) (moves : List Move) → IsHonestRun s server moves → SceneFits s server
-run_fits s server moves run =
-    let fit = scene_fits s server moves run in subst (SceneFits s) (server_left s server (server_after s.group moves) moves run fit) fit
+pub run_fits : (s : Scene) (server : Server) (events : List Event) → IsHonestRun s server events → SceneFits s server
+run_fits s server events run =
+    let fit = scene_fits s server events run in subst (SceneFits s) (server_left s server (server_after s.group events) events run fit) fit
 
-pub run_knows : (s : Scene) (server : Server) (moves : List Move) → IsHonestRun s server moves → SceneKnows s server
-run_knows s server moves run =
-    let fit = scene_fits s server moves run in
-    let know : SceneKnows s (server_after s.group moves) = subst (λ t. SceneKnows t (server_after s.group moves)) (sym run.is) (all_known s.group run.group moves run.may) in
-    subst (SceneKnows s) (server_left s server (server_after s.group moves) moves run fit) know
+pub run_knows : (s : Scene) (server : Server) (events : List Event) → IsHonestRun s server events → SceneKnows s server
+run_knows s server events run =
+    let fit = scene_fits s server events run in
+    let know : SceneKnows s (server_after s.group events) = subst (λ t. SceneKnows t (server_after s.group events)) (sym run.is) (all_known s.group run.group events run.may) in
+    subst (SceneKnows s) (server_left s server (server_after s.group events) events run fit) know
 
-pub tags_made : (s : Scene) (server : Server) (moves : List Move) → IsHonestRun s server moves → IsForged s.group s.history → ⊥
-tags_made s server moves run = (run_fits s server moves run).fits.honest
+pub tags_made : (s : Scene) (server : Server) (events : List Event) → IsHonestRun s server events → IsForged s.group s.history → ⊥
+tags_made s server events run = (run_fits s server events run).fits.honest
 
-pub all_lawful : (s : Scene) (server : Server) (moves : List Move) → IsHonestRun s server moves → IsLawful s.group s.history
-all_lawful s server moves run = record { group = run.group; steps = (run_fits s server moves run).fits.steps }
+pub all_lawful : (s : Scene) (server : Server) (events : List Event) → IsHonestRun s server events → IsLawful s.group s.history
+all_lawful s server events run = record { group = run.group; steps = (run_fits s server events run).fits.steps }
 
-pub all_fronts : (s : Scene) (server : Server) (moves : List Move) → IsHonestRun s server moves → (me : ℕ) → 0 < me → me ≤ s.group.count → IsFrontOf s server me
-all_fronts s server moves run me above upto =
-    let c = (run_fits s server moves run).fits.clients me above upto in record { newer = c.newer; seen = c.seen; log = c.is; path = c.path }
+pub all_fronts : (s : Scene) (server : Server) (events : List Event) → IsHonestRun s server events → (me : ℕ) → 0 < me → me ≤ s.group.count → IsFrontOf s server me
+all_fronts s server events run me above upto =
+    let c = (run_fits s server events run).fits.clients me above upto in record { newer = c.newer; seen = c.seen; log = c.is; path = c.path }
 
 pub never_halted : (x : Option Outcome) (check : ℕ) → IsFine x → x ≡ Some (outcome.Halted check) → ⊥
 never_halted x check fine e = subst IsFine e fine
 
-pub all_go_on : (s : Scene) (server : Server) (moves : List Move) → IsHonestRun s server moves → (me : ℕ) → 0 < me → me ≤ s.group.count → GoesOn s me
-all_go_on s server moves run me above upto =
-    let know = run_knows s server moves run in
+pub all_go_on : (s : Scene) (server : Server) (events : List Event) → IsHonestRun s server events → (me : ℕ) → 0 < me → me ≤ s.group.count → GoesOn s me
+all_go_on s server events run me above upto =
+    let know = run_knows s server events run in
     record {
       standing_so = (know.clients me above upto).keeps.going;
       returns_so = λ x there check e. never_halted x.returned check (all_at (λ y. IsFine y.returned) s.history x know.fine there) e;
     }
 
-pub all_fated : (s : Scene) (server : Server) (moves : List Move) → IsHonestRun s server moves → (c : Completion) → IsIn (completions s.group s.history) c → StandsAsFated server.log c
-all_fated s server moves run c there =
-    let f = all_at (IsFated server.log) (completions s.group s.history) c (run_knows s server moves run).fates there in
+pub all_fated : (s : Scene) (server : Server) (events : List Event) → IsHonestRun s server events → (c : Completion) → IsIn (completions s.group s.history) c → StandsAsFated server.log c
+all_fated s server events run c there =
+    let f = all_at (IsFated server.log) (completions s.group s.history) c (run_knows s server events run).fates there in
     record { newer = f.newer; o = f.o; below = f.below; is = f.is; client = f.client; prefix = f.prefix; outcome = f.outcome }
 
-pub all_refusals : (s : Scene) (server : Server) (moves : List Move) → IsHonestRun s server moves → (x : TraceStep) → IsIn s.history x → (r : ℕ) → x.returned ≡ Some (outcome.Refused r) → (0 < r) × (r ≤ 4)
-all_refusals s server moves run x there r e = subst IsFine e (all_at (λ y. IsFine y.returned) s.history x (run_knows s server moves run).fine there)
+pub all_refusals : (s : Scene) (server : Server) (events : List Event) → IsHonestRun s server events → (x : TraceStep) → IsIn s.history x → (r : ℕ) → x.returned ≡ Some (outcome.Refused r) → (0 < r) × (r ≤ 4)
+all_refusals s server events run x there r e = subst IsFine e (all_at (λ y. IsFine y.returned) s.history x (run_knows s server events run).fine there)
 
-pub all_sealed : (s : Scene) (server : Server) (moves : List Move) → IsHonestRun s server moves → SealedSo server
+pub all_sealed : (s : Scene) (server : Server) (events : List Event) → IsHonestRun s server events → SealedSo server
 unfolding root_on
-all_sealed s server moves run =
-    let k = (run_knows s server moves run).server in
+all_sealed s server events run =
+    let k = (run_knows s server events run).server in
     record {
       unsealed = k.over;
       sealed = k.base;

@@ -21,26 +21,26 @@ front_is s server i f =
     (length f.seen, f.path ∙ ap entries (sym (ap (front (length f.seen)) f.log ∙ front-joined (length f.seen) f.newer f.seen (omega arith) ∙ front-all f.seen)))
 
 pub honest_runs_hold : HonestRunsHold
-honest_runs_hold s server moves run = record {
-  lawful = all_lawful s server moves run;
-  unforged = tags_made s server moves run;
-  fated = all_fated s server moves run;
+honest_runs_hold s server events run = record {
+  lawful = all_lawful s server events run;
+  unforged = tags_made s server events run;
+  fated = all_fated s server events run;
   goes_on = record {
-    stands_so = λ i above upto. (all_go_on s server moves run i above upto).standing_so;
-    returns_so = let count = run.group.count in (all_go_on s server moves run 1 (omega arith) (omega (arith, count.0))).returns_so;
-    refuses_so = all_refusals s server moves run;
+    stands_so = λ i above upto. (all_go_on s server events run i above upto).standing_so;
+    returns_so = let count = run.group.count in (all_go_on s server events run 1 (omega arith) (omega (arith, count.0))).returns_so;
+    refuses_so = all_refusals s server events run;
   };
-  paths = λ i above upto. front_is s server i (all_fronts s server moves run i above upto);
+  paths = λ i above upto. front_is s server i (all_fronts s server events run i above upto);
   aborted = λ newer o below is u. aborts_are_conflicts o below u;
   left_alone = λ newer o below is aborts. aborts_leave_nothing o below aborts;
-  sealed = all_sealed s server moves run;
-  one_history = one_history s server moves run;
-  views = views_are_fronts s server moves run;
-  returned = λ newer x past is payload given. record { reply = replies_return s server moves run newer x past is payload given; refusal = refusals_return s server moves run newer x past is payload given };
-  refused = refusals_are_told s server moves run;
+  sealed = all_sealed s server events run;
+  one_history = one_history s server events run;
+  views = views_are_fronts s server events run;
+  returned = λ newer x past is payload given. record { reply = replies_return s server events run newer x past is payload given; refusal = refusals_return s server events run newer x past is payload given };
+  refused = refusals_are_told s server events run;
   served_so = λ i above upto payload rest waits. record {
-    refused = refusals_are_limits s server moves run i above upto payload rest waits;
-    limited = limits_are_refused s server moves run i above upto payload rest waits;
-    ordered = calls_are_ordered s server moves run i above upto payload rest waits;
+    refused = refusals_are_limits s server events run i above upto payload rest waits;
+    limited = limits_are_refused s server events run i above upto payload rest waits;
+    ordered = calls_are_ordered s server events run i above upto payload rest waits;
   };
 }

@@ -23,14 +23,14 @@ use Rattle.vic_rules.specs.Client.{Standing, IsIdle, step, grown, decision, deci
 use Rattle.vic_rules.specs.History.{standing}
 use Rattle.vic_order.specs.Order.{Server, serve}
 use Rattle.vic_order.specs.Serving.{by_rule}
-use Rattle.vic_order.specs.Scenes.{Queue, Scene, queue_of, set_queue, server_at, steps, served, serves, taken as taking, takes, unchanged, Move, Asks, Serves, Takes, Flips, Hears, Resends, Copies, Joins, moved, MayAsk}
+use Rattle.vic_order.specs.Scenes.{Queue, Scene, queue_of, set_queue, server_at, steps, served, serves, taken as taking, takes, unchanged, Event, Asks, Serves, Takes, Flips, Hears, Resends, Copies, Joins, happens, MayAsk}
 use Rattle.vic_order.specs.Honest.{MayHonestly, scene_after, AreHonest, IsHonestRun}
 use Rattle.vic_spellings.proofs.SpelledAnswers.{answer_again}
 use Rattle.vic_laws.proofs.Words.{some_same}
 use Rattle.vic_laws.proofs.Standings.{standing_kept}
 use Rattle.vic_honest.specs.Claims.{RefusedAtLimit, WasRefused}
 use Rattle.vic_honest.proofs.Queues.{queue-set_same, queue-set_other, queue-fresh}
-use Rattle.vic_honest.proofs.Moves.{scene-group}
+use Rattle.vic_honest.proofs.Events.{scene-group}
 use Rattle.vic_honest.proofs.Standing.{world_of, SceneFits, Doing, Rests, Sends, Gets, up_by, down_by}
 use Rattle.vic_honest.proofs.Worlds.{step_of, server_is, server_after, all_fit}
 use Rattle.vic_honest.proofs.Known.{SceneKnows, nothing_under_way, answer_spelled, all_known}
@@ -100,20 +100,20 @@ ask_idle s me (input.Payload payload) may = absurd may
 -- ---- what is told
 
 -- each step that returned a refusal was told of one that the server made
-abbrev AreTold : Group → List Move → List TraceStep → Type 0
-AreTold g moves [] = Unit {0}
-AreTold g moves (x ∷ past) = AreTold g moves past × ((r : ℕ) → x.returned ≡ Some (outcome.Refused r) → WasRefused g moves x.client (standing g x.client past) r)
+abbrev AreTold : Group → List Event → List TraceStep → Type 0
+AreTold g events [] = Unit {0}
+AreTold g events (x ∷ past) = AreTold g events past × ((r : ℕ) → x.returned ≡ Some (outcome.Refused r) → WasRefused g events x.client (standing g x.client past) r)
 
 -- so is a client for which a refusal waits
-abbrev Waits : List Move → Scene → ℕ → Type 0
-Waits moves s me = (payload : List ℕ) (rest : List (List ℕ)) → queue_of s.down me ≡ payload ∷ rest → (r : ℕ) → read_answer payload ≡ Some (say.Refused r) → WasRefused s.group moves me (standing s.group me s.history) r
+abbrev Waits : List Event → Scene → ℕ → Type 0
+Waits events s me = (payload : List ℕ) (rest : List (List ℕ)) → queue_of s.down me ≡ payload ∷ rest → (r : ℕ) → read_answer payload ≡ Some (say.Refused r) → WasRefused s.group events me (standing s.group me s.history) r
 
-record IsTold (moves : List Move) (s : Scene) : Type 0 where
-  steps : AreTold s.group moves s.history
-  waits : (me : ℕ) → 0 < me → me ≤ s.group.count → Waits moves s me
+record IsTold (events : List Event) (s : Scene) : Type 0 where
+  steps : AreTold s.group events s.history
+  waits : (me : ℕ) → 0 < me → me ≤ s.group.count → Waits events s me
 
-refused_still : (g : Group) (m : Move) (moves : List Move) (me : ℕ) (t : Standing) (r : ℕ) → WasRefused g moves me t r → WasRefused g (m ∷ moves) me t r
-refused_still g m moves me t r h = record {
+refused_still : (g : Group) (m : Event) (events : List Event) (me : ℕ) (t : Standing) (r : ℕ) → WasRefused g events me t r → WasRefused g (m ∷ events) me t r
+refused_still g m events me t r h = record {
   later = m ∷ h.later;
   before = h.before;
   payload = h.payload;
@@ -128,14 +128,14 @@ refused_still g m moves me t r h = record {
   awaited = h.awaited;
 }
 
-told_still : (g : Group) (m : Move) (moves : List Move) (h : List TraceStep) → AreTold g moves h → AreTold g (m ∷ moves) h
-told_still g m moves [] a = tt
-told_still g m moves (x ∷ past) a = (told_still g m moves past a.0, λ r f. refused_still g m moves x.client (standing g x.client past) r (a.1 r f))
+told_still : (g : Group) (m : Event) (events : List Event) (h : List TraceStep) → AreTold g events h → AreTold g (m ∷ events) h
+told_still g m events [] a = tt
+told_still g m events (x ∷ past) a = (told_still g m events past a.0, λ r f. refused_still g m events x.client (standing g x.client past) r (a.1 r f))
 
-told_at : (g : Group) (moves : List Move) (newer : List TraceStep) (x : TraceStep) (past : List TraceStep) → AreTold g moves (newer ++ x ∷ past)
-    → (r : ℕ) → x.returned ≡ Some (outcome.Refused r) → WasRefused g moves x.client (standing g x.client past) r
-told_at g moves [] x past a = a.1
-told_at g moves (y ∷ newer) x past a = told_at g moves newer x past a.0
+told_at : (g : Group) (events : List Event) (newer : List TraceStep) (x : TraceStep) (past : List TraceStep) → AreTold g events (newer ++ x ∷ past)
+    → (r : ℕ) → x.returned ≡ Some (outcome.Refused r) → WasRefused g events x.client (standing g x.client past) r
+told_at g events [] x past a = a.1
+told_at g events (y ∷ newer) x past a = told_at g events newer x past a.0
 
 -- an answer waits alone
 alone : (q : List (List ℕ)) (payload : List ℕ) (rest : List (List ℕ)) (doing : Doing) → q ≡ down_by doing → q ≡ payload ∷ rest → rest ≡ []
@@ -150,28 +150,28 @@ request_alone g me t up down payload rest Rests e f at = absurd cc
 request_alone g me t up down payload rest (Sends sending) e f at = let none : rest ≡ [] = cc in (at ∙ ap (λ l. payload ∷ l) none, f)
 request_alone g me t up down payload rest (Gets m) e f at = absurd cc
 
-module _ (moves : List Move) (s : Scene) (server : Server) (at_moves : scene_after s.group moves ≡ s) (fit : SceneFits s server) (know : SceneKnows s server) (told : IsTold moves s)
+module _ (events : List Event) (s : Scene) (server : Server) (at_events : scene_after s.group events ≡ s) (fit : SceneFits s server) (know : SceneKnows s server) (told : IsTold events s)
     (me : ℕ) (above : 0 < me) (upto : me ≤ s.group.count) where
   -- a client's step, after which no answer waits for it
-  step_told : (m : Move) (i : Input) (down : List Queue) → ((j : ℕ) → (j ≡ me → ⊥) → 0 < j → queue_of down j ≡ queue_of s.down j) → queue_of down me ≡ []
-      → ((r : ℕ) → (step s.group me (standing s.group me s.history) i).returns ≡ Some (outcome.Refused r) → WasRefused s.group moves me (standing s.group me s.history) r) → IsTold (m ∷ moves) (steps (record s { down = down }) me i)
+  step_told : (m : Event) (i : Input) (down : List Queue) → ((j : ℕ) → (j ≡ me → ⊥) → 0 < j → queue_of down j ≡ queue_of s.down j) → queue_of down me ≡ []
+      → ((r : ℕ) → (step s.group me (standing s.group me s.history) i).returns ≡ Some (outcome.Refused r) → WasRefused s.group events me (standing s.group me s.history) r) → IsTold (m ∷ events) (steps (record s { down = down }) me i)
   unfolding steps
   step_told m i down same none new = record {
-    steps = (told_still s.group m moves s.history told.steps, λ r f. refused_still s.group m moves me (standing s.group me s.history) r (new r f));
+    steps = (told_still s.group m events s.history told.steps, λ r f. refused_still s.group m events me (standing s.group me s.history) r (new r f));
     waits = λ j low high payload rest at r read. elim (cases_eq j me) [
       | inl mine ↦ let there : queue_of down j ≡ queue_of down me = ap (queue_of down) mine in absurd cc
       | inr apart ↦
-          subst (λ t. WasRefused s.group (m ∷ moves) j t r) (sym (standing_kept s.group j (step_of s.group (world_of s server) me i) s.history (λ x. apart (sym x))))
-          (refused_still s.group m moves j (standing s.group j s.history) r (told.waits j low high payload rest (sym (same j apart low) ∙ at) r read))
+          subst (λ t. WasRefused s.group (m ∷ events) j t r) (sym (standing_kept s.group j (step_of s.group (world_of s server) me i) s.history (λ x. apart (sym x))))
+          (refused_still s.group m events j (standing s.group j s.history) r (told.waits j low high payload rest (sym (same j apart low) ∙ at) r read))
     ];
   }
 
-  asks_told : (i : Input) → MayAsk s me i → IsTold (Asks me i ∷ moves) (steps s me i)
+  asks_told : (i : Input) → MayAsk s me i → IsTold (Asks me i ∷ events) (steps s me i)
   asks_told i may =
       let none = nothing_under_way s server fit know me above upto (ask_idle s me i may) in
       step_told (Asks me i) i s.down (λ j apart low. refl) none.1 (λ r e. absurd (ask_refused s me i may r e))
 
-  taken_told : (q : Queue) → queue_of s.down me ≡ q → (q ≡ [] → ⊥) → IsTold (Takes me ∷ moves) (taking unchanged s me q)
+  taken_told : (q : Queue) → queue_of s.down me ≡ q → (q ≡ [] → ⊥) → IsTold (Takes me ∷ events) (taking unchanged s me q)
   taken_told [] at some = absurd (some refl)
   taken_told (payload ∷ rest) at some =
       let c = know.clients me above upto in
@@ -179,31 +179,31 @@ module _ (moves : List Move) (s : Scene) (server : Server) (at_moves : scene_aft
       (queue-set_same s.down me rest above (omega (arith, upto, fit.one.down_count)) ∙ alone (queue_of s.down me) payload rest c.doing c.down_is at)
       (λ r e. told.waits me above upto payload rest at r (take_refused s.group me (standing s.group me s.history) payload r e))
 
-  takes_told : (queue_of s.down me ≡ [] → ⊥) → IsTold (Takes me ∷ moves) (takes unchanged s me)
+  takes_told : (queue_of s.down me ≡ [] → ⊥) → IsTold (Takes me ∷ events) (takes unchanged s me)
   unfolding takes
   takes_told some = taken_told (queue_of s.down me) refl some
 
   -- the server answers a request
   answered : (payload : List ℕ) (rest : List (List ℕ)) → queue_of s.up me ≡ payload ∷ rest → (r : ℕ) → (serve server me payload).answer ≡ say.Refused r
-      → WasRefused s.group (Serves me ∷ moves) me (standing s.group me s.history) r
+      → WasRefused s.group (Serves me ∷ events) me (standing s.group me s.history) r
   answered payload rest at r answer =
       let refused : RefusedAtLimit server payload r = world_refuses s.group (world_of s server) fit.fits know me above upto payload rest at r answer in
       record {
         later = [];
-        before = moves;
+        before = events;
         payload = payload;
         rest = rest;
         server = server;
         is = refl;
-        waited = ap (λ (t : Scene). queue_of t.up me) at_moves ∙ at;
-        one = ap (λ (t : Scene). server_at t.servers 1) at_moves ∙ ap (λ l. server_at l 1) fit.one.only;
+        waited = ap (λ (t : Scene). queue_of t.up me) at_events ∙ at;
+        one = ap (λ (t : Scene). server_at t.servers 1) at_events ∙ ap (λ l. server_at l 1) fit.one.only;
         answer = answer;
         refused = refused;
         load = false;
         awaited = world_awaits s.group (world_of s server) fit.fits know me above upto payload rest at refused.known refused.seq refused.op refused.tag refused.is;
       }
 
-  served_told : (q : Queue) → queue_of s.up me ≡ q → (q ≡ [] → ⊥) → IsTold (Serves me ∷ moves) (served by_rule s me q (Some server))
+  served_told : (q : Queue) → queue_of s.up me ≡ q → (q ≡ [] → ⊥) → IsTold (Serves me ∷ events) (served by_rule s me q (Some server))
   served_told [] at some = absurd (some refl)
   served_told (payload ∷ rest) at some =
       let c = know.clients me above upto in
@@ -215,42 +215,42 @@ module _ (moves : List Move) (s : Scene) (server : Server) (at_moves : scene_aft
       let read_back : read_answer text ≡ Some a.answer = answer_again a.answer (answer_spelled s server fit know me above upto payload only.0) in
       let waits_here : queue_of down me ≡ text ∷ [] = queue-set_same s.down me joined above (omega (arith, upto, fit.one.down_count)) ∙ ap (λ l. l ++ text ∷ []) only.1 in
       record {
-        steps = told_still s.group (Serves me) moves s.history told.steps;
+        steps = told_still s.group (Serves me) events s.history told.steps;
         waits = λ j low high payload2 rest2 at2 r read. elim (cases_eq j me) [
           | inl mine ↦
               let there : queue_of down j ≡ queue_of down me = ap (queue_of down) mine in
               let same : text ≡ payload2 = cc in
-              subst (λ k. WasRefused s.group (Serves me ∷ moves) k (standing s.group k s.history) r) (sym mine)
+              subst (λ k. WasRefused s.group (Serves me ∷ events) k (standing s.group k s.history) r) (sym mine)
               (answered payload rest at r (some_same (sym read_back ∙ ap read_answer same ∙ read)))
           | inr apart ↦
-              refused_still s.group (Serves me) moves j (standing s.group j s.history) r
+              refused_still s.group (Serves me) events j (standing s.group j s.history) r
               (told.waits j low high payload2 rest2 (sym (queue-set_other s.down me j joined above low apart) ∙ at2) r read)
         ];
       }
 
-  serves_told : (queue_of s.up me ≡ [] → ⊥) → IsTold (Serves me ∷ moves) (serves by_rule s me)
+  serves_told : (queue_of s.up me ≡ [] → ⊥) → IsTold (Serves me ∷ events) (serves by_rule s me)
   unfolding serves
   serves_told some =
-      subst (λ o. IsTold (Serves me ∷ moves) (served by_rule s me (queue_of s.up me) o)) (sym (server_is s server fit.one me above upto)) (served_told (queue_of s.up me) refl some)
+      subst (λ o. IsTold (Serves me ∷ events) (served by_rule s me (queue_of s.up me) o)) (sym (server_is s server fit.one me above upto)) (served_told (queue_of s.up me) refl some)
 
-moved_told : (moves : List Move) (s : Scene) (server : Server) → scene_after s.group moves ≡ s → SceneFits s server → SceneKnows s server → IsTold moves s → (m : Move) → MayHonestly s m
-    → IsTold (m ∷ moves) (moved by_rule s m)
-moved_told moves s server at fit know told (Asks me i) may = asks_told moves s server at fit know told me may.1.0 may.1.1 i may.1.2
-moved_told moves s server at fit know told (Serves me) may = serves_told moves s server at fit know told me may.1.0 may.1.1 may.1.2
-moved_told moves s server at fit know told (Takes me) may = takes_told moves s server at fit know told me may.1.0 may.1.1 may.1.2
-moved_told moves s server at fit know told (Flips me n) may = absurd may.0
-moved_told moves s server at fit know told (Hears me payload) may = absurd may.0
-moved_told moves s server at fit know told (Resends me) may = absurd may.0
-moved_told moves s server at fit know told (Copies n t) may = absurd may.0
-moved_told moves s server at fit know told (Joins me n) may = absurd may.0
+happens_told : (events : List Event) (s : Scene) (server : Server) → scene_after s.group events ≡ s → SceneFits s server → SceneKnows s server → IsTold events s → (m : Event) → MayHonestly s m
+    → IsTold (m ∷ events) (happens by_rule s m)
+happens_told events s server at fit know told (Asks me i) may = asks_told events s server at fit know told me may.1.0 may.1.1 i may.1.2
+happens_told events s server at fit know told (Serves me) may = serves_told events s server at fit know told me may.1.0 may.1.1 may.1.2
+happens_told events s server at fit know told (Takes me) may = takes_told events s server at fit know told me may.1.0 may.1.1 may.1.2
+happens_told events s server at fit know told (Flips me n) may = absurd may.0
+happens_told events s server at fit know told (Hears me payload) may = absurd may.0
+happens_told events s server at fit know told (Resends me) may = absurd may.0
+happens_told events s server at fit know told (Copies n t) may = absurd may.0
+happens_told events s server at fit know told (Joins me n) may = absurd may.0
 
-all_told : (g : Group) → IsGroup g → (moves : List Move) → AreHonest g moves → IsTold moves (scene_after g moves)
+all_told : (g : Group) → IsGroup g → (events : List Event) → AreHonest g events → IsTold events (scene_after g events)
 all_told g group [] h = record { steps = tt; waits = λ me low high payload rest at. let none = sym (queue-fresh g.count me) ∙ at in absurd cc }
 all_told g group (m ∷ before) h =
     let s : Scene = scene_after g before in
-    moved_told before s (server_after g before) (ap (λ k. scene_after k before) (scene-group g before)) (all_fit g group before h.0) (all_known g group before h.0) (all_told g group before h.0) m h.1
+    happens_told before s (server_after g before) (ap (λ k. scene_after k before) (scene-group g before)) (all_fit g group before h.0) (all_known g group before h.0) (all_told g group before h.0) m h.1
 
-pub refusals_are_told : (s : Scene) (server : Server) (moves : List Move) → IsHonestRun s server moves → (newer : List TraceStep) (x : TraceStep) (past : List TraceStep) → s.history ≡ newer ++ x ∷ past
-    → (r : ℕ) → x.returned ≡ Some (outcome.Refused r) → WasRefused s.group moves x.client (standing s.group x.client past) r
-refusals_are_told s server moves run newer x past is =
-    told_at s.group moves newer x past (subst (AreTold s.group moves) is (subst (IsTold moves) (sym run.is) (all_told s.group run.group moves run.may)).steps)
+pub refusals_are_told : (s : Scene) (server : Server) (events : List Event) → IsHonestRun s server events → (newer : List TraceStep) (x : TraceStep) (past : List TraceStep) → s.history ≡ newer ++ x ∷ past
+    → (r : ℕ) → x.returned ≡ Some (outcome.Refused r) → WasRefused s.group events x.client (standing s.group x.client past) r
+refusals_are_told s server events run newer x past is =
+    told_at s.group events newer x past (subst (AreTold s.group events) is (subst (IsTold events) (sym run.is) (all_told s.group run.group events run.may)).steps)

@@ -14,12 +14,12 @@ use Rattle.vic_rules.specs.declared.state.Awaiting.TheVariants as awaits
 use Rattle.vic_rules.specs.declared.trace.Input.{Input}
 use Rattle.vic_rules.specs.declared.trace.Input.TheVariants as input
 use Rattle.vic_rules.specs.declared.trace.TraceStep.{TraceStep}
-use Rattle.vic_rules.specs.Client.{Standing, Sending, Invokes, Polls, Syncs, Move as Stepped, step, MayStep, IsIdle, request_of, payload_of, awaits_nothing, seal_of}
+use Rattle.vic_rules.specs.Client.{Standing, Sending, Invokes, Polls, Syncs, Move, step, MayStep, IsIdle, request_of, payload_of, awaits_nothing, seal_of}
 use Rattle.vic_rules.specs.History.{standing}
 use Rattle.vic_rules.specs.Trust.{IsForged, texts_made, text_sent, checked_texts, taken_by, took}
 use Rattle.vic_order.specs.Order.{Ordered, Server, Answered, fresh_server, ready, serve}
 use Rattle.vic_order.specs.Serving.{by_rule}
-use Rattle.vic_order.specs.Scenes.{Queue, Scene, opening, queue_of, set_queue, queued, server_at, set_server, server_of, steps, served_with, served, serves, taken, takes, unchanged, Move, Asks, Serves, Takes, Flips, Hears, Resends, Copies, Joins, moved, MayAsk}
+use Rattle.vic_order.specs.Scenes.{Queue, Scene, opening, queue_of, set_queue, queued, server_at, set_server, server_of, steps, served_with, served, serves, taken, takes, unchanged, Event, Asks, Serves, Takes, Flips, Hears, Resends, Copies, Joins, happens, MayAsk}
 use Rattle.vic_order.specs.Fates.{entries}
 use Rattle.vic_order.specs.Honest.{MayHonestly, scene_after, AreHonest}
 use Rattle.vic_spellings.proofs.Bytes.{bytes-sha256}
@@ -90,7 +90,7 @@ step_of g w me i =
     let v = step g me (standing g me w.history) i in
     record { client = me; input = i; sent = payload_of g me v.next v.sends; returned = v.returns }
 
-abbrev pub move : Group → World → ℕ → Input → Stepped
+abbrev pub move : Group → World → ℕ → Input → Move
 move g w me i = step g me (standing g me w.history) i
 
 made_more : (g : Group) (w : World) (me : ℕ) (i : Input) → texts_made g (step_of g w me i ∷ w.history) ≡ text_sent g me (move g w me i).next (move g w me i).sends ++ texts_made g w.history
@@ -117,7 +117,7 @@ module _ (s : Scene) (server : Server) (fit : SceneFits s server) (me : ℕ) (ab
   abbrev made : List (List ℕ)
   made = texts_made g (x ∷ w.history)
 
-  abbrev v : Stepped
+  abbrev v : Move
   v = move g w me i
 
   abbrev up : List Queue
@@ -128,13 +128,13 @@ module _ (s : Scene) (server : Server) (fit : SceneFits s server) (me : ℕ) (ab
 
   mine : Moved g (texts_made g w.history) me w.server.log v.next v.sends → w.up me ≡ [] → queue_of down me ≡ []
       → ClientFits g made me w.server.log (standing g me (x ∷ w.history)) (queue_of up me) (queue_of down me)
-  mine moved up_is down_is =
+  mine happens up_is down_is =
       let queue : queue_of up me ≡ queued [] x.sent =
       queue-set_same s.up me (queued (queue_of s.up me) x.sent) above (omega (arith, upto, fit.one.up_count)) ∙ ap (λ q. queued q x.sent) up_is in
       subst (λ l. ClientFits g l me w.server.log (standing g me (x ∷ w.history)) (queue_of up me) (queue_of down me)) (sym (made_more g w me i))
       (subst (λ t. ClientFits g (text_sent g me v.next v.sends ++ texts_made g w.history) me w.server.log t (queue_of up me) (queue_of down me)) (sym (standing_moved g me x w.history refl))
       (subst (λ u. ClientFits g (text_sent g me v.next v.sends ++ texts_made g w.history) me w.server.log v.next u (queue_of down me)) (sym queue)
-      (subst (λ d. ClientFits g (text_sent g me v.next v.sends ++ texts_made g w.history) me w.server.log v.next (queued [] x.sent) d) (sym down_is) moved)))
+      (subst (λ d. ClientFits g (text_sent g me v.next v.sends ++ texts_made g w.history) me w.server.log v.next (queued [] x.sent) d) (sym down_is) happens)))
 
   others : (j : ℕ) → (j ≡ me → ⊥) → 0 < j → j ≤ g.count
       → ClientFits g made j w.server.log (standing g j (x ∷ w.history)) (queue_of up j) (queue_of down j)
@@ -148,14 +148,14 @@ module _ (s : Scene) (server : Server) (fit : SceneFits s server) (me : ℕ) (ab
   step_fits : Moved g (texts_made g w.history) me w.server.log v.next v.sends → w.up me ≡ [] → queue_of down me ≡ []
       → AreMade (texts_made g w.history) (checked_texts g v.next.path (taken_by v.next i)) → SceneFits (steps (record s { down = down }) me i) server
   unfolding steps
-  step_fits moved up_is down_is texts = record {
+  step_fits happens up_is down_is texts = record {
     one = record { group = fit.one.group; up_count = length-set_queue s.up me _ ∙ fit.one.up_count; down_count = count; by = fit.one.by; only = fit.one.only };
     fits = record {
       steps = (fit.fits.steps, record { member = (above, upto); may = may; sent = refl; returned = refl });
       honest = not_forged g w me i texts fit.fits.honest;
       server = server-stays g (texts_made g w.history) made keeps w.server fit.fits.server;
       clients = λ j low high. elim (cases_eq j me) [
-        | inl e ↦ subst (λ k. ClientFits g made k w.server.log (standing g k (x ∷ w.history)) (queue_of up k) (queue_of down k)) (sym e) (mine moved up_is down_is)
+        | inl e ↦ subst (λ k. ClientFits g made k w.server.log (standing g k (x ∷ w.history)) (queue_of up k) (queue_of down k)) (sym e) (mine happens up_is down_is)
         | inr apart ↦ others j apart low high
       ];
     };
@@ -191,9 +191,9 @@ module _ (s : Scene) (server : Server) (fit : SceneFits s server) (me : ℕ) (ab
 
   asked : (i : Input) → MayStep s.group here i → IsIdle here → Moved s.group (texts_made s.group s.history) me server.log (move s.group (world_of s server) me i).next (move s.group (world_of s server) me i).sends
       → checked_texts s.group (move s.group (world_of s server) me i).next.path (taken_by (move s.group (world_of s server) me i).next i) ≡ [] → SceneFits (steps s me i) server
-  asked i may idle moved nothing_taken =
+  asked i may idle happens nothing_taken =
       let rests = idle_rests s.group me here (queue_of s.up me) (queue_of s.down me) client.doing (and_parts (awaits_nothing here.awaiting) (is_none here.halted) idle).0 client.busy client.up_is client.down_is in
-      step_fits s server fit me above upto i may s.down fit.one.down_count (λ j apart low. refl) moved rests.0 rests.1 (subst (AreMade (texts_made s.group s.history)) (sym nothing_taken) (λ text h. absurd h))
+      step_fits s server fit me above upto i may s.down fit.one.down_count (λ j apart low. refl) happens rests.0 rests.1 (subst (AreMade (texts_made s.group s.history)) (sym nothing_taken) (λ text h. absurd h))
 
   room : length here.path < 2 ^ 32
   room = room_left s.group (texts_made s.group s.history) server here client.seen client.newer fit.fits.server client.is client.path
@@ -236,7 +236,7 @@ abbrev pub served_next : Server → ℕ → Queue → Server
 served_next server me [] = server
 served_next server me (payload ∷ rest) = (serve server me payload).next
 
-abbrev pub server_next : Scene → Server → Move → Server
+abbrev pub server_next : Scene → Server → Event → Server
 server_next s server (Asks me i) = server
 server_next s server (Serves me) = served_next server me (queue_of s.up me)
 server_next s server (Takes me) = server
@@ -246,7 +246,7 @@ server_next s server (Resends me) = server
 server_next s server (Copies n t) = server
 server_next s server (Joins me n) = server
 
-unfoldable pub server_after : Group → List Move → Server
+unfoldable pub server_after : Group → List Event → Server
 server_after g [] = fresh_server g.mode g.count ready
 server_after g (m ∷ before) = server_next (scene_after g before) (server_after g before) m
 
@@ -341,15 +341,15 @@ module _ (s : Scene) (server : Server) (fit : SceneFits s server) (me : ℕ) (ab
   takes_fit : (queue_of s.down me ≡ [] → ⊥) → SceneFits (takes unchanged s me) server
   takes_fit waits = let c = fit.fits.clients me above upto in takes_by waits c.seen c.newer c.is c.path c.fits c.doing c.up_is c.down_is c.does
 
-moved_fits : (s : Scene) (server : Server) → SceneFits s server → (m : Move) → MayHonestly s m → SceneFits (moved by_rule s m) (server_next s server m)
-moved_fits s server fit (Asks me i) may = asks_fit s server fit me may.1.0 may.1.1 i may.1.2
-moved_fits s server fit (Serves me) may = serves_fit s server fit me may.1.0 may.1.1 may.1.2
-moved_fits s server fit (Takes me) may = takes_fit s server fit me may.1.0 may.1.1 may.1.2
-moved_fits s server fit (Flips me n) may = absurd may.0
-moved_fits s server fit (Hears me payload) may = absurd may.0
-moved_fits s server fit (Resends me) may = absurd may.0
-moved_fits s server fit (Copies n t) may = absurd may.0
-moved_fits s server fit (Joins me n) may = absurd may.0
+happens_fits : (s : Scene) (server : Server) → SceneFits s server → (m : Event) → MayHonestly s m → SceneFits (happens by_rule s m) (server_next s server m)
+happens_fits s server fit (Asks me i) may = asks_fit s server fit me may.1.0 may.1.1 i may.1.2
+happens_fits s server fit (Serves me) may = serves_fit s server fit me may.1.0 may.1.1 may.1.2
+happens_fits s server fit (Takes me) may = takes_fit s server fit me may.1.0 may.1.1 may.1.2
+happens_fits s server fit (Flips me n) may = absurd may.0
+happens_fits s server fit (Hears me payload) may = absurd may.0
+happens_fits s server fit (Resends me) may = absurd may.0
+happens_fits s server fit (Copies n t) may = absurd may.0
+happens_fits s server fit (Joins me n) may = absurd may.0
 
 opening_fits : (g : Group) → IsGroup g → SceneFits (opening g) (fresh_server g.mode g.count ready)
 unfolding standing
@@ -374,7 +374,7 @@ opening_fits g group = record {
   };
 }
 
-pub all_fit : (g : Group) → IsGroup g → (moves : List Move) → AreHonest g moves → SceneFits (scene_after g moves) (server_after g moves)
+pub all_fit : (g : Group) → IsGroup g → (events : List Event) → AreHonest g events → SceneFits (scene_after g events) (server_after g events)
 unfolding server_after
 all_fit g group [] h = opening_fits g group
-all_fit g group (m ∷ before) h = moved_fits (scene_after g before) (server_after g before) (all_fit g group before h.0) m h.1
+all_fit g group (m ∷ before) h = happens_fits (scene_after g before) (server_after g before) (all_fit g group before h.0) m h.1

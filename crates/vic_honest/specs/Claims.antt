@@ -23,7 +23,7 @@ use Rattle.vic_rules.specs.Views.{confirmed_calls, view_of, IsLegal, left_by, Is
 use Rattle.vic_rules.specs.Trust.{IsForged}
 use Rattle.vic_order.specs.Order.{Ordered, Server, Answered, size, sealed_count, top_seal, is_put, op_weight, weight, serve}
 use Rattle.vic_order.specs.Fates.{entries, fate, dictionary_by}
-use Rattle.vic_order.specs.Scenes.{Queue, Scene, SceneOf, queue_of, server_at, Move, Serves}
+use Rattle.vic_order.specs.Scenes.{Queue, Scene, SceneOf, queue_of, server_at, Event, Serves}
 use Rattle.vic_order.specs.Honest.{IsHonestRun, scene_after}
 
 -- the path of a client is what the server's log was at some time
@@ -89,13 +89,13 @@ pub record IsOrderedBy (s : Server) (me seq : ℕ) (o : Op) (tag : Digest32) (a 
   pub answer : a.answer ≡ say.Reply seal told part
 
 -- the server refused a client's call when it served it, at that limit, and the client awaits the answer to this call
-pub record WasRefused (g : Group) (moves : List Move) (me : ℕ) (t : Standing) (r : ℕ) : Type 0 where
-  pub later : List Move
-  pub before : List Move
+pub record WasRefused (g : Group) (events : List Event) (me : ℕ) (t : Standing) (r : ℕ) : Type 0 where
+  pub later : List Event
+  pub before : List Event
   pub payload : List ℕ
   pub rest : Queue
   pub server : Server
-  pub is : moves ≡ later ++ Serves me ∷ before
+  pub is : events ≡ later ++ Serves me ∷ before
   pub waited : queue_of (scene_after g before).up me ≡ payload ∷ rest
   pub one : server_at (scene_after g before).servers 1 ≡ Some server
   pub answer : (serve server me payload).answer ≡ say.Refused r
@@ -182,8 +182,8 @@ pub record IsServedSo (server : Server) (me : ℕ) (payload : List ℕ) : Type 0
   pub ordered : (known seq : ℕ) (o : Op) (tag : Digest32) → read_request payload ≡ Some (ask.Invoke known seq o tag)
       → limit server known o ≡ None → IsOrderedBy server me seq o tag (serve server me payload)
 
--- what holds of the history and the requests that wait, where these honest moves leave them with this server
-pub record HoldsHonestly (g : Group) (h : List TraceStep) (up : List Queue) (moves : List Move) (server : Server) : Type 0 where
+-- what holds of the history and the requests that wait, where these honest events leave them with this server
+pub record HoldsHonestly (g : Group) (h : List TraceStep) (up : List Queue) (events : List Event) (server : Server) : Type 0 where
   -- the clients stepped by the rules
   pub lawful : IsLawful g h
   -- every tag that a client took was made by a client before
@@ -210,12 +210,12 @@ pub record HoldsHonestly (g : Group) (h : List TraceStep) (up : List Queue) (mov
       → (payload : List ℕ) → x.input ≡ input.Payload payload → ReturnsSo g server.log past x payload
   -- a call that returned refused was refused when the run's server served it, at the limit whose number it returned
   pub refused : (newer : List TraceStep) (x : TraceStep) (past : List TraceStep) → h ≡ newer ++ x ∷ past
-      → (number : ℕ) → x.returned ≡ Some (outcome.Refused number) → WasRefused g moves x.client (standing g x.client past) number
+      → (number : ℕ) → x.returned ≡ Some (outcome.Refused number) → WasRefused g events x.client (standing g x.client past) number
   -- a client's next request is refused exactly where it is a call that would pass a limit; every other call is ordered
   pub served_so : (i : ℕ) → 0 < i → i ≤ g.count → (payload : List ℕ) (rest : Queue) → queue_of up i ≡ payload ∷ rest → IsServedSo server i payload
 
-abbrev pub IsHonestScene : {V : Type 0} → SceneOf V → List Move → Server → Type 0
-IsHonestScene s moves server = HoldsHonestly s.group s.history s.up moves server
+abbrev pub IsHonestScene : {V : Type 0} → SceneOf V → List Event → Server → Type 0
+IsHonestScene s events server = HoldsHonestly s.group s.history s.up events server
 
 abbrev pub HonestRunsHold : Type 0
-HonestRunsHold = (s : Scene) (server : Server) (moves : List Move) → IsHonestRun s server moves → IsHonestScene s moves server
+HonestRunsHold = (s : Scene) (server : Server) (events : List Event) → IsHonestRun s server events → IsHonestScene s events server

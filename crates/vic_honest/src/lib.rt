@@ -23,7 +23,7 @@ pub fn logs_are_legal()
     ensures { LogsAreLegal }
 {}
 
-/// What holds of each scene to which honest moves lead, of its server and of the moves: no client halts, every tag that a client takes
+/// What holds of each scene to which honest events lead, of its server and of the events: no client halts, every tag that a client takes
 /// was made before, each call returns what becomes of it in the log, and the rest of `HoldsHonestly`.
 pub fn honest_runs_hold()
     ensures { HonestRunsHold }

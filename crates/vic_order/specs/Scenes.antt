@@ -1,4 +1,4 @@
--- Scenes of clients and servers, and the moves by which one leads to another.
+-- Scenes of clients and servers, and the events by which one leads to another.
 use Rattle.std.specs.Prelude.{◌≡◌, ℕ, ◌-◌, ◌<◌, ◌≤◌, Bool, true, ◌&&◌, List, [], ◌∷◌, ◌++◌, length, replicate, Option, Some, None, is_some, nat_eq, nat_lt, nat_le, if◌then◌else◌, slice_get, slice_set, unwrap_or}
 use Rattle.std.specs.Int.Bits.{bit_xor}
 use Rattle.vic_dict.specs.Lists.{AreBytes}
@@ -174,41 +174,41 @@ oldest (payload ∷ rest) = payload
 abbrev pub has_byte : List Queue → ℕ → ℕ → Bool
 has_byte queues i n = nat_lt n (length (oldest (queue_of queues i)))
 
--- ---- moves
+-- ---- events
 
 -- what may happen in a scene
-pub data Move : Type 0 where
+pub data Event : Type 0 where
   -- a client is asked for something
-  Asks : (client : ℕ) (given : Input) → Move
+  Asks : (client : ℕ) (given : Input) → Event
   -- a client's server serves the oldest of its requests
-  Serves : (client : ℕ) → Move
+  Serves : (client : ℕ) → Event
   -- a client takes the oldest of its answers
-  Takes : (client : ℕ) → Move
+  Takes : (client : ℕ) → Event
   -- it takes it with the lowest bit of one byte changed
-  Flips : (client byte : ℕ) → Move
+  Flips : (client byte : ℕ) → Event
   -- a client takes a payload from elsewhere
-  Hears : (client : ℕ) (payload : List ℕ) → Move
+  Hears : (client : ℕ) (payload : List ℕ) → Event
   -- what a client sent last joins its requests again
-  Resends : (client : ℕ) → Move
+  Resends : (client : ℕ) → Event
   -- a server becomes a copy of another
-  Copies : (server copy : ℕ) → Move
+  Copies : (server copy : ℕ) → Event
   -- a client is served by another server from now on
-  Joins : (client server : ℕ) → Move
+  Joins : (client server : ℕ) → Event
 
-abbrev pub moved : {V : Type 0} → Serving V → SceneOf V → Move → SceneOf V
-moved rule s (Asks i given) = steps s i given
-moved rule s (Serves i) = serves rule s i
-moved rule s (Takes i) = takes unchanged s i
-moved rule s (Flips i n) = takes (flipped n) s i
-moved rule s (Hears i payload) = steps s i (input.Payload payload)
-moved rule s (Resends i) = resends s i
-moved rule s (Copies n t) = copies s n t
-moved rule s (Joins i n) = joins s i n
+abbrev pub happens : {V : Type 0} → Serving V → SceneOf V → Event → SceneOf V
+happens rule s (Asks i given) = steps s i given
+happens rule s (Serves i) = serves rule s i
+happens rule s (Takes i) = takes unchanged s i
+happens rule s (Flips i n) = takes (flipped n) s i
+happens rule s (Hears i payload) = steps s i (input.Payload payload)
+happens rule s (Resends i) = resends s i
+happens rule s (Copies n t) = copies s n t
+happens rule s (Joins i n) = joins s i n
 
--- a scene after moves, the newest first
-abbrev pub after_moves : {V : Type 0} → Serving V → SceneOf V → List Move → SceneOf V
-after_moves rule s [] = s
-after_moves rule s (m ∷ before) = moved rule (after_moves rule s before) m
+-- a scene after events, the newest first
+abbrev pub after_events : {V : Type 0} → Serving V → SceneOf V → List Event → SceneOf V
+after_events rule s [] = s
+after_events rule s (m ∷ before) = happens rule (after_events rule s before) m
 
 -- what a client may be asked for; a payload is none of it
 abbrev pub MayAsk : {V : Type 0} → SceneOf V → ℕ → Input → Type 0
@@ -217,17 +217,17 @@ MayAsk s i given = MayStep s.group (stands s i) given
 
 -- a move may be made: the client is one of the group, and it may be asked for this, or a payload waits, or what it takes is bytes; and a
 -- server that is copied or joined exists
-abbrev pub MayMove : {V : Type 0} → SceneOf V → Move → Type 0
-MayMove s (Asks i given) = (0 < i) × (i ≤ s.group.count) × MayAsk s i given
-MayMove s (Serves i) = (0 < i) × (i ≤ s.group.count) × (queue_of s.up i ≡ [] → ⊥)
-MayMove s (Takes i) = (0 < i) × (i ≤ s.group.count) × (queue_of s.down i ≡ [] → ⊥)
-MayMove s (Flips i n) = (0 < i) × (i ≤ s.group.count) × (queue_of s.down i ≡ [] → ⊥)
-MayMove s (Hears i payload) = (0 < i) × (i ≤ s.group.count) × AreBytes payload
-MayMove s (Resends i) = (0 < i) × (i ≤ s.group.count)
-MayMove s (Copies n t) = is_server s n ≡ true
-MayMove s (Joins i n) = (0 < i) × (i ≤ s.group.count) × (is_server s n ≡ true)
+abbrev pub MayHappen : {V : Type 0} → SceneOf V → Event → Type 0
+MayHappen s (Asks i given) = (0 < i) × (i ≤ s.group.count) × MayAsk s i given
+MayHappen s (Serves i) = (0 < i) × (i ≤ s.group.count) × (queue_of s.up i ≡ [] → ⊥)
+MayHappen s (Takes i) = (0 < i) × (i ≤ s.group.count) × (queue_of s.down i ≡ [] → ⊥)
+MayHappen s (Flips i n) = (0 < i) × (i ≤ s.group.count) × (queue_of s.down i ≡ [] → ⊥)
+MayHappen s (Hears i payload) = (0 < i) × (i ≤ s.group.count) × AreBytes payload
+MayHappen s (Resends i) = (0 < i) × (i ≤ s.group.count)
+MayHappen s (Copies n t) = is_server s n ≡ true
+MayHappen s (Joins i n) = (0 < i) × (i ≤ s.group.count) × (is_server s n ≡ true)
 
 -- each move is one that may be made after those before it
-abbrev pub MayMoves : {V : Type 0} → Serving V → SceneOf V → List Move → Type 0
-MayMoves rule s [] = Unit {0}
-MayMoves rule s (m ∷ before) = MayMoves rule s before × MayMove (after_moves rule s before) m
+abbrev pub MayAllHappen : {V : Type 0} → Serving V → SceneOf V → List Event → Type 0
+MayAllHappen rule s [] = Unit {0}
+MayAllHappen rule s (m ∷ before) = MayAllHappen rule s before × MayHappen (after_events rule s before) m

@@ -12,20 +12,20 @@ use Rattle.vic_rules.specs.declared.trace.TraceStep.{TraceStep}
 use Rattle.vic_rules.specs.History.{standing, IsLawful}
 use Rattle.vic_order.specs.Order.{Server, fresh_server, ready, serve}
 use Rattle.vic_order.specs.Serving.{Serving, by_rule}
-use Rattle.vic_order.specs.Honest.{IsHonestMove, MayHonestly, scene_after, AreHonest, IsHonestRun, ruled}
-use Rattle.vic_honest.proofs.Moves.{after-group}
+use Rattle.vic_order.specs.Honest.{IsHonestEvent, MayHonestly, scene_after, AreHonest, IsHonestRun, ruled}
+use Rattle.vic_honest.proofs.Events.{after-group}
 use Rattle.vic_honest.proofs.Worlds.{server_of-one}
 use Rattle.vic_honest.proofs.Runs.{run_fits, all_lawful}
 use Rattle.vic_script.specs.declared.line.Line.{Line}
-use Rattle.vic_order.specs.Scenes.{Queue, Scene, SceneOf, opening_with, queue_of, set_queue, server_at, set_server, server_of, is_server, steps, served_with, served, serves, taken, takes, unchanged, Move, Asks, Serves, Takes, Flips, Hears, Resends, Copies, Joins, moved, after_moves, MayAsk, MayMove, MayMoves}
-use Rattle.vic_script.specs.Scenes.{turns, moves_of, done_line, bad_kind, is_honest_line}
+use Rattle.vic_order.specs.Scenes.{Queue, Scene, SceneOf, opening_with, queue_of, set_queue, server_at, set_server, server_of, is_server, steps, served_with, served, serves, taken, takes, unchanged, Event, Asks, Serves, Takes, Flips, Hears, Resends, Copies, Joins, happens, after_events, MayAsk, MayHappen, MayAllHappen}
+use Rattle.vic_script.specs.Scenes.{turns, events_of, done_line, bad_kind, is_honest_line}
 use Rattle.vic_runs.specs.Claims.{FitsLine}
 use Rattle.vic_runs.specs.Reached.{HoldsBytes, IsHonestlyReached}
 use Rattle.vic_runs.proofs.Counting.{calls-step, calls-payload}
 use Rattle.vic_runs.proofs.Kept.{IsKept}
 use Rattle.vic_runs.proofs.Scenes.{step_by}
 use Rattle.vic_runs.proofs.Seats.{IsSeated}
-use Rattle.vic_runs.proofs.Moves.{asked, asks, kept-after}
+use Rattle.vic_runs.proofs.Events.{asked, asks, kept-after}
 use Rattle.vic_runs.proofs.Lines.{HasCallLeft, turns-may, turns-honest, turns-ask, line-may, line-asks, line-honest}
 use Rattle.vic_runs.proofs.Lists.{all-set, all-replicate}
 use Rattle.vic_runs.proofs.Queues.{queue-bytes, queued-bytes}
@@ -39,12 +39,12 @@ may-ask s server i input.Sync may = may
 may-ask s server i (input.Payload payload) may = absurd may
 
 -- one more honest move
-one_more : (s : Scene) (server : Server) (moves : List Move) → IsHonestRun s server moves → (m : Move) → MayHonestly s m → (next : Scene) (after : Server) → moved by_rule s m ≡ next → next.group ≡ s.group
-    → server_at next.servers 1 ≡ Some after → IsHonestRun next after (m ∷ moves)
-one_more s server moves run m may next after is same one = record {
+one_more : (s : Scene) (server : Server) (events : List Event) → IsHonestRun s server events → (m : Event) → MayHonestly s m → (next : Scene) (after : Server) → happens by_rule s m ≡ next → next.group ≡ s.group
+    → server_at next.servers 1 ≡ Some after → IsHonestRun next after (m ∷ events)
+one_more s server events run m may next after is same one = record {
   group = subst IsGroup (sym same) run.group;
-  may = subst (λ g. AreHonest g (m ∷ moves)) (sym same) (run.may, subst (λ t. MayHonestly t m) run.is may);
-  is = sym is ∙ ap (λ t. moved by_rule t m) run.is ∙ ap (λ g. scene_after g (m ∷ moves)) (sym same);
+  may = subst (λ g. AreHonest g (m ∷ events)) (sym same) (run.may, subst (λ t. MayHonestly t m) run.is may);
+  is = sym is ∙ ap (λ t. happens by_rule t m) run.is ∙ ap (λ g. scene_after g (m ∷ events)) (sym same);
   one = one;
 }
 
@@ -58,7 +58,7 @@ module _ {V : Type 0} (R : V → Server → Type 0) where
   unfolding standing
   honest-opening g server group plain same = record {
     comes = record {
-      moves = [];
+      events = [];
       server = fresh_server g.mode g.count ready;
       run = record { group = group; may = tt; is = refl; one = refl };
       own = server;
@@ -84,12 +84,12 @@ module _ {V : Type 0} (R : V → Server → Type 0) where
   honest-asked s n r i above upto given may =
       let g : Group = s.group in
       let next : Scene = ruled (steps s i given) r.comes.server in
-      let run : IsHonestRun next r.comes.server (Asks i given ∷ r.comes.moves) =
-      one_more (ruled s r.comes.server) r.comes.server r.comes.moves r.comes.run (Asks i given) (tt, (above, upto, may-ask s r.comes.server i given may)) next r.comes.server refl refl refl in
-      let lawful : IsLawful g (step_by g i given s.history ∷ s.history) = all_lawful next r.comes.server (Asks i given ∷ r.comes.moves) run in
+      let run : IsHonestRun next r.comes.server (Asks i given ∷ r.comes.events) =
+      one_more (ruled s r.comes.server) r.comes.server r.comes.events r.comes.run (Asks i given) (tt, (above, upto, may-ask s r.comes.server i given may)) next r.comes.server refl refl refl in
+      let lawful : IsLawful g (step_by g i given s.history ∷ s.history) = all_lawful next r.comes.server (Asks i given ∷ r.comes.events) run in
       record {
         comes = record {
-          moves = Asks i given ∷ r.comes.moves;
+          events = Asks i given ∷ r.comes.events;
           server = r.comes.server;
           run = run;
           own = r.comes.own;
@@ -105,11 +105,11 @@ module _ {V : Type 0} (R : V → Server → Type 0) where
 
   -- all clients are served by the one server
   pub by_one : (s : SceneOf V) (n : ℕ) → IsHonestlyReached R s n → (i : ℕ) → 0 < i → i ≤ s.group.count → server_of s.served_by i ≡ 1
-  by_one s n r i above upto = server_of-one s.served_by s.group.count i (run_fits (ruled s r.comes.server) r.comes.server r.comes.moves r.comes.run).one.by above upto
+  by_one s n r i above upto = server_of-one s.served_by s.group.count i (run_fits (ruled s r.comes.server) r.comes.server r.comes.events r.comes.run).one.by above upto
 
   serves_ruled : (rule : Serving V) (s : SceneOf V) (n : ℕ) → IsHonestlyReached R s n → (v : Server) (i : ℕ) → 0 < i → i ≤ s.group.count → (payload : List ℕ) (rest : Queue) → queue_of s.up i ≡ payload ∷ rest
       → (a : List ℕ × V) → a.0 ≡ answer_text (serve v i payload).answer → server_of s.served_by i ≡ 1
-      → moved by_rule (ruled s v) (Serves i) ≡ ruled (served_with s i rest a) (serve v i payload).next
+      → happens by_rule (ruled s v) (Serves i) ≡ ruled (served_with s i rest a) (serve v i payload).next
   unfolding serves
   serves_ruled rule s n r v i above upto payload rest waits a alike one =
       ap (λ q. served by_rule (ruled s v) i q (server_at (ruled s v).servers (server_of s.served_by i))) waits
@@ -131,9 +131,9 @@ module _ {V : Type 0} (R : V → Server → Type 0) where
       let alike = kept server r.comes.server (subst (λ v. R v r.comes.server) mine r.comes.same) i i payload (omega (arith, upto, few), (omega (arith, upto, few), bytes.0)) in
       record {
         comes = record {
-          moves = Serves i ∷ r.comes.moves;
+          events = Serves i ∷ r.comes.events;
           server = (serve r.comes.server i payload).next;
-          run = one_more (ruled s r.comes.server) r.comes.server r.comes.moves r.comes.run (Serves i) (tt, (above, upto, full)) (ruled (served_with s i rest a) (serve r.comes.server i payload).next) (serve r.comes.server i payload).next
+          run = one_more (ruled s r.comes.server) r.comes.server r.comes.events r.comes.run (Serves i) (tt, (above, upto, full)) (ruled (served_with s i rest a) (serve r.comes.server i payload).next) (serve r.comes.server i payload).next
               (serves_ruled rule s n r r.comes.server i above upto payload rest is a alike.0 one) refl refl;
           own = a.1;
           only = ap (λ k. set_server s.servers k (Some a.1)) one ∙ ap (λ l. set_server l 1 (Some a.1)) r.comes.only;
@@ -148,7 +148,7 @@ module _ {V : Type 0} (R : V → Server → Type 0) where
   unfolding serves
   honest-serves rule kept s n r i above upto = honest-served rule kept s n r i above upto (queue_of s.up i) refl (server_at s.servers (server_of s.served_by i)) refl
 
-  takes_ruled : (s : SceneOf V) (v : Server) (i : ℕ) (payload : List ℕ) (rest : Queue) → queue_of s.down i ≡ payload ∷ rest → moved by_rule (ruled s v) (Takes i) ≡ ruled (taken unchanged s i (payload ∷ rest)) v
+  takes_ruled : (s : SceneOf V) (v : Server) (i : ℕ) (payload : List ℕ) (rest : Queue) → queue_of s.down i ≡ payload ∷ rest → happens by_rule (ruled s v) (Takes i) ≡ ruled (taken unchanged s i (payload ∷ rest)) v
   unfolding takes steps
   takes_ruled s v i payload rest waits = ap (taken unchanged (ruled s v) i) waits
 
@@ -159,12 +159,12 @@ module _ {V : Type 0} (R : V → Server → Type 0) where
       let g : Group = s.group in
       let full : queue_of s.down i ≡ [] → ⊥ = λ e. let none = sym is ∙ e in absurd cc in
       let next : Scene = ruled (taken unchanged s i (payload ∷ rest)) r.comes.server in
-      let run : IsHonestRun next r.comes.server (Takes i ∷ r.comes.moves) =
-      one_more (ruled s r.comes.server) r.comes.server r.comes.moves r.comes.run (Takes i) (tt, (above, upto, full)) next r.comes.server (takes_ruled s r.comes.server i payload rest is) refl refl in
-      let lawful : IsLawful g (step_by g i (input.Payload payload) s.history ∷ s.history) = all_lawful next r.comes.server (Takes i ∷ r.comes.moves) run in
+      let run : IsHonestRun next r.comes.server (Takes i ∷ r.comes.events) =
+      one_more (ruled s r.comes.server) r.comes.server r.comes.events r.comes.run (Takes i) (tt, (above, upto, full)) next r.comes.server (takes_ruled s r.comes.server i payload rest is) refl refl in
+      let lawful : IsLawful g (step_by g i (input.Payload payload) s.history ∷ s.history) = all_lawful next r.comes.server (Takes i ∷ r.comes.events) run in
       record {
         comes = record {
-          moves = Takes i ∷ r.comes.moves;
+          events = Takes i ∷ r.comes.events;
           server = r.comes.server;
           run = run;
           own = r.comes.own;
@@ -180,27 +180,27 @@ module _ {V : Type 0} (R : V → Server → Type 0) where
   unfolding takes
   honest-takes s n r i above upto = honest-taken s n r i above upto (queue_of s.down i) refl
 
-  -- ---- moves
+  -- ---- events
 
   -- an honest move that may be made leads on to such a scene
-  honest-moved : (rule : Serving V) → IsKept rule R → (s : SceneOf V) (n : ℕ) (m : Move) → IsHonestlyReached R s n → MayMove s m → IsHonestMove m → IsHonestlyReached R (moved rule s m) (n + asked m)
-  honest-moved rule kept s n (Asks i given) r may honest = honest-asked s n r i may.0 may.1 given may.2
-  honest-moved rule kept s n (Serves i) r may honest = honest-more _ n (n + 0) (omega arith) (honest-serves rule kept s n r i may.0 may.1)
-  honest-moved rule kept s n (Takes i) r may honest = honest-more _ n (n + 0) (omega arith) (honest-takes s n r i may.0 may.1)
-  honest-moved rule kept s n (Flips i k) r may honest = absurd honest
-  honest-moved rule kept s n (Hears i payload) r may honest = absurd honest
-  honest-moved rule kept s n (Resends i) r may honest = absurd honest
-  honest-moved rule kept s n (Copies k t) r may honest = absurd honest
-  honest-moved rule kept s n (Joins i k) r may honest = absurd honest
+  honest-happens : (rule : Serving V) → IsKept rule R → (s : SceneOf V) (n : ℕ) (m : Event) → IsHonestlyReached R s n → MayHappen s m → IsHonestEvent m → IsHonestlyReached R (happens rule s m) (n + asked m)
+  honest-happens rule kept s n (Asks i given) r may honest = honest-asked s n r i may.0 may.1 given may.2
+  honest-happens rule kept s n (Serves i) r may honest = honest-more _ n (n + 0) (omega arith) (honest-serves rule kept s n r i may.0 may.1)
+  honest-happens rule kept s n (Takes i) r may honest = honest-more _ n (n + 0) (omega arith) (honest-takes s n r i may.0 may.1)
+  honest-happens rule kept s n (Flips i k) r may honest = absurd honest
+  honest-happens rule kept s n (Hears i payload) r may honest = absurd honest
+  honest-happens rule kept s n (Resends i) r may honest = absurd honest
+  honest-happens rule kept s n (Copies k t) r may honest = absurd honest
+  honest-happens rule kept s n (Joins i k) r may honest = absurd honest
 
-  pub honest-after : (rule : Serving V) → IsKept rule R → (s : SceneOf V) (n : ℕ) (moves : List Move) → IsHonestlyReached R s n → MayMoves rule s moves → AllByRecursion IsHonestMove moves
-      → IsHonestlyReached R (after_moves rule s moves) (n + asks moves)
-  honest-after rule kept s n moves r may honest = kept-after rule (IsHonestlyReached R) IsHonestMove (honest-moved rule kept) s n moves r may honest
+  pub honest-after : (rule : Serving V) → IsKept rule R → (s : SceneOf V) (n : ℕ) (events : List Event) → IsHonestlyReached R s n → MayAllHappen rule s events → AllByRecursion IsHonestEvent events
+      → IsHonestlyReached R (after_events rule s events) (n + asks events)
+  honest-after rule kept s n events r may honest = kept-after rule (IsHonestlyReached R) IsHonestEvent (honest-happens rule kept) s n events r may honest
 
   -- each client has its queues and a server that exists
   pub honest-seated : (s : SceneOf V) (n : ℕ) → IsHonestlyReached R s n → IsSeated s
   honest-seated s n r =
-      let one = (run_fits (ruled s r.comes.server) r.comes.server r.comes.moves r.comes.run).one in
+      let one = (run_fits (ruled s r.comes.server) r.comes.server r.comes.events r.comes.run).one in
       record {
         up_count = one.up_count;
         down_count = one.down_count;
@@ -210,18 +210,18 @@ module _ {V : Type 0} (R : V → Server → Type 0) where
 
   -- what a run leaves that was cut off after so many turns, and also where the next request was served already
   pub honest-left : (rule : Serving V) → IsKept rule R → (s : SceneOf V) (n : ℕ) → IsHonestlyReached R s n → (i : ℕ) → 0 < i → i ≤ s.group.count → (k : ℕ)
-      → IsHonestlyReached R (after_moves rule s (turns rule k s i)) n × IsHonestlyReached R (serves rule (after_moves rule s (turns rule k s i)) i) n
+      → IsHonestlyReached R (after_events rule s (turns rule k s i)) n × IsHonestlyReached R (serves rule (after_events rule s (turns rule k s i)) i) n
   honest-left rule kept s n r i above upto k =
-      let moves : List Move = turns rule k s i in
-      let turned : IsHonestlyReached R (after_moves rule s moves) n =
-      honest-more _ _ n (omega (arith, turns-ask rule k s i)) (honest-after rule kept s n moves r (turns-may rule k s (honest-seated s n r) i above upto) (turns-honest rule k s i)) in
-      let count : (after_moves rule s moves).group.count ≡ s.group.count = ap (λ g. g.count) (after-group rule s moves) in
-      (turned, honest-serves rule kept (after_moves rule s moves) n turned i above (omega (arith, upto, count)))
+      let events : List Event = turns rule k s i in
+      let turned : IsHonestlyReached R (after_events rule s events) n =
+      honest-more _ _ n (omega (arith, turns-ask rule k s i)) (honest-after rule kept s n events r (turns-may rule k s (honest-seated s n r) i above upto) (turns-honest rule k s i)) in
+      let count : (after_events rule s events).group.count ≡ s.group.count = ap (λ g. g.count) (after-group rule s events) in
+      (turned, honest-serves rule kept (after_events rule s events) n turned i above (omega (arith, upto, count)))
 
   -- an honest line that isn't bad leads on to such a scene
   pub honest-line : (rule : Serving V) → IsKept rule R → (s : SceneOf V) (n : ℕ) (l : Line) → IsHonestlyReached R s n → HasCallLeft s l → bad_kind s l ≡ None → FitsLine l → is_honest_line l ≡ true
       → IsHonestlyReached R (done_line rule s l).scene (n + 1)
   honest-line rule kept s n l r left good fits honest =
-      let lawful : IsLawful s.group s.history = all_lawful (ruled s r.comes.server) r.comes.server r.comes.moves r.comes.run in
+      let lawful : IsLawful s.group s.history = all_lawful (ruled s r.comes.server) r.comes.server r.comes.events r.comes.run in
       honest-more _ _ (n + 1) (omega (arith, line-asks rule s l))
-      (honest-after rule kept s n (moves_of rule s l) r (line-may rule s l (honest-seated s n r) lawful r.plain left good fits) (line-honest rule s l honest))
+      (honest-after rule kept s n (events_of rule s l) r (line-may rule s l (honest-seated s n r) lawful r.plain left good fits) (line-honest rule s l honest))

@@ -5,7 +5,7 @@ pub mod Servers
 pub mod Tests
 pub mod Scenes
 pub mod Seats
-pub mod Moves
+pub mod Events
 pub mod Counting
 pub mod Keeping
 pub mod Sent

@@ -1,4 +1,4 @@
--- The moves of a line that isn't bad may be made.
+-- The events of a line that isn't bad may be made.
 use Rattle.std.proofs.Common.{◌≡◌, ℕ, zero, suc, ◌+◌, ◌<◌, ◌≤◌, ◌^◌, Bool, true, false, List, [], ◌∷◌, ◌++◌, length, Option, Some, None, is_some, refl, ap, arith}
 use Rattle.std.specs.Prelude.{if◌then◌else◌, nat_eq}
 use Rattle.std.specs.List.{AllByRecursion}
@@ -6,20 +6,20 @@ use Rattle.vic_dict.specs.Lists.{AreBytes}
 use Rattle.vic_dict.specs.declared.op.Mode.TheVariants as mode
 use Rattle.vic_rules.specs.History.{IsLawful}
 use Rattle.vic_order.specs.Serving.{Serving}
-use Rattle.vic_order.specs.Scenes.{SceneOf, queue_of, stands, last_taken, last_sent, is_client, is_server, waits_in, has_byte, serves, Move, Serves, Takes, after_moves, MayMoves}
-use Rattle.vic_order.specs.Honest.{IsHonestMove}
-use Rattle.vic_honest.proofs.Moves.{after-group, serves-group}
+use Rattle.vic_order.specs.Scenes.{SceneOf, queue_of, stands, last_taken, last_sent, is_client, is_server, waits_in, has_byte, serves, Event, Serves, Takes, after_events, MayAllHappen}
+use Rattle.vic_order.specs.Honest.{IsHonestEvent}
+use Rattle.vic_honest.proofs.Events.{after-group, serves-group}
 use Rattle.vic_script.specs.declared.line.Line.{Line}
 use Rattle.vic_script.specs.declared.line.Line.TheVariants as line
 use Rattle.vic_script.specs.Lines.{is_place}
-use Rattle.vic_script.specs.Scenes.{hears_if, turns, most_turns, moves_of, bad_kind, is_honest_line}
+use Rattle.vic_script.specs.Scenes.{hears_if, turns, most_turns, events_of, bad_kind, is_honest_line}
 use Rattle.vic_runs.specs.Claims.{FitsLine}
 use Rattle.vic_runs.specs.Reached.{IfThere}
 use Rattle.vic_runs.proofs.Tests.{client_first, passed_last, asked_is, called_is, waits_is, full, has_byte_waits}
 use Rattle.vic_runs.proofs.Scenes.{serves-waits}
 use Rattle.vic_runs.proofs.Seats.{IsSeated, seated-server, seated-after}
 use Rattle.vic_runs.proofs.Sent.{last_taken-bytes}
-use Rattle.vic_runs.proofs.Moves.{asks, may-joined, good-joined, asks-joined}
+use Rattle.vic_runs.proofs.Events.{asks, may-joined, good-joined, asks-joined}
 
 -- the client of a line that calls may call once more
 abbrev pub HasCallLeft : {V : Type 0} → SceneOf V → Line → Type 0
@@ -48,47 +48,47 @@ few_calls s n calls few line.Skip = tt
 -- ---- serve and take in turn
 
 module _ {V : Type 0} (rule : Serving V) where
-  by_test : (P : List Move → Type 0) (b : Bool) (some : List Move) → P [] → (b ≡ false → P some) → P (if b then [] else some)
+  by_test : (P : List Event → Type 0) (b : Bool) (some : List Event) → P [] → (b ≡ false → P some) → P (if b then [] else some)
   by_test P true some none h = none
   by_test P false some none h = h refl
 
-  pub turns-may : (k : ℕ) (s : SceneOf V) → IsSeated s → (i : ℕ) → 0 < i → i ≤ s.group.count → MayMoves rule s (turns rule k s i)
+  pub turns-may : (k : ℕ) (s : SceneOf V) → IsSeated s → (i : ℕ) → 0 < i → i ≤ s.group.count → MayAllHappen rule s (turns rule k s i)
   unfolding turns
   turns-may zero s h i above upto = tt
   turns-may (suc k) s h i above upto =
-      by_test (MayMoves rule s) (nat_eq (length (queue_of s.up i)) 0) (turns rule k (after_moves rule s (Takes i ∷ Serves i ∷ [])) i ++ Takes i ∷ Serves i ∷ []) tt (λ e.
+      by_test (MayAllHappen rule s) (nat_eq (length (queue_of s.up i)) 0) (turns rule k (after_events rule s (Takes i ∷ Serves i ∷ [])) i ++ Takes i ∷ Serves i ∷ []) tt (λ e.
       let waits = full (queue_of s.up i) e in
       let served : SceneOf V = serves rule s i in
       let answer = serves-waits rule s i above (omega (arith, upto, h.down_count)) waits (seated-server s h i above upto) in
       let count : served.group.count ≡ s.group.count = ap (λ g. g.count) (serves-group rule s i) in
-      let two : MayMoves rule s (Takes i ∷ Serves i ∷ []) = ((tt, (above, upto, waits)), (above, omega (arith, upto, count), answer)) in
-      let next : SceneOf V = after_moves rule s (Takes i ∷ Serves i ∷ []) in
+      let two : MayAllHappen rule s (Takes i ∷ Serves i ∷ []) = ((tt, (above, upto, waits)), (above, omega (arith, upto, count), answer)) in
+      let next : SceneOf V = after_events rule s (Takes i ∷ Serves i ∷ []) in
       let later : next.group.count ≡ s.group.count = ap (λ g. g.count) (after-group rule s (Takes i ∷ Serves i ∷ [])) in
       may-joined rule s (turns rule k next i) (Takes i ∷ Serves i ∷ []) two (turns-may k next (seated-after rule s (Takes i ∷ Serves i ∷ []) h two) i above (omega (arith, upto, later))))
 
   -- they are honest, and ask nothing
-  pub turns-honest : (k : ℕ) (s : SceneOf V) (i : ℕ) → AllByRecursion IsHonestMove (turns rule k s i)
+  pub turns-honest : (k : ℕ) (s : SceneOf V) (i : ℕ) → AllByRecursion IsHonestEvent (turns rule k s i)
   unfolding turns
   turns-honest zero s i = tt
   turns-honest (suc k) s i =
-      by_test (AllByRecursion IsHonestMove) (nat_eq (length (queue_of s.up i)) 0) (turns rule k (after_moves rule s (Takes i ∷ Serves i ∷ [])) i ++ Takes i ∷ Serves i ∷ []) tt
-      (λ e. good-joined rule IsHonestMove (turns rule k (after_moves rule s (Takes i ∷ Serves i ∷ [])) i) (Takes i ∷ Serves i ∷ []) (turns-honest k (after_moves rule s (Takes i ∷ Serves i ∷ [])) i) (tt, (tt, tt)))
+      by_test (AllByRecursion IsHonestEvent) (nat_eq (length (queue_of s.up i)) 0) (turns rule k (after_events rule s (Takes i ∷ Serves i ∷ [])) i ++ Takes i ∷ Serves i ∷ []) tt
+      (λ e. good-joined rule IsHonestEvent (turns rule k (after_events rule s (Takes i ∷ Serves i ∷ [])) i) (Takes i ∷ Serves i ∷ []) (turns-honest k (after_events rule s (Takes i ∷ Serves i ∷ [])) i) (tt, (tt, tt)))
 
   pub turns-ask : (k : ℕ) (s : SceneOf V) (i : ℕ) → asks (turns rule k s i) ≡ 0
   unfolding turns
   turns-ask zero s i = refl
   turns-ask (suc k) s i =
-      by_test (λ moves. asks moves ≡ 0) (nat_eq (length (queue_of s.up i)) 0) (turns rule k (after_moves rule s (Takes i ∷ Serves i ∷ [])) i ++ Takes i ∷ Serves i ∷ []) refl
-      (λ e. omega (arith, asks-joined rule (turns rule k (after_moves rule s (Takes i ∷ Serves i ∷ [])) i) (Takes i ∷ Serves i ∷ []), turns-ask k (after_moves rule s (Takes i ∷ Serves i ∷ [])) i))
+      by_test (λ events. asks events ≡ 0) (nat_eq (length (queue_of s.up i)) 0) (turns rule k (after_events rule s (Takes i ∷ Serves i ∷ [])) i ++ Takes i ∷ Serves i ∷ []) refl
+      (λ e. omega (arith, asks-joined rule (turns rule k (after_events rule s (Takes i ∷ Serves i ∷ [])) i) (Takes i ∷ Serves i ∷ []), turns-ask k (after_events rule s (Takes i ∷ Serves i ∷ [])) i))
 
   -- ---- the lines
 
-  hears-may : (s : SceneOf V) (i : ℕ) → 0 < i → i ≤ s.group.count → (o : Option (List ℕ)) → IfThere AreBytes o → MayMoves rule s (hears_if i o)
+  hears-may : (s : SceneOf V) (i : ℕ) → 0 < i → i ≤ s.group.count → (o : Option (List ℕ)) → IfThere AreBytes o → MayAllHappen rule s (hears_if i o)
   hears-may s i above upto None bytes = tt
   hears-may s i above upto (Some payload) bytes = (tt, (above, upto, bytes))
 
   -- in a group without objects whose clients step by the rules
-  pub line-may : (s : SceneOf V) (l : Line) → IsSeated s → IsLawful s.group s.history → s.group.mode ≡ mode.Plain → HasCallLeft s l → bad_kind s l ≡ None → FitsLine l → MayMoves rule s (moves_of rule s l)
+  pub line-may : (s : SceneOf V) (l : Line) → IsSeated s → IsLawful s.group s.history → s.group.mode ≡ mode.Plain → HasCallLeft s l → bad_kind s l ≡ None → FitsLine l → MayAllHappen rule s (events_of rule s l)
   unfolding bad_kind
   line-may s (line.Clients count) h lawful plain left good fits = tt
   line-may s (line.Key digits) h lawful plain left good fits = tt
@@ -117,7 +117,7 @@ module _ {V : Type 0} (rule : Serving V) where
   hears-ask i (Some payload) = omega arith
 
   -- a line asks at most once
-  pub line-asks : (s : SceneOf V) (l : Line) → asks (moves_of rule s l) ≤ 1
+  pub line-asks : (s : SceneOf V) (l : Line) → asks (events_of rule s l) ≤ 1
   line-asks s (line.Clients count) = omega arith
   line-asks s (line.Key digits) = omega arith
   line-asks s (line.Hostile name k) = omega arith
@@ -135,8 +135,8 @@ module _ {V : Type 0} (rule : Serving V) where
   line-asks s (line.Move i k) = omega arith
   line-asks s line.Skip = omega arith
 
-  -- an honest line makes honest moves
-  pub line-honest : (s : SceneOf V) (l : Line) → is_honest_line l ≡ true → AllByRecursion IsHonestMove (moves_of rule s l)
+  -- an honest line makes honest events
+  pub line-honest : (s : SceneOf V) (l : Line) → is_honest_line l ≡ true → AllByRecursion IsHonestEvent (events_of rule s l)
   line-honest s (line.Clients count) e = tt
   line-honest s (line.Key digits) e = tt
   line-honest s (line.Hostile name k) e = tt

@@ -10,8 +10,8 @@ use Rattle.vic_order.specs.Serving.{Serving, by_rule}
 use Rattle.vic_script.specs.declared.line.Line.{Line}
 use Rattle.vic_script.specs.declared.line.Line.TheVariants as line
 use Rattle.vic_script.specs.Lines.{lines_of, line_of}
-use Rattle.vic_order.specs.Scenes.{Queue, SceneOf, Scene, queue_of, set_queue, server_at, server_of, steps, served, serves, taken, takes, unchanged, flipped, Move, Asks, Serves, Takes, Flips, Hears, Resends, Copies, Joins, moved, after_moves, MayAsk, MayMove, MayMoves}
-use Rattle.vic_script.specs.Scenes.{returned_in, said, print_of_move, print_of_moves, Shown, moves_of, done_line, bad_kind}
+use Rattle.vic_order.specs.Scenes.{Queue, SceneOf, Scene, queue_of, set_queue, server_at, server_of, steps, served, serves, taken, takes, unchanged, flipped, Event, Asks, Serves, Takes, Flips, Hears, Resends, Copies, Joins, happens, after_events, MayAsk, MayHappen, MayAllHappen}
+use Rattle.vic_script.specs.Scenes.{returned_in, said, print_of_event, print_of_events, Shown, events_of, done_line, bad_kind}
 use Rattle.vic_script.specs.Run.{limit, Played, Tried, Fails, Does, tried_by, try_line, mode_in, history_in}
 use Rattle.vic_runs.specs.Claims.{line_of_step, PrintsAreReturns}
 use Rattle.vic_runs.proofs.Lists.{all_each}
@@ -32,8 +32,8 @@ told-next x past = ap (flat_map line_of_step) (reverse-append (x ∷ []) past) �
 
 module _ {V : Type 0} (rule : Serving V) where
   -- what a move prints is what its step tells, if it makes one
-  abbrev IsTold : SceneOf V → Move → Type 0
-  IsTold s m = told (moved rule s m).history ≡ told s.history ++ print_of_move m (moved rule s m).history
+  abbrev IsTold : SceneOf V → Event → Type 0
+  IsTold s m = told (happens rule s m).history ≡ told s.history ++ print_of_event m (happens rule s m).history
 
   told-same : (s : SceneOf V) → told s.history ≡ told s.history ++ []
   told-same s = sym (append-nil (told s.history))
@@ -69,22 +69,22 @@ module _ {V : Type 0} (rule : Serving V) where
   unfolding takes
   told-takes change s i waits = told-taken change s i (queue_of s.down i) waits
 
-  told-moved : (s : SceneOf V) (m : Move) → MayMove s m → IsTold s m
-  told-moved s (Asks i given) may = told-asked s i given may.2
-  told-moved s (Serves i) may = told-serves s i
-  told-moved s (Takes i) may = told-takes unchanged s i may.2
-  told-moved s (Flips i n) may = told-takes (flipped n) s i may.2
-  told-moved s (Hears i payload) may = told-heard s i payload
-  told-moved s (Resends i) may = told-same s
-  told-moved s (Copies n t) may = told-same s
-  told-moved s (Joins i n) may = told-same s
+  told-happens : (s : SceneOf V) (m : Event) → MayHappen s m → IsTold s m
+  told-happens s (Asks i given) may = told-asked s i given may.2
+  told-happens s (Serves i) may = told-serves s i
+  told-happens s (Takes i) may = told-takes unchanged s i may.2
+  told-happens s (Flips i n) may = told-takes (flipped n) s i may.2
+  told-happens s (Hears i payload) may = told-heard s i payload
+  told-happens s (Resends i) may = told-same s
+  told-happens s (Copies n t) may = told-same s
+  told-happens s (Joins i n) may = told-same s
 
-  -- what moves print is what their steps tell
-  pub told-after : (s : SceneOf V) (moves : List Move) → MayMoves rule s moves → told (after_moves rule s moves).history ≡ told s.history ++ print_of_moves rule s moves
+  -- what events print is what their steps tell
+  pub told-after : (s : SceneOf V) (events : List Event) → MayAllHappen rule s events → told (after_events rule s events).history ≡ told s.history ++ print_of_events rule s events
   told-after s [] may = told-same s
   told-after s (m ∷ before) may =
-      told-moved (after_moves rule s before) m may.1 ∙ ap (λ front. front ++ print_of_move m (moved rule (after_moves rule s before) m).history) (told-after s before may.0)
-      ∙ append_assoc (told s.history) (print_of_moves rule s before) (print_of_move m (moved rule (after_moves rule s before) m).history)
+      told-happens (after_events rule s before) m may.1 ∙ ap (λ front. front ++ print_of_event m (happens rule (after_events rule s before) m).history) (told-after s before may.0)
+      ∙ append_assoc (told s.history) (print_of_events rule s before) (print_of_event m (happens rule (after_events rule s before) m).history)
 
 -- ---- a line that was tried
 
@@ -121,7 +121,7 @@ tells None (Some l) n h few fits = tells-first l
 tells (Some s) None n h few fits = tt
 tells (Some s) (Some l) n h few fits =
     tells-by s (bad_kind s l) (done_line by_rule s l) (λ good.
-    told-after by_rule s (moves_of by_rule s l) (line-may by_rule s l (reached-seated s n h) h.lawful h.plain (few_calls s n h.calls few l) good fits))
+    told-after by_rule s (events_of by_rule s l) (line-may by_rule s l (reached-seated s n h) h.lawful h.plain (few_calls s n h.calls few l) good fits))
 
 -- ---- all lines
 

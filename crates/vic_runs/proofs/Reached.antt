@@ -11,9 +11,9 @@ use Rattle.vic_rules.specs.Client.{MayStep}
 use Rattle.vic_rules.specs.History.{standing, IsLawful}
 use Rattle.vic_order.specs.Order.{Server, ready, serve}
 use Rattle.vic_order.specs.Serving.{by_rule}
-use Rattle.vic_order.specs.Scenes.{Queue, Scene, opening, queue_of, set_queue, server_at, server_of, stands, steps, served, serves, taken, takes, unchanged, flipped, last_sent, resends, copies, joins, is_server, Move, Asks, Serves, Takes, Flips, Hears, Resends, Copies, Joins, moved, after_moves, MayMove, MayMoves}
+use Rattle.vic_order.specs.Scenes.{Queue, Scene, opening, queue_of, set_queue, server_at, server_of, stands, steps, served, serves, taken, takes, unchanged, flipped, last_sent, resends, copies, joins, is_server, Event, Asks, Serves, Takes, Flips, Hears, Resends, Copies, Joins, happens, after_events, MayHappen, MayAllHappen}
 use Rattle.vic_script.specs.declared.line.Line.{Line}
-use Rattle.vic_script.specs.Scenes.{moves_of, done_line, bad_kind}
+use Rattle.vic_script.specs.Scenes.{events_of, done_line, bad_kind}
 use Rattle.vic_script.specs.Run.{plain_group}
 use Rattle.vic_runs.specs.Claims.{FitsLine}
 use Rattle.vic_runs.specs.Reached.{ServerHolds, IfThere, HoldsBytes, IsReached}
@@ -26,7 +26,7 @@ use Rattle.vic_runs.proofs.Scenes.{step_by}
 use Rattle.vic_runs.proofs.Counting.{calls-step, calls-payload}
 use Rattle.vic_runs.proofs.Keeping.{holds-fresh, holds-serve}
 use Rattle.vic_runs.proofs.Sent.{sent-bytes, last_sent-bytes, flipped-bytes}
-use Rattle.vic_runs.proofs.Moves.{asked, asks, kept-after, may-step}
+use Rattle.vic_runs.proofs.Events.{asked, asks, kept-after, may-step}
 use Rattle.vic_runs.proofs.Lines.{HasCallLeft, line-may, line-asks}
 
 -- ---- what such a scene has
@@ -236,30 +236,30 @@ reached-joins s n r i k there =
       servers = r.servers;
     }
 
--- ---- moves
+-- ---- events
 
-abbrev Any : Move → Type 0
+abbrev Any : Event → Type 0
 Any m = Unit {0}
 
-any : (moves : List Move) → AllByRecursion Any moves
+any : (events : List Event) → AllByRecursion Any events
 any [] = tt
 any (m ∷ before) = (tt, any before)
 
 -- a move that may be made leads on to a scene that is reached
-reached-moved : (s : Scene) (n : ℕ) (m : Move) → IsReached s n → MayMove s m → Any m → IsReached (moved by_rule s m) (n + asked m)
-reached-moved s n (Asks i given) r may any = reached-steps s n r i may.0 may.1 given (may-step s i given may.2)
-reached-moved s n (Serves i) r may any = reached-more _ n (n + 0) (omega arith) (reached-serves s n r i may.0 may.1)
-reached-moved s n (Takes i) r may any = reached-more _ n (n + 0) (omega arith) (reached-takes unchanged (λ payload bytes. bytes) s n r i may.0 may.1)
-reached-moved s n (Flips i k) r may any = reached-more _ n (n + 0) (omega arith) (reached-takes (flipped k) (flipped-bytes k) s n r i may.0 may.1)
-reached-moved s n (Hears i payload) r may any = reached-more _ n (n + 0) (omega arith) (reached-payload s n r i may.0 may.1 payload may.2)
-reached-moved s n (Resends i) r may any = reached-more _ n (n + 0) (omega arith) (reached-resends s n r i)
-reached-moved s n (Copies k t) r may any = reached-more _ n (n + 0) (omega arith) (reached-copies s n r k t may)
-reached-moved s n (Joins i k) r may any = reached-more _ n (n + 0) (omega arith) (reached-joins s n r i k may.2)
+reached-happens : (s : Scene) (n : ℕ) (m : Event) → IsReached s n → MayHappen s m → Any m → IsReached (happens by_rule s m) (n + asked m)
+reached-happens s n (Asks i given) r may any = reached-steps s n r i may.0 may.1 given (may-step s i given may.2)
+reached-happens s n (Serves i) r may any = reached-more _ n (n + 0) (omega arith) (reached-serves s n r i may.0 may.1)
+reached-happens s n (Takes i) r may any = reached-more _ n (n + 0) (omega arith) (reached-takes unchanged (λ payload bytes. bytes) s n r i may.0 may.1)
+reached-happens s n (Flips i k) r may any = reached-more _ n (n + 0) (omega arith) (reached-takes (flipped k) (flipped-bytes k) s n r i may.0 may.1)
+reached-happens s n (Hears i payload) r may any = reached-more _ n (n + 0) (omega arith) (reached-payload s n r i may.0 may.1 payload may.2)
+reached-happens s n (Resends i) r may any = reached-more _ n (n + 0) (omega arith) (reached-resends s n r i)
+reached-happens s n (Copies k t) r may any = reached-more _ n (n + 0) (omega arith) (reached-copies s n r k t may)
+reached-happens s n (Joins i k) r may any = reached-more _ n (n + 0) (omega arith) (reached-joins s n r i k may.2)
 
-pub reached-after : (s : Scene) (n : ℕ) (moves : List Move) → IsReached s n → MayMoves by_rule s moves → IsReached (after_moves by_rule s moves) (n + asks moves)
-reached-after s n moves r may = kept-after by_rule IsReached Any reached-moved s n moves r may (any moves)
+pub reached-after : (s : Scene) (n : ℕ) (events : List Event) → IsReached s n → MayAllHappen by_rule s events → IsReached (after_events by_rule s events) (n + asks events)
+reached-after s n events r may = kept-after by_rule IsReached Any reached-happens s n events r may (any events)
 
 -- a line that isn't bad leads on to a scene that is reached
 pub reached-line : (s : Scene) (n : ℕ) (l : Line) → IsReached s n → HasCallLeft s l → bad_kind s l ≡ None → FitsLine l → IsReached (done_line by_rule s l).scene (n + 1)
 reached-line s n l r left good fits =
-    reached-more _ _ (n + 1) (omega (arith, line-asks by_rule s l)) (reached-after s n (moves_of by_rule s l) r (line-may by_rule s l (reached-seated s n r) r.lawful r.plain left good fits))
+    reached-more _ _ (n + 1) (omega (arith, line-asks by_rule s l)) (reached-after s n (events_of by_rule s l) r (line-may by_rule s l (reached-seated s n r) r.lawful r.plain left good fits))

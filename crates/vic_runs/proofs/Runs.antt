@@ -206,9 +206,9 @@ honest-run script honest = claimed-run IsHonestText StandsHonest LeavesHonest ea
 
 -- ---- what each honest run is
 
--- what holds where honest moves lead
-pub holds_at : {V : Type 0} (R : V → Server → Type 0) (s : SceneOf V) (c : ComesHonestly R s) → IsHonestScene s c.moves c.server
-holds_at R s c = honest_runs_hold (ruled s c.server) c.server c.moves c.run
+-- what holds where honest events lead
+pub holds_at : {V : Type 0} (R : V → Server → Type 0) (s : SceneOf V) (c : ComesHonestly R s) → IsHonestScene s c.events c.server
+holds_at R s c = honest_runs_hold (ruled s c.server) c.server c.events c.run
 
 unforged-in : (scene : Option Scene) (n : ℕ) → HonestIn scene n → IsForged (group_in scene) (history_in scene) → ⊥
 unforged-in None n h forged = forged

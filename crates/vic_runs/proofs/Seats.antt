@@ -1,4 +1,4 @@
--- Each client of a scene has its queues and a server that exists, whatever moves are made.
+-- Each client of a scene has its queues and a server that exists, whatever events are made.
 use Rattle.std.proofs.Common.{◌≡◌, ℕ, ◌-◌, ◌<◌, ◌≤◌, true, List, [], ◌∷◌, length, Option, Some, None, refl, ◌∙◌, arith}
 use Rattle.std.specs.List.{AllByRecursion}
 use Rattle.std.proofs.lemmas.List.{length-replicate, length-set}
@@ -7,7 +7,7 @@ use Rattle.vic_rules.specs.declared.trace.Input.{Input}
 use Rattle.vic_rules.specs.declared.trace.Input.TheVariants as input
 use Rattle.vic_laws.proofs.Words.{all_weaker}
 use Rattle.vic_order.specs.Serving.{Serving}
-use Rattle.vic_order.specs.Scenes.{Queue, SceneOf, opening_with, queue_of, set_queue, server_at, server_of, steps, served, serves, taken, takes, unchanged, flipped, resends, copies, joins, is_server, Move, Asks, Serves, Takes, Flips, Hears, Resends, Copies, Joins, moved, after_moves, MayMove, MayMoves}
+use Rattle.vic_order.specs.Scenes.{Queue, SceneOf, opening_with, queue_of, set_queue, server_at, server_of, steps, served, serves, taken, takes, unchanged, flipped, resends, copies, joins, is_server, Event, Asks, Serves, Takes, Flips, Hears, Resends, Copies, Joins, happens, after_events, MayHappen, MayAllHappen}
 use Rattle.vic_runs.proofs.Lists.{all-set, all-at, all-replicate}
 use Rattle.vic_honest.proofs.Queues.{length-set_queue}
 use Rattle.vic_runs.proofs.Servers.{is_server-set}
@@ -84,16 +84,16 @@ module _ {V : Type 0} where
   }
 
   -- a move that may be made leaves each client its queues and a server that exists
-  pub seated-moved : (rule : Serving V) (s : SceneOf V) (m : Move) → IsSeated s → MayMove s m → IsSeated (moved rule s m)
-  seated-moved rule s (Asks i given) h may = seated-steps s h i given
-  seated-moved rule s (Serves i) h may = seated-serves rule s h i
-  seated-moved rule s (Takes i) h may = seated-takes unchanged s h i
-  seated-moved rule s (Flips i n) h may = seated-takes (flipped n) s h i
-  seated-moved rule s (Hears i payload) h may = seated-steps s h i (input.Payload payload)
-  seated-moved rule s (Resends i) h may = seated-resends s h i
-  seated-moved rule s (Copies n t) h may = seated-copies s h n t may
-  seated-moved rule s (Joins i n) h may = seated-joins s h i n may.2
+  pub seated-happens : (rule : Serving V) (s : SceneOf V) (m : Event) → IsSeated s → MayHappen s m → IsSeated (happens rule s m)
+  seated-happens rule s (Asks i given) h may = seated-steps s h i given
+  seated-happens rule s (Serves i) h may = seated-serves rule s h i
+  seated-happens rule s (Takes i) h may = seated-takes unchanged s h i
+  seated-happens rule s (Flips i n) h may = seated-takes (flipped n) s h i
+  seated-happens rule s (Hears i payload) h may = seated-steps s h i (input.Payload payload)
+  seated-happens rule s (Resends i) h may = seated-resends s h i
+  seated-happens rule s (Copies n t) h may = seated-copies s h n t may
+  seated-happens rule s (Joins i n) h may = seated-joins s h i n may.2
 
-  pub seated-after : (rule : Serving V) (s : SceneOf V) (moves : List Move) → IsSeated s → MayMoves rule s moves → IsSeated (after_moves rule s moves)
+  pub seated-after : (rule : Serving V) (s : SceneOf V) (events : List Event) → IsSeated s → MayAllHappen rule s events → IsSeated (after_events rule s events)
   seated-after rule s [] h may = h
-  seated-after rule s (m ∷ before) h may = seated-moved rule (after_moves rule s before) m (seated-after rule s before h may.0) may.1
+  seated-after rule s (m ∷ before) h may = seated-happens rule (after_events rule s before) m (seated-after rule s before h may.0) may.1

@@ -10,7 +10,7 @@ use Rattle.vic_rules.specs.declared.trace.TraceStep.{TraceStep}
 use Rattle.vic_rules.specs.Client.{awaits_nothing, first_failing}
 use Rattle.vic_order.specs.Order.{Server, same_mode}
 use Rattle.vic_order.specs.Serving.{Serving}
-use Rattle.vic_order.specs.Scenes.{SceneOf, queue_of, stands, Move, Asks, Serves, Takes, Flips, Hears, Resends, Copies, Joins, after_moves, last_taken, last_sent, is_client, is_server, waits_in, has_byte}
+use Rattle.vic_order.specs.Scenes.{SceneOf, queue_of, stands, Event, Asks, Serves, Takes, Flips, Hears, Resends, Copies, Joins, after_events, last_taken, last_sent, is_client, is_server, waits_in, has_byte}
 use Rattle.vic_script.specs.declared.line.Line.{Line}
 use Rattle.vic_script.specs.declared.line.Line.TheVariants as line
 use Rattle.vic_script.specs.Lines.{is_place}
@@ -29,20 +29,20 @@ said i None = decimal i ++ codes " took" ++ newline
 said i (Some o) = decimal i ++ codes " " ++ outcome_words o ++ newline
 
 -- what is printed of a move, by the history behind it: of one by which a client took a payload, what became of it
-abbrev pub print_of_move : Move → List TraceStep → List ℕ
-print_of_move (Asks i given) h = []
-print_of_move (Serves i) h = []
-print_of_move (Takes i) h = said i (returned_in h)
-print_of_move (Flips i n) h = said i (returned_in h)
-print_of_move (Hears i payload) h = said i (returned_in h)
-print_of_move (Resends i) h = []
-print_of_move (Copies n t) h = []
-print_of_move (Joins i n) h = []
+abbrev pub print_of_event : Event → List TraceStep → List ℕ
+print_of_event (Asks i given) h = []
+print_of_event (Serves i) h = []
+print_of_event (Takes i) h = said i (returned_in h)
+print_of_event (Flips i n) h = said i (returned_in h)
+print_of_event (Hears i payload) h = said i (returned_in h)
+print_of_event (Resends i) h = []
+print_of_event (Copies n t) h = []
+print_of_event (Joins i n) h = []
 
--- of moves, the newest first
-abbrev pub print_of_moves : {V : Type 0} → Serving V → SceneOf V → List Move → List ℕ
-print_of_moves rule s [] = []
-print_of_moves rule s (m ∷ before) = print_of_moves rule s before ++ print_of_move m (after_moves rule s (m ∷ before)).history
+-- of events, the newest first
+abbrev pub print_of_events : {V : Type 0} → Serving V → SceneOf V → List Event → List ℕ
+print_of_events rule s [] = []
+print_of_events rule s (m ∷ before) = print_of_events rule s before ++ print_of_event m (after_events rule s (m ∷ before)).history
 
 -- what a scene has become, and the text that was printed
 pub record ShownOf (V : Type 0) : Type 0 where
@@ -52,49 +52,49 @@ pub record ShownOf (V : Type 0) : Type 0 where
 abbrev pub Shown : Type 0
 Shown = ShownOf Server
 
-abbrev pub shown_after : {V : Type 0} → Serving V → SceneOf V → List Move → ShownOf V
-shown_after rule s moves = record { scene = after_moves rule s moves; text = print_of_moves rule s moves }
+abbrev pub shown_after : {V : Type 0} → Serving V → SceneOf V → List Event → ShownOf V
+shown_after rule s events = record { scene = after_events rule s events; text = print_of_events rule s events }
 
 -- ---- the lines
 
 -- a client takes a payload from elsewhere, if there is one
-abbrev pub hears_if : ℕ → Option (List ℕ) → List Move
+abbrev pub hears_if : ℕ → Option (List ℕ) → List Event
 hears_if i None = []
 hears_if i (Some payload) = Hears i payload ∷ []
 
 -- serve and take in turn while requests wait, at most so many times
-unfoldable pub turns : {V : Type 0} → Serving V → ℕ → SceneOf V → ℕ → List Move
+unfoldable pub turns : {V : Type 0} → Serving V → ℕ → SceneOf V → ℕ → List Event
 turns rule zero s i = []
 turns rule (suc n) s i =
     if nat_eq (length (queue_of s.up i)) 0 then []
-    else turns rule n (after_moves rule s (Takes i ∷ Serves i ∷ [])) i ++ Takes i ∷ Serves i ∷ []
+    else turns rule n (after_events rule s (Takes i ∷ Serves i ∷ [])) i ++ Takes i ∷ Serves i ∷ []
 
 -- the most turns of a run
 abbrev pub most_turns : ℕ
 most_turns = 2100
 
--- the moves of a line, the newest first, where it isn't bad
-abbrev pub moves_of : {V : Type 0} → Serving V → SceneOf V → Line → List Move
-moves_of rule s (line.Clients n) = []
-moves_of rule s (line.Key digits) = []
-moves_of rule s (line.Hostile name n) = []
-moves_of rule s (line.Call i o) = Asks i (input.Call o) ∷ []
-moves_of rule s (line.Poll i) = Asks i input.Poll ∷ []
-moves_of rule s (line.Sync i) = Asks i input.Sync ∷ []
-moves_of rule s (line.Serve i) = Serves i ∷ []
-moves_of rule s (line.Take i) = Takes i ∷ []
-moves_of rule s (line.Run i) = turns rule most_turns s i
-moves_of rule s (line.Give i payload) = Hears i payload ∷ []
-moves_of rule s (line.Again i) = hears_if i (last_taken i s.history)
-moves_of rule s (line.Flip i n) = Flips i n ∷ []
-moves_of rule s (line.Resend i) = Resends i ∷ []
-moves_of rule s (line.Copy n t) = Copies n t ∷ []
-moves_of rule s (line.Move i n) = Joins i n ∷ []
-moves_of rule s line.Skip = []
+-- the events of a line, the newest first, where it isn't bad
+abbrev pub events_of : {V : Type 0} → Serving V → SceneOf V → Line → List Event
+events_of rule s (line.Clients n) = []
+events_of rule s (line.Key digits) = []
+events_of rule s (line.Hostile name n) = []
+events_of rule s (line.Call i o) = Asks i (input.Call o) ∷ []
+events_of rule s (line.Poll i) = Asks i input.Poll ∷ []
+events_of rule s (line.Sync i) = Asks i input.Sync ∷ []
+events_of rule s (line.Serve i) = Serves i ∷ []
+events_of rule s (line.Take i) = Takes i ∷ []
+events_of rule s (line.Run i) = turns rule most_turns s i
+events_of rule s (line.Give i payload) = Hears i payload ∷ []
+events_of rule s (line.Again i) = hears_if i (last_taken i s.history)
+events_of rule s (line.Flip i n) = Flips i n ∷ []
+events_of rule s (line.Resend i) = Resends i ∷ []
+events_of rule s (line.Copy n t) = Copies n t ∷ []
+events_of rule s (line.Move i n) = Joins i n ∷ []
+events_of rule s line.Skip = []
 
 -- what it does, and what is printed of it
 abbrev pub done_line : {V : Type 0} → Serving V → SceneOf V → Line → ShownOf V
-done_line rule s l = shown_after rule s (moves_of rule s l)
+done_line rule s l = shown_after rule s (events_of rule s l)
 
 -- a key has 1 to 255 bytes
 abbrev pub is_key : List ℕ → Bool

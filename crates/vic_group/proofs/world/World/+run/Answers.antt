@@ -1,5 +1,5 @@
 use Rattle.std.proofs.Common.{◌≡◌, ◌-◌, true, false, [], ◌∷◌, subst, ◌∙◌, arith}
-use Rattle.vic_order.specs.Scenes.{SceneOf, serves, waits_in, Serves, Takes, after_moves}
+use Rattle.vic_order.specs.Scenes.{SceneOf, serves, waits_in, Serves, Takes, after_events}
 use Rattle.vic_script.specs.Scenes.{turns}
 use Rattle.vic_group.specs.World.{ShowsScene}
 use Rattle.vic_group.proofs.Turns.{serves_rest, turns_end, turns_rest, turns_on, answers, taken_aloud, runs_quietly, makes_on_if, left_unserved_if, left_untaken_if, left_later_if}
@@ -34,7 +34,7 @@ returns-clause-ok g t c = λ s shows.
     let mid = serves rule s c.args.who in
     let took = c.in_ok-take.ensures.ok mid served.1 in
     let turn = taken_aloud state rule mid c.args.who c.take.new.self c.args.out.now c.take.new.out c.in_ok-take.field-0 took.0 (answers state rule c.args.self.now s c.args.who c.args.place shows c.requires.place c.requires.within some) took.1 in
-    let next = after_moves rule s (Takes c.args.who ∷ Serves c.args.who ∷ []) in
+    let next = after_events rule s (Takes c.args.who ∷ Serves c.args.who ∷ []) in
     makes_on_if state rule c.run.result s (turns rule c.args.left s c.args.who) (turns rule (c.args.left - 1) next c.args.who) (Takes c.args.who ∷ Serves c.args.who ∷ []) c.args.out.now c.take.new.out c.run.new.out c.run.new.self
     (turns_on rule c.args.left (c.args.left - 1) s c.args.who (omega (arith, c.if-left-eq0.false)) some) turn.0 (c.run.ensures.ok next turn.1)
 
@@ -47,5 +47,5 @@ returns-clause-err g t c = λ s shows.
     let mid = serves rule s c.args.who in
     let took = c.in_ok-take.ensures.ok mid served.1 in
     let turn = taken_aloud state rule mid c.args.who c.take.new.self c.args.out.now c.take.new.out c.in_ok-take.field-0 took.0 (answers state rule c.args.self.now s c.args.who c.args.place shows c.requires.place c.requires.within some) took.1 in
-    let next = after_moves rule s (Takes c.args.who ∷ Serves c.args.who ∷ []) in
+    let next = after_events rule s (Takes c.args.who ∷ Serves c.args.who ∷ []) in
     left_later_if state rule c.run.result c.args.left (c.args.left - 1) s c.args.who c.run.new.self (omega (arith, c.if-left-eq0.false)) some (c.run.ensures.err next turn.1)

@@ -4,7 +4,7 @@ use Rattle.vic_wire.specs.Hashes.{Group}
 use Rattle.vic_rules.specs.declared.trace.Input.{Input}
 use Rattle.vic_rules.specs.declared.trace.Input.TheVariants as input
 use Rattle.vic_order.specs.Serving.{Serving, by_rule}
-use Rattle.vic_order.specs.Scenes.{Queue, SceneOf, queue_of, set_queue, server_at, server_of, steps, served, serves, taken, takes, unchanged, flipped, Move, Asks, Serves, Takes, Flips, Hears, Resends, Copies, Joins, moved, after_moves}
+use Rattle.vic_order.specs.Scenes.{Queue, SceneOf, queue_of, set_queue, server_at, server_of, steps, served, serves, taken, takes, unchanged, flipped, Event, Asks, Serves, Takes, Flips, Hears, Resends, Copies, Joins, happens, after_events}
 use Rattle.vic_order.specs.Honest.{scene_after}
 
 module _ {V : Type 0} where
@@ -29,19 +29,19 @@ module _ {V : Type 0} where
   unfolding takes
   takes-group change s i = taken-group change s i (queue_of s.down i)
 
-  pub moved-group : (rule : Serving V) (s : SceneOf V) (m : Move) → (moved rule s m).group ≡ s.group
-  moved-group rule s (Asks i given) = steps-group s i given
-  moved-group rule s (Serves i) = serves-group rule s i
-  moved-group rule s (Takes i) = takes-group unchanged s i
-  moved-group rule s (Flips i n) = takes-group (flipped n) s i
-  moved-group rule s (Hears i payload) = steps-group s i (input.Payload payload)
-  moved-group rule s (Resends i) = refl
-  moved-group rule s (Copies n t) = refl
-  moved-group rule s (Joins i n) = refl
+  pub happens-group : (rule : Serving V) (s : SceneOf V) (m : Event) → (happens rule s m).group ≡ s.group
+  happens-group rule s (Asks i given) = steps-group s i given
+  happens-group rule s (Serves i) = serves-group rule s i
+  happens-group rule s (Takes i) = takes-group unchanged s i
+  happens-group rule s (Flips i n) = takes-group (flipped n) s i
+  happens-group rule s (Hears i payload) = steps-group s i (input.Payload payload)
+  happens-group rule s (Resends i) = refl
+  happens-group rule s (Copies n t) = refl
+  happens-group rule s (Joins i n) = refl
 
-  pub after-group : (rule : Serving V) (s : SceneOf V) (moves : List Move) → (after_moves rule s moves).group ≡ s.group
+  pub after-group : (rule : Serving V) (s : SceneOf V) (events : List Event) → (after_events rule s events).group ≡ s.group
   after-group rule s [] = refl
-  after-group rule s (m ∷ before) = moved-group rule (after_moves rule s before) m ∙ after-group rule s before
+  after-group rule s (m ∷ before) = happens-group rule (after_events rule s before) m ∙ after-group rule s before
 
-pub scene-group : (g : Group) (moves : List Move) → (scene_after g moves).group ≡ g
-scene-group g moves = after-group by_rule _ moves
+pub scene-group : (g : Group) (events : List Event) → (scene_after g events).group ≡ g
+scene-group g events = after-group by_rule _ events
