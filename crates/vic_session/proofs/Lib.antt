@@ -1,0 +1,10 @@
+pub mod Begins
+pub mod Extends
+pub mod Fitting
+pub mod Hears
+pub mod Lined
+pub mod Sessions
+pub mod Steps
+pub mod Streams
+pub mod Told
+pub mod Wires

@@ -1,4 +1,6 @@
 pub mod Laws
-pub mod Lines
+pub mod Running
 pub mod Sessions
+pub mod Talking
 pub mod Talks
+pub mod Wires

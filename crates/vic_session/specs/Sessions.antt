@@ -1,5 +1,5 @@
 -- What a session over a link did: the talk between its greeting and its leave, the frames that it sent, and why it ended.
-use Rattle.std.specs.Prelude.{◌≡◌, ◌≢◌, ◌⊎◌, ℕ, List, [], ◌∷◌, ◌++◌, Option, Some, None, Bool, true, codes}
+use Rattle.std.specs.Prelude.{◌≡◌, ◌⊎◌, ℕ, List, [], ◌∷◌, ◌++◌, Option, Some, None, true, codes}
 use Rattle.std.specs.List.{flat_map}
 use Rattle.vic_wire.specs.Texts.{content_text}
 use Rattle.vic_wire.specs.Hashes.{Group, hash}
@@ -8,7 +8,7 @@ use Rattle.vic_wire.specs.declared.message.ToClient.{ToClient}
 use Rattle.vic_wire.specs.declared.message.ToClient.TheVariants as say
 use Rattle.vic_wire.specs.Messages.{request_text}
 use Rattle.vic_wire.specs.Reading.{read_answer}
-use Rattle.vic_conn.specs.Frames.{Goes, Waits, Broken, front_of, frame_text, frames_of}
+use Rattle.vic_conn.specs.Frames.{Waits, Broken, front_of, frame_text, frames_of}
 use Rattle.vic_ports.specs.Causes.{Rose, LeavesBehind}
 use Rattle.vic_ports.specs.Written.{AppendedAll, AppendedFront}
 use Rattle.vic_ports.specs.Links.{Told}
@@ -98,6 +98,12 @@ Sent ends.NoMemory text old new = AppendedFront text old.written new.written
 Sent ends.LinkFault text old new = (Rose old.faults new.faults × AppendedFront text old.written new.written) ⊎ AppendedAll text old.written new.written
 Sent end text old new = AppendedAll text old.written new.written
 
+-- what the talk printed: nothing before it began
+abbrev pub printed_at : Stage → Talk → List ℕ
+printed_at Greets t = []
+printed_at Talks t = t.text
+printed_at Goes_away t = t.text
+
 -- what joins the printed lines: what the talk printed, and at the end that the client has left
 abbrev pub Prints : SessionEnd → List ℕ → List ℕ → List ℕ → Type 0
 Prints ends.Ok text old new = new ≡ old ++ text ++ codes "bye" ++ newline
@@ -114,5 +120,5 @@ pub record IsSession (g : Group) (me : ℕ) (script : List ℕ) (old : Told) (ou
   pub stage : Stage
   pub reads : Read stage (frames_of read).0 taken more
   pub sent : Sent end (frames (requests (talker g me script) (talk (talker g me script) script taken) stage)) old new
-  pub prints : Prints end (talk (talker g me script) script taken).text out printed
+  pub prints : Prints end (printed_at stage (talk (talker g me script) script taken)) out printed
   pub ends_so : EndsBy end stage (talk (talker g me script) script taken) old new more (frames_of read).1

@@ -1,5 +1,5 @@
 -- The talk of one client with a server: the lines of its script, each done until the client is idle, over the payloads that it takes.
-use Rattle.std.specs.Prelude.{◌≡◌, ℕ, zero, suc, ◌+◌, ◌&&◌, Bool, List, [], ◌∷◌, ◌++◌, length, reverse, take, fold, Option, Some, None, is_none, nat_eq, nat_lt, if◌then◌else◌, codes}
+use Rattle.std.specs.Prelude.{ℕ, zero, suc, ◌+◌, ◌&&◌, Bool, List, [], ◌∷◌, ◌++◌, length, reverse, fold, Option, Some, None, is_none, nat_eq, nat_lt, if◌then◌else◌, codes}
 use Rattle.std.specs.Fmt.{decimal}
 use Rattle.std.specs.List.{flat_map}
 use Rattle.vic_dict.specs.declared.op.Outcome.{Outcome}
@@ -7,14 +7,14 @@ use Rattle.vic_wire.specs.Hashes.{Group}
 use Rattle.vic_rules.specs.declared.trace.Input.{Input}
 use Rattle.vic_rules.specs.declared.trace.Input.TheVariants as input
 use Rattle.vic_rules.specs.declared.trace.TraceStep.{TraceStep}
-use Rattle.vic_rules.specs.Client.{Standing, Move, step, payload_of, awaits_nothing}
+use Rattle.vic_rules.specs.Client.{Standing, step, payload_of, awaits_nothing}
 use Rattle.vic_rules.specs.History.{standing}
-use Rattle.vic_script.specs.Words.{outcome_words, space, newline}
+use Rattle.vic_script.specs.Words.{outcome_words, newline}
 use Rattle.vic_script.specs.Lines.{lines_of}
 use Rattle.vic_script.specs.Run.{limit, place_behind}
-use Rattle.vic_session.specs.declared.line.ClientLine.{ClientLine}
-use Rattle.vic_session.specs.declared.line.ClientLine.TheVariants as line
-use Rattle.vic_session.specs.Lines.{client_line_of}
+use Rattle.vic_text.specs.declared.client_line.ClientLine.{ClientLine}
+use Rattle.vic_text.specs.declared.client_line.ClientLine.TheVariants as line
+use Rattle.vic_text.specs.ClientLines.{client_line_of}
 
 -- what the client is at: a call, a poll or a sync of which the state is told at its end, a settling that may poll so many times
 -- more, its leave, a bad line of some kind, or a halt at a check, on a payload

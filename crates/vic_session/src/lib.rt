@@ -2,7 +2,13 @@
 #![tactic(auto)]
 
 pub mod end;
-pub mod line;
+mod lines;
+mod place;
+mod run;
+mod wire;
 
 pub use end::SessionEnd;
-pub use line::ClientLine;
+pub use run::run_lines;
+
+#[cfg(test)]
+mod tests;

@@ -1,6 +1,7 @@
 -- Lines of more words than two, and operations of more words than three.
 use Rattle.std.proofs.Common.{◌≡◌, ℕ, List, [], ◌∷◌, None, refl, if◌then◌else◌, nat_eq, true, false}
 use Rattle.vic_dict.specs.declared.op.Mode.{Mode}
+use Rattle.vic_text.specs.ClientLines.{plain_line}
 use Rattle.vic_script.specs.Lines.{words_of, put_first, header_of, op_of, called, event_of}
 
 -- every text has a word, though it may be empty
@@ -26,3 +27,7 @@ event_long kind name number third text = let some = words_some text in rw some.2
 
 pub op_of_four : (name a b text : List ℕ) → op_of (name ∷ a ∷ b ∷ words_of text) ≡ None
 op_of_four name a b text = let some = words_some text in rw some.2 refl
+
+-- a line of three words or more is a call
+pub plain_long : (name a text : List ℕ) → plain_line (name ∷ a ∷ words_of text) ≡ None
+plain_long name a text = let some = words_some text in rw some.2 refl

@@ -1,1 +1,2 @@
+pub mod ClientLines
 pub mod Splits

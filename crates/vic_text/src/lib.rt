@@ -4,10 +4,12 @@
 //! and `outcome_words` there.
 #![tactic(auto)]
 
+pub mod client_line;
 pub mod print;
 pub mod read;
 pub mod word;
 
+pub use client_line::{ClientLine, read_client_line};
 pub use print::{op_text, outcome_text, put_number, put_op, put_outcome};
 pub use read::{LineFault, read_line};
 pub use vic_script::Line;

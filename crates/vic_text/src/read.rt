@@ -220,7 +220,7 @@ fn called_line(
 }
 
 /// The operation of this name on the words of a text.
-fn op_of_words(alloc: Global, name: &[u8], others: &[u8]) -> Result<Option<Op>, NoMemory>
+pub(crate) fn op_of_words(alloc: Global, name: &[u8], others: &[u8]) -> Result<Option<Op>, NoMemory>
     ensures { IfOk result (λ o. o ≡ op_of (name.now ∷ words_of others.now)) }
 {
     match split_word(others) {

@@ -5,8 +5,8 @@ use Rattle.vic_dict.specs.declared.op.Mode.{Mode}
 use Rattle.vic_dict.specs.declared.op.Mode.TheVariants as mode
 use Rattle.vic_script.specs.Lines.{words_of, op_of}
 use Rattle.vic_script.specs.Words.{word_number}
-use Rattle.vic_session.specs.declared.line.ClientLine.{ClientLine}
-use Rattle.vic_session.specs.declared.line.ClientLine.TheVariants as line
+use Rattle.vic_text.specs.declared.client_line.ClientLine.{ClientLine}
+use Rattle.vic_text.specs.declared.client_line.ClientLine.TheVariants as line
 
 abbrev pub or_line : Option ClientLine → Option ClientLine → Option ClientLine
 or_line (Some l) other = Some l

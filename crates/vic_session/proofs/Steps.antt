@@ -1,0 +1,120 @@
+-- What a step of a client leaves: where it stands, and what it has sent.
+use Rattle.std.proofs.Common.{◌≡◌, ℕ, Bool, false, List, [], ◌∷◌, ◌++◌, reverse, Option, Some, None, if◌then◌else◌, eq-eqb, refl, sym, ap, ◌∙◌, append-nil}
+use Rattle.std.specs.List.{flat_map}
+use Rattle.std.proofs.lemmas.Grind.{flat_map-append}
+use Rattle.std.proofs.lemmas.List.{reverse-append}
+use Rattle.vic_dict.specs.declared.op.Entry.{Entry}
+use Rattle.vic_wire.specs.Hashes.{Group}
+use Rattle.vic_wire.specs.declared.message.Seal.{Seal}
+use Rattle.vic_wire.specs.declared.message.ToClient.{ToClient}
+use Rattle.vic_wire.specs.declared.message.ToClient.TheVariants as say
+use Rattle.vic_wire.specs.Parts.{Part, read_part}
+use Rattle.vic_wire.specs.Reading.{read_answer}
+use Rattle.vic_rules.specs.declared.state.Own.{Own}
+use Rattle.vic_rules.specs.declared.state.Awaiting.{Awaiting}
+use Rattle.vic_rules.specs.declared.state.Awaiting.TheVariants as awaits
+use Rattle.vic_rules.specs.declared.trace.Input.{Input}
+use Rattle.vic_rules.specs.declared.trace.Input.TheVariants as input
+use Rattle.vic_rules.specs.declared.trace.TraceStep.{TraceStep}
+use Rattle.vic_rules.specs.Client.{Standing, Move, Sending, step, payload_of, awaits_nothing, halts, grown, replied, updated, taken, taken_or_halts, on_payload, verdict}
+use Rattle.vic_rules.specs.History.{standing}
+use Rattle.vic_session.specs.Talks.{Talk, Talker, stands, steps, one_of, sent_in}
+
+-- where the client stands after a step
+pub standing_step : (w : Talker) (t : Talk) (given : Input) → stands w (steps w t given) ≡ (step w.group w.me (stands w t) given).next
+unfolding steps standing
+standing_step w t given = ap (λ (b : Bool). if b then (step w.group w.me (stands w t) given).next else stands w t) (eq-eqb w.me w.me refl)
+
+-- the move of a step
+abbrev pub moved : Talker → Talk → Input → Move
+moved w t given = step w.group w.me (stands w t) given
+
+-- what was sent, with a step more
+pub sent_more : (x : TraceStep) (h : List TraceStep) → sent_in (x ∷ h) ≡ sent_in h ++ one_of x.sent
+sent_more x h =
+    ap (flat_map (λ (y : TraceStep). one_of y.sent)) (reverse-append (x ∷ []) h)
+    ∙ flat_map-append (λ (y : TraceStep). one_of y.sent) (reverse h) (x ∷ [])
+    ∙ ap (λ (l : List (List ℕ)). sent_in h ++ l) (append-nil (one_of x.sent))
+
+pub sent_step : (w : Talker) (t : Talk) (given : Input) → sent_in (steps w t given).history ≡ sent_in t.history ++ one_of (payload_of w.group w.me (moved w t given).next (moved w t given).sends)
+unfolding steps
+sent_step w t given = sent_more (record { client = w.me; input = given; sent = payload_of w.group w.me (moved w t given).next (moved w t given).sends; returned = (moved w t given).returns }) t.history
+
+-- ---- a payload
+
+-- it is no call; and where the client sends something, it is not idle
+pub record Heard (s : Standing) (v : Move) : Type 0 where
+  pub calls : v.next.calls ≡ s.calls
+  pub busy : (x : Sending) → v.sends ≡ Some x → awaits_nothing v.next.awaiting ≡ false
+  pub quiet : (x : Sending) → v.sends ≡ Some x → v.next.halted ≡ s.halted
+
+heard_halts : (s : Standing) (k : ℕ) → Heard s (halts s k)
+heard_halts s k = record { calls = refl; busy = λ x e. absurd cc; quiet = λ x e. absurd cc }
+
+heard_replied : (me : ℕ) (s : Standing) (seal : Seal) (path : List Entry) (part : Option Part) (a : Awaiting) → Heard s (replied me s seal path part a)
+heard_replied me s seal [] part a = heard_halts s 1
+heard_replied me s seal (e ∷ below) None a = heard_halts s 1
+heard_replied me s seal (e ∷ below) (Some part) (awaits.Reply n o load) = record { calls = refl; busy = λ x e. refl; quiet = λ x e. refl }
+heard_replied me s seal (e ∷ below) (Some part) awaits.Nothing = heard_halts s 1
+heard_replied me s seal (e ∷ below) (Some part) awaits.Turn = heard_halts s 1
+heard_replied me s seal (e ∷ below) (Some part) awaits.Entries = heard_halts s 1
+heard_replied me s seal (e ∷ below) (Some part) awaits.Kept = heard_halts s 1
+heard_replied me s seal (e ∷ below) (Some part) (awaits.Content h n) = heard_halts s 1
+
+heard_updated : (s : Standing) (seal : Seal) (part : Option Part) (own : List Own) → Heard s (updated s seal part own)
+heard_updated s seal None own = heard_halts s 1
+heard_updated s seal (Some part) [] = heard_halts s 1
+heard_updated s seal (Some part) (o ∷ others) = record { calls = refl; busy = λ x e. refl; quiet = λ x e. refl }
+
+heard_taken : (me : ℕ) (s : Standing) (m : ToClient) → Heard s (taken me s m)
+heard_taken me s (say.Reply seal entries part) = heard_replied me s seal (grown s entries) (read_part part) s.awaiting
+heard_taken me s say.Wait = record { calls = refl; busy = λ x e. absurd cc; quiet = λ x e. absurd cc }
+heard_taken me s (say.Update seal part) = heard_updated s seal (read_part part) s.own
+heard_taken me s (say.Entries seal entries) = record { calls = refl; busy = λ x e. absurd cc; quiet = λ x e. absurd cc }
+heard_taken me s (say.Refused r) = record { calls = refl; busy = λ x e. absurd cc; quiet = λ x e. absurd cc }
+heard_taken me s say.Hi = heard_halts s 1
+heard_taken me s say.Kept = heard_halts s 1
+heard_taken me s (say.Content c) = heard_halts s 1
+heard_taken me s say.Gone = heard_halts s 1
+heard_taken me s say.Absent = heard_halts s 1
+
+heard_by : (me : ℕ) (s : Standing) (m : Option ToClient) (k : Option ℕ) → Heard s (taken_or_halts me s m k)
+heard_by me s m (Some k) = heard_halts s k
+heard_by me s (Some m) None = heard_taken me s m
+heard_by me s None None = heard_halts s 1
+
+heard_on : (g : Group) (me : ℕ) (s : Standing) (k : Option ℕ) (payload : List ℕ) → Heard s (on_payload g me s k payload)
+heard_on g me s (Some k) payload = heard_halts s k
+heard_on g me s None payload = heard_by me s (read_answer payload) (verdict g me s payload)
+
+pub heard : (g : Group) (me : ℕ) (s : Standing) (payload : List ℕ) → Heard s (step g me s (input.Payload payload))
+unfolding step
+heard g me s payload = heard_on g me s s.halted payload
+
+live_on : (g : Group) (me : ℕ) (s : Standing) (k : Option ℕ) (payload : List ℕ) → s.halted ≡ k → (x : Sending) → (on_payload g me s k payload).sends ≡ Some x → (on_payload g me s k payload).next.halted ≡ None
+live_on g me s (Some k) payload e x sends = absurd cc
+live_on g me s None payload e x sends = (heard_on g me s None payload).quiet x sends ∙ e
+
+-- a client that sends something on a payload has not halted
+pub live : (g : Group) (me : ℕ) (s : Standing) (payload : List ℕ) (x : Sending) → (step g me s (input.Payload payload)).sends ≡ Some x → (step g me s (input.Payload payload)).next.halted ≡ None
+unfolding step
+live g me s payload x sends = live_on g me s s.halted payload refl x sends
+
+none_or : (o : Option Sending) (h : Option ℕ) (k : ℕ) → ((x : Sending) → o ≡ Some x → h ≡ None) → h ≡ Some k → o ≡ None
+none_or None h k f e = refl
+none_or (Some x) h k f e = let no = sym (f x refl) ∙ e in absurd cc
+
+-- one that halts sends nothing
+pub halted_none : (g : Group) (me : ℕ) (s : Standing) (payload : List ℕ) (k : ℕ) → (step g me s (input.Payload payload)).next.halted ≡ Some k → (step g me s (input.Payload payload)).sends ≡ None
+halted_none g me s payload k e = let v = step g me s (input.Payload payload) in none_or v.sends v.next.halted k (live g me s payload) e
+
+sending_of : (g : Group) (me : ℕ) (s : Standing) (o : Option Sending) (p : List ℕ) → Some p ≡ payload_of g me s o → (x : Sending) × (o ≡ Some x)
+sending_of g me s None p e = absurd cc
+sending_of g me s (Some x) p e = (x, refl)
+
+-- one that sends is not idle
+pub sends_busy : (g : Group) (me : ℕ) (s : Standing) (payload p : List ℕ) → let v = step g me s (input.Payload payload) in Some p ≡ payload_of g me v.next v.sends → awaits_nothing v.next.awaiting ≡ false
+sends_busy g me s payload p e =
+    let v = step g me s (input.Payload payload) in
+    let x = sending_of g me v.next v.sends p e in
+    (heard g me s payload).busy x.0 x.1

@@ -1,0 +1,150 @@
+-- A session that talks: the client, its place in the script and what was printed are those of a talk.
+use Rattle.std.specs.Prelude.{◌≡◌, ℕ, ◌+◌, ◌≤◌, List, ◌++◌, length, Option, Some, None, Result, Ok, Err}
+use Rattle.vic_rules.specs.declared.trace.Input.{Input}
+use Rattle.vic_rules.specs.declared.trace.Input.TheVariants as input
+use Rattle.vic_rules.specs.Client.{Standing, step, payload_of}
+use Rattle.vic_client.specs.declared.step.Step.{Step}
+use Rattle.vic_client.specs.Kept.{Kept, StandsFor, group_of}
+use Rattle.vic_script.specs.Lines.{lines_of}
+use Rattle.vic_script.specs.Run.{limit}
+use Rattle.vic_dict.specs.declared.op.Mode.{Mode}
+use Rattle.vic_dict.specs.declared.op.Mode.TheVariants as mode
+use Rattle.vic_dict.specs.Dictionary.{Fits}
+use Rattle.vic_wire.specs.Texts.{content_text}
+use Rattle.vic_wire.specs.Hashes.{hash}
+use Rattle.vic_dict.specs.declared.bytes.NoMemory.{NoMemory}
+use Rattle.vic_text.specs.declared.client_line.ClientLine.{ClientLine}
+use Rattle.vic_text.specs.declared.client_line.ClientLine.TheVariants as line
+use Rattle.vic_session.specs.declared.place.At.{At}
+use Rattle.vic_session.specs.declared.place.At.TheVariants as at
+use Rattle.vic_session.specs.declared.place.Place.{Place}
+use Rattle.vic_session.specs.declared.lines.Begun.{Begun}
+use Rattle.vic_session.specs.declared.lines.Begun.TheVariants as begun
+use Rattle.vic_session.specs.Talks.{Talk, Talker, Doing, Calls, Tells, Settles, Leaves, Bad, Halts, stands, steps, asks, begins, goes_on, one_of, sent_in}
+
+-- the hash that is told of a payload
+abbrev pub digest_of : List ℕ → List ℕ
+digest_of payload = hash (content_text payload)
+
+abbrev pub IsDoing : At → Doing → Type 0
+IsDoing at.Calls d = d ≡ Calls
+IsDoing at.Tells d = d ≡ Tells
+IsDoing (at.Settles n) d = d ≡ Settles n
+IsDoing at.Leaves d = d ≡ Leaves
+IsDoing (at.Bad k) d = d ≡ Bad k
+IsDoing (at.Halts k h) d = (payload : List ℕ) × ((d ≡ Halts k payload) × (h.bytes ≡ digest_of payload))
+
+-- the place is within the limit of a script, and so are the lines before it
+abbrev pub IsWithin : Place → Type 0
+IsWithin p = (p.behind + length p.rest.now ≡ p.total) × ((p.number ≤ p.behind) × (p.behind ≤ limit))
+
+-- it is, where lines are still to come
+abbrev pub IsFine : At → Place → Type 0
+IsFine at.Calls p = IsWithin p
+IsFine at.Tells p = IsWithin p
+IsFine (at.Settles n) p = IsWithin p
+IsFine at.Leaves p = Unit {0}
+IsFine (at.Bad k) p = Unit {0}
+IsFine (at.Halts k h) p = Unit {0}
+
+-- an answer is awaited
+abbrev pub IsBusy : At → Type 0
+IsBusy at.Calls = Unit {0}
+IsBusy at.Tells = Unit {0}
+IsBusy (at.Settles n) = Unit {0}
+IsBusy at.Leaves = ⊥
+IsBusy (at.Bad k) = ⊥
+IsBusy (at.Halts k h) = ⊥
+
+-- the client stands somewhere, and has called no more often than lines were begun
+abbrev pub Stands : Kept → ℕ → Type 0
+Stands c number = (s : Standing) × (StandsFor c s × (s.calls ≤ number))
+
+-- what the client, the place and the print are, of a talk that began with this print
+pub record On (w : Talker) (t : Talk) (start : List ℕ) (c : Kept) (p : Place) (out : List ℕ) : Type 0 where
+  pub me : c.id ≡ w.me
+  pub group : group_of c ≡ w.group
+  pub stands_so : StandsFor c (stands w t)
+  pub few : (stands w t).calls ≤ p.number
+  pub total : w.total ≡ p.total
+  pub number : t.number ≡ p.number
+  pub behind : t.behind ≡ p.behind
+  pub lines : t.lines ≡ lines_of p.rest.now
+  pub text : out ≡ start ++ t.text
+
+-- a front of the print was printed
+abbrev pub PrintsFront : List ℕ → Talk → List ℕ → Type 0
+PrintsFront start t out = (front rest : List ℕ) × ((t.text ≡ front ++ rest) × (out ≡ start ++ front))
+
+-- the talk went on from one to the other, and this is to be sent
+pub record Went (w : Talker) (old new : Talk) (start : List ℕ) (c : Kept) (p : Place) (out : List ℕ) (sent : Option (List ℕ)) : Type 0 where
+  pub on : On w new start c p out
+  pub doing : IsDoing p.doing new.doing
+  pub sends : sent_in new.history ≡ sent_in old.history ++ one_of sent
+
+abbrev pub GoesTo : Talker → Talk → Talk → List ℕ → Kept → Place → List ℕ → Result (Option (List ℕ)) NoMemory → Type 0
+GoesTo w old new start c p out (Ok sent) = Went w old new start c p out sent
+GoesTo w old new start c p out (Err e) = PrintsFront start new out
+
+-- a line was begun, and nothing was sent; or the client asks; or it is bad
+abbrev pub Began : Talker → Talk → List ℕ → Option ClientLine → Kept → Kept → Place → List ℕ → List ℕ → Begun → Type 0
+Began w t start line old new p was out begun.Next =
+    (u : Talk) × (((next : Talk → Talk) → begins w t line next ≡ next u) × ((u.history ≡ t.history) × ((new ≡ old) × On w u start new p out)))
+Began w t start line old new p was out (begun.Asks sent doing) =
+    (given : Input) × ((d : Doing) × (((next : Talk → Talk) → begins w t line next ≡ asks w t given d)
+    × (IsDoing doing d × ((out ≡ was) × Went w t (asks w t given d) start new (record p { doing = doing }) out (Some sent)))))
+Began w t start line old new p was out begun.Bad = ((next : Talk → Talk) → begins w t line next ≡ record t { doing = Bad 1 }) × ((new ≡ old) × (out ≡ was))
+
+-- where nothing was sent, the client is as before
+abbrev pub Rests : Begun → Kept → Kept → Type 0
+Rests begun.Next old new = new ≡ old
+Rests (begun.Asks sent doing) old new = IsBusy doing
+Rests begun.Bad old new = new ≡ old
+
+-- a line may be begun in a group of this mode
+abbrev pub CanBegin : ClientLine → Mode → Type 0
+CanBegin (line.Call o) kind = (kind ≡ mode.Plain) × Fits o
+CanBegin line.Poll kind = Unit {0}
+CanBegin line.Sync kind = Unit {0}
+CanBegin (line.Settle n) kind = Unit {0}
+CanBegin line.Skip kind = Unit {0}
+
+-- the talk goes on from where it is led to as it does from here, and nothing was sent on the way
+abbrev pub Led : Talker → Talk → List ℕ → Kept → Place → List ℕ → Type 0
+Led w t start c p out = (u : Talk) × (On w u start c p out × ((goes_on w t t.lines ≡ goes_on w u u.lines) × (u.history ≡ t.history)))
+
+-- the next line was begun
+abbrev pub Lined : Talker → Talk → List ℕ → Kept → Place → List ℕ → Begun → Type 0
+Lined w t start c p out begun.Next = Led w t start c p out
+Lined w t start c p out (begun.Asks sent doing) = Went w t (goes_on w t t.lines) start c p out (Some sent)
+Lined w t start c p out begun.Bad = Went w t (goes_on w t t.lines) start c p out None
+
+-- where lines are still to come, the place is within the limit
+abbrev pub LinedAt : Begun → Place → Type 0
+LinedAt begun.Next p = IsWithin p
+LinedAt (begun.Asks sent doing) p = IsBusy p.doing × IsWithin p
+LinedAt begun.Bad p = (k : ℕ) × (p.doing ≡ at.Bad k)
+
+-- what is to be sent, by what the client is at: at the end nothing is
+abbrev pub MaySend : At → Option (List ℕ) → Type 0
+MaySend at.Calls sent = Unit {0}
+MaySend at.Tells sent = Unit {0}
+MaySend (at.Settles n) sent = Unit {0}
+MaySend at.Leaves sent = sent ≡ None
+MaySend (at.Bad k) sent = sent ≡ None
+MaySend (at.Halts k h) sent = sent ≡ None
+
+-- a talk has made a step on a payload: the client stands behind it, and nothing is printed of it yet
+pub record Heard (w : Talker) (t : Talk) (start payload : List ℕ) (r : Step) (c : Kept) (p : Place) (out : List ℕ) : Type 0 where
+  pub me : c.id ≡ w.me
+  pub group : group_of c ≡ w.group
+  pub stands_so : StandsFor c (stands w (steps w t (input.Payload payload)))
+  pub few : (stands w t).calls ≤ p.number
+  pub total : w.total ≡ p.total
+  pub number : t.number ≡ p.number
+  pub behind : t.behind ≡ p.behind
+  pub lines : t.lines ≡ lines_of p.rest.now
+  pub text : out ≡ start ++ t.text
+  pub doing : IsDoing p.doing t.doing
+  pub send : r.send ≡ payload_of w.group w.me (step w.group w.me (stands w t) (input.Payload payload)).next (step w.group w.me (stands w t) (input.Payload payload)).sends
+  pub returned : r.returned ≡ (step w.group w.me (stands w t) (input.Payload payload)).returns

@@ -1,0 +1,344 @@
+//! The lines of a client's script, each begun and ended.
+
+ghost use Rattle.std.specs.Prelude.{◌≡◌, ◌<◌, ◌≤◌, ◌+◌, ◌^◌, ◌++◌, List, Some, None, ℕ, length, OnOk, OnErr, IfOk, IsTrue};
+ghost use Rattle.vic_rules.specs.Client.{Standing};
+ghost use Rattle.vic_client.specs.Kept.{StandsFor, is_idle};
+ghost use Rattle.vic_dict.specs.declared.op.Mode.{Mode as AMode};
+ghost use Rattle.vic_text.specs.ClientLines.{client_line_of};
+ghost use Rattle.vic_session.specs.Talks.{outcome_line, returned_in, Talk, Talker, state_line, goes_on, ends_line, hears, stands, asks, tells_state, Settles};
+ghost use Rattle.vic_rules.specs.declared.trace.Input.TheVariants as input;
+ghost use Rattle.vic_session.specs.Talking.{On, IsWithin, IsFine, IsDoing, Stands, GoesTo, Began, Rests, CanBegin, Lined, LinedAt, MaySend, IsBusy, Heard};
+ghost use Rattle.vic_session.specs.declared.place.Place.{Place as APlace};
+
+use crate::place::{At, Place, first_line, place_behind};
+use std::alloc::Global;
+use vic_client::{Client, Step};
+use vic_dict::{Bytes, NoMemory, Outcome};
+use vic_hash::content;
+use vic_text::{ClientLine, LineFault, outcome_text, put_number, read_client_line};
+
+/// The most bytes that a script may have.
+const LIMIT: usize = 16_777_216;
+
+/// What beginning a line comes to.
+#[derive(Debug, Drop)]
+pub enum Begun {
+    /// The next line is begun.
+    Next,
+    /// The client sends this, and is at this.
+    Asks(Bytes, At),
+    /// It is no line of such a script.
+    Bad,
+}
+
+// The line `state sealed S length L unsettled U`.
+fn state_text(alloc: Global, client: &Client) -> Result<Bytes, NoMemory>
+    ensures { (s : Standing) → StandsFor client.now s → IfOk result (λ text. text ≡ state_line s) }
+{
+    let mut text = Bytes::new(alloc);
+    text.append(b"state sealed ")?;
+    put_number(&mut text, alloc, client.sealed())?;
+    text.append(b" length ")?;
+    put_number(&mut text, alloc, client.length())?;
+    text.append(b" unsettled ")?;
+    put_number(&mut text, alloc, client.unsettled())?;
+    text.append(b"\n")?;
+    Ok(text)
+}
+
+/// Prints the client's state. Where memory runs out, nothing is printed.
+pub fn tell_state(alloc: Global, client: &Client, out: &mut Bytes) -> Result<(), NoMemory>
+    ensures ok { (s : Standing) → StandsFor client.now s → OnOk result (out.new ≡ out.old ++ state_line s) }
+    ensures err { OnErr result (out.new ≡ out.old) }
+{
+    let text = state_text(alloc, client)?;
+    out.append(text.as_slice())
+}
+
+// Begins a settling that polls at most so often.
+fn begin_settle(
+    alloc: Global,
+    client: &mut Client,
+    most: u16,
+    out: &mut Bytes,
+) -> Result<Begun, NoMemory>
+    requires idle { IsTrue (is_idle client.old) }
+    ensures began { (w : Talker) (t : Talk) (start : List ℕ) (p : APlace) → On w t start client.old p out.old
+        → IfOk result (λ b. Began w t start (Some (ClientLine.Settle most)) client.old client.new p out.old out.new b) }
+    ensures rests { IfOk result (λ b. Rests b client.old client.new) }
+    ensures err { OnErr result (out.new ≡ out.old) }
+{
+    if most == 0 || client.unsettled() == 0 {
+        tell_state(alloc, client, out)?;
+        return Ok(Begun::Next);
+    }
+    Ok(Begun::Asks(client.poll(alloc)?, At::Settles(most - 1)))
+}
+
+// Begins a line.
+fn begin_line(
+    alloc: Global,
+    client: &mut Client,
+    line: &ClientLine,
+    out: &mut Bytes,
+) -> Result<Begun, NoMemory>
+    requires idle { IsTrue (is_idle client.old) }
+    requires can { CanBegin line.now client.old.mode }
+    requires few { client.old.calls + 1 < 2 ^ 32 }
+    ensures began { (w : Talker) (t : Talk) (start : List ℕ) (p : APlace) → On w t start client.old p out.old → (stands w t).calls + 1 ≤ p.number
+        → IfOk result (λ b. Began w t start (Some line.now) client.old client.new p out.old out.new b) }
+    ensures rests { IfOk result (λ b. Rests b client.old client.new) }
+    ensures err { OnErr result (out.new ≡ out.old) }
+{
+    match line {
+        ClientLine::Skip => Ok(Begun::Next),
+        ClientLine::Call(op) => Ok(Begun::Asks(client.invoke(alloc, op)?, At::Calls)),
+        ClientLine::Poll => Ok(Begun::Asks(client.poll(alloc)?, At::Tells)),
+        ClientLine::Sync => Ok(Begun::Asks(client.sync(alloc)?, At::Tells)),
+        ClientLine::Settle(most) => begin_settle(alloc, client, *most, out),
+    }
+}
+
+// Begins the line that a text spells.
+fn begin(
+    alloc: Global,
+    client: &mut Client,
+    text: &[u8],
+    out: &mut Bytes,
+) -> Result<Begun, NoMemory>
+    requires idle { IsTrue (is_idle client.old) }
+    requires few { client.old.calls + 1 < 2 ^ 32 }
+    ensures began { (w : Talker) (t : Talk) (start : List ℕ) (p : APlace) → On w t start client.old p out.old → (stands w t).calls + 1 ≤ p.number
+        → IfOk result (λ b. Began w t start (client_line_of w.group.mode text.now) client.old client.new p out.old out.new b) }
+    ensures rests { IfOk result (λ b. Rests b client.old client.new) }
+    ensures err { OnErr result (out.new ≡ out.old) }
+{
+    match read_client_line(alloc, text, client.mode()) {
+        Ok(line) => begin_line(alloc, client, &line, out),
+        Err(LineFault::Grammar) => Ok(Begun::Bad),
+        Err(LineFault::NoMemory) => Err(NoMemory),
+    }
+}
+
+// Begins the next line.
+fn do_line(
+    alloc: Global,
+    client: &mut Client,
+    place: &mut Place<'_>,
+    out: &mut Bytes,
+) -> Result<Begun, NoMemory>
+    requires some { 0 < length place.old.rest.now }
+    requires idle { IsTrue (is_idle client.old) }
+    requires few { client.old.calls ≤ place.old.number }
+    requires within { IsWithin place.old }
+    requires total { place.old.total < 2 ^ 63 }
+    ensures lined { (w : Talker) (t : Talk) (start : List ℕ) → On w t start client.old place.old out.old → IfOk result (λ b. Lined w t start client.new place.new out.new b) }
+    ensures at { IfOk result (λ b. LinedAt b place.new) }
+    ensures total { place.new.total ≡ place.old.total }
+    ensures number { place.new.number ≡ place.old.number + 1 }
+    ensures fewer { length place.new.rest.now < length place.old.rest.now }
+    ensures rests { IfOk result (λ b. Rests b client.old client.new) }
+    ensures err { OnErr result (out.new ≡ out.old) }
+{
+    let (text, others) = first_line(place.rest);
+    place.behind = place_behind(place.total, place.behind, text);
+    place.number += 1;
+    place.rest = others;
+    if LIMIT < place.behind {
+        place.doing = At::Bad(7);
+        return Ok(Begun::Bad);
+    }
+    match begin(alloc, client, text, out)? {
+        Begun::Next => Ok(Begun::Next),
+        Begun::Asks(sent, doing) => {
+            place.doing = doing;
+            Ok(Begun::Asks(sent, doing))
+        }
+        Begun::Bad => {
+            place.doing = At::Bad(1);
+            Ok(Begun::Bad)
+        }
+    }
+}
+
+/// Begins lines until the client sends something, or no line is left, or one is bad. What is to be sent is answered.
+pub fn go_on(
+    alloc: Global,
+    client: &mut Client,
+    place: &mut Place<'_>,
+    out: &mut Bytes,
+) -> Result<Option<Bytes>, NoMemory>
+    requires idle { IsTrue (is_idle client.old) }
+    requires few { client.old.calls ≤ place.old.number }
+    requires within { IsWithin place.old }
+    requires total { place.old.total < 2 ^ 63 }
+    ensures went { (w : Talker) (t : Talk) (start : List ℕ) → On w t start client.old place.old out.old → GoesTo w t (goes_on w t t.lines) start client.new place.new out.new result }
+    ensures fine { IfOk result (λ sent. IsFine place.new.doing place.new) }
+    ensures sends { IfOk result (λ sent. MaySend place.new.doing sent) }
+    ensures total { place.new.total ≡ place.old.total }
+{
+    while !place.rest.is_empty() {
+        match do_line(alloc, client, place, out) {
+            Ok(Begun::Next) => {}
+            Ok(Begun::Asks(sent, _)) => return Ok(Some(sent)),
+            Ok(Begun::Bad) => return Ok(None),
+            Err(NoMemory) => return Err(NoMemory),
+        }
+    }
+    place.doing = At::Leaves;
+    Ok(None)
+}
+
+// The state is told, and the next lines are begun.
+fn tell_and_go(
+    alloc: Global,
+    client: &mut Client,
+    place: &mut Place<'_>,
+    out: &mut Bytes,
+) -> Result<Option<Bytes>, NoMemory>
+    requires idle { IsTrue (is_idle client.old) }
+    requires few { client.old.calls ≤ place.old.number }
+    requires within { IsWithin place.old }
+    requires total { place.old.total < 2 ^ 63 }
+    ensures went { (w : Talker) (t : Talk) (start : List ℕ) → On w t start client.old place.old out.old → GoesTo w t (goes_on w (tells_state w t) t.lines) start client.new place.new out.new result }
+    ensures fine { IfOk result (λ sent. IsFine place.new.doing place.new) }
+    ensures sends { IfOk result (λ sent. MaySend place.new.doing sent) }
+    ensures total { place.new.total ≡ place.old.total }
+{
+    match tell_state(alloc, client, out) {
+        Ok(()) => go_on(alloc, client, place, out),
+        Err(NoMemory) => Err(NoMemory),
+    }
+}
+
+// It polls once more, and so many times more at most.
+fn poll_again(
+    alloc: Global,
+    client: &mut Client,
+    place: &mut Place<'_>,
+    left: u16,
+) -> Result<Option<Bytes>, NoMemory>
+    requires idle { IsTrue (is_idle client.old) }
+    requires few { client.old.calls ≤ place.old.number }
+    requires within { IsWithin place.old }
+    ensures went { (w : Talker) (t : Talk) (start out : List ℕ) → On w t start client.old place.old out → GoesTo w t (asks w t input.Poll (Settles left)) start client.new place.new out result }
+    ensures fine { IfOk result (λ sent. IsFine place.new.doing place.new) }
+    ensures sends { IfOk result (λ sent. MaySend place.new.doing sent) }
+    ensures total { place.new.total ≡ place.old.total }
+{
+    match client.poll(alloc) {
+        Ok(sent) => {
+            place.doing = At::Settles(left);
+            Ok(Some(sent))
+        }
+        Err(NoMemory) => Err(NoMemory),
+    }
+}
+
+// What the client is at is over: the next lines are begun, or it polls again.
+fn end_line(
+    alloc: Global,
+    client: &mut Client,
+    place: &mut Place<'_>,
+    out: &mut Bytes,
+) -> Result<Option<Bytes>, NoMemory>
+    requires idle { IsTrue (is_idle client.old) }
+    requires few { client.old.calls ≤ place.old.number }
+    requires busy { IsBusy place.old.doing }
+    requires within { IsWithin place.old }
+    requires total { place.old.total < 2 ^ 63 }
+    ensures went { (w : Talker) (t : Talk) (start : List ℕ) → On w t start client.old place.old out.old → IsDoing place.old.doing t.doing → GoesTo w t (ends_line w t t.doing) start client.new place.new out.new result }
+    ensures fine { IfOk result (λ sent. IsFine place.new.doing place.new) }
+    ensures sends { IfOk result (λ sent. MaySend place.new.doing sent) }
+    ensures total { place.new.total ≡ place.old.total }
+{
+    match place.doing {
+        At::Calls => go_on(alloc, client, place, out),
+        At::Settles(left) => {
+            if left == 0 {
+                return tell_and_go(alloc, client, place, out);
+            }
+            if client.unsettled() == 0 {
+                return tell_and_go(alloc, client, place, out);
+            }
+            poll_again(alloc, client, place, left - 1)
+        }
+        _ => tell_and_go(alloc, client, place, out),
+    }
+}
+
+// What is printed of an outcome. Where memory runs out, nothing is.
+fn tell_outcome(alloc: Global, returned: &Option<Outcome>, out: &mut Bytes) -> Result<(), NoMemory>
+    ensures ok { OnOk result (out.new ≡ out.old ++ outcome_line None returned.now) }
+    ensures err { OnErr result (out.new ≡ out.old) }
+{
+    let Some(outcome) = returned else {
+        return Ok(());
+    };
+    let mut text = outcome_text(alloc, outcome)?;
+    text.append(b"\n")?;
+    out.append(text.as_slice())
+}
+
+// What follows a step on a payload: the client has halted; or it sends something, or awaits another answer; or what it was at
+// is over.
+fn hear_step(
+    alloc: Global,
+    client: &mut Client,
+    place: &mut Place<'_>,
+    payload: &[u8],
+    step: Step,
+    out: &mut Bytes,
+) -> Result<Option<Bytes>, NoMemory>
+    requires few { client.old.calls ≤ place.old.number }
+    requires busy { IsBusy place.old.doing }
+    requires within { IsWithin place.old }
+    requires total { place.old.total < 2 ^ 63 }
+    ensures went { (w : Talker) (t : Talk) (start : List ℕ) → Heard w t start payload.now step client.old place.old out.old → GoesTo w t (hears w t payload.now) start client.new place.new out.new result }
+    ensures fine { IfOk result (λ sent. IsFine place.new.doing place.new) }
+    ensures sends { IfOk result (λ sent. MaySend place.new.doing sent) }
+    ensures total { place.new.total ≡ place.old.total }
+{
+    if let Some(check) = client.halted() {
+        place.doing = At::Halts(check, content(payload));
+        return Ok(None);
+    }
+    let Step { send, returned } = step;
+    match tell_outcome(alloc, &returned, out) {
+        Ok(()) => (),
+        Err(NoMemory) => return Err(NoMemory),
+    }
+    match send {
+        Some(sent) => Ok(Some(sent)),
+        None => {
+            if client.idle() {
+                end_line(alloc, client, place, out)
+            } else {
+                Ok(None)
+            }
+        }
+    }
+}
+
+/// The client takes an answer; what is to be sent then is answered.
+pub fn hear(
+    alloc: Global,
+    client: &mut Client,
+    place: &mut Place<'_>,
+    payload: &[u8],
+    out: &mut Bytes,
+) -> Result<Option<Bytes>, NoMemory>
+    requires stands { Stands client.old place.old.number }
+    requires busy { IsBusy place.old.doing }
+    requires within { IsWithin place.old }
+    requires total { place.old.total < 2 ^ 63 }
+    ensures went { (w : Talker) (t : Talk) (start : List ℕ) → On w t start client.old place.old out.old → IsDoing place.old.doing t.doing → GoesTo w t (hears w t payload.now) start client.new place.new out.new result }
+    ensures fine { IfOk result (λ sent. IsFine place.new.doing place.new) }
+    ensures sends { IfOk result (λ sent. MaySend place.new.doing sent) }
+    ensures total { place.new.total ≡ place.old.total }
+{
+    match client.take(alloc, payload) {
+        Ok(step) => hear_step(alloc, client, place, payload, step, out),
+        Err(NoMemory) => Err(NoMemory),
+    }
+}
