@@ -35,25 +35,26 @@ length-front n q h = omega (arith, length-drop (length q - n) q)
 -- ---- the least position
 
 -- no position is above base on a short path
-pub least_low : (base : ℕ) (test : Entry → Bool) (p : List Entry) → length p ≤ base → least_above base test p ≡ None
+pub least_low : (base : ℕ) (test : ℕ → Entry → Bool) (p : List Entry) → length p ≤ base → least_above base test p ≡ None
 unfolding least_above
 least_low base test [] h = refl
 least_low base test (e ∷ p) h =
-    ap (λ (o : Option ℕ). or_this o (if nat_lt base (length (e ∷ p)) && test e then Some (length (e ∷ p)) else None)) (least_low base test p (omega arith))
-    ∙ ap (λ (b : Bool). if b && test e then Some (length (e ∷ p)) else None) (le-ltb base (length (e ∷ p)) h)
+    ap (λ (o : Option ℕ). or_this o (if nat_lt base (length (e ∷ p)) && test (length (e ∷ p)) e then Some (length (e ∷ p)) else None)) (least_low base test p (omega arith))
+    ∙ ap (λ (b : Bool). if b && test (length (e ∷ p)) e then Some (length (e ∷ p)) else None) (le-ltb base (length (e ∷ p)) h)
 
-least_cons : (base : ℕ) (test : Entry → Bool) (e : Entry) (p : List Entry) → least_above base test p ≡ None
-    → least_above base test (e ∷ p) ≡ (if nat_lt base (length (e ∷ p)) && test e then Some (length (e ∷ p)) else None)
+least_cons : (base : ℕ) (test : ℕ → Entry → Bool) (e : Entry) (p : List Entry) → least_above base test p ≡ None
+    → least_above base test (e ∷ p) ≡ (if nat_lt base (length (e ∷ p)) && test (length (e ∷ p)) e then Some (length (e ∷ p)) else None)
 unfolding least_above
 least_cons base test e p h =
-    ap (λ (o : Option ℕ). or_this o (if nat_lt base (length (e ∷ p)) && test e then Some (length (e ∷ p)) else None)) h
+    ap (λ (o : Option ℕ). or_this o (if nat_lt base (length (e ∷ p)) && test (length (e ∷ p)) e then Some (length (e ∷ p)) else None)) h
 
 -- an entry more that the test doesn't find
-pub least_none : (base : ℕ) (test : Entry → Bool) (n : ℕ) (q : List Entry) (e : Entry) → suc n ≤ length q → newest (front (suc n) q) ≡ Some e
-    → least_above base test (front n q) ≡ None → test e ≡ false → least_above base test (front (suc n) q) ≡ None
+pub least_none : (base : ℕ) (test : ℕ → Entry → Bool) (n : ℕ) (q : List Entry) (e : Entry) → suc n ≤ length q → newest (front (suc n) q) ≡ Some e
+    → least_above base test (front n q) ≡ None → test (suc n) e ≡ false → least_above base test (front (suc n) q) ≡ None
 least_none base test n q e le tip below fails =
     ap (least_above base test) (front_tip n q e le tip)
     ∙ least_cons base test e (front n q) below
+    ∙ ap (λ (k : ℕ). if nat_lt base (length (e ∷ front n q)) && test k e then Some (length (e ∷ front n q)) else None) (ap suc (length-front n q (omega arith)))
     ∙ ap (λ (b : Bool). if nat_lt base (length (e ∷ front n q)) && b then Some (length (e ∷ front n q)) else None) fails
     ∙ neither (nat_lt base (length (e ∷ front n q))) (Some (length (e ∷ front n q)))
   where
@@ -62,23 +63,23 @@ least_none base test n q e le tip below fails =
     neither false o = refl
 
 -- an entry that the test finds
-pub least_found : (base : ℕ) (test : Entry → Bool) (n : ℕ) (q : List Entry) (e : Entry) → suc n ≤ length q → newest (front (suc n) q) ≡ Some e
-    → base < suc n → least_above base test (front n q) ≡ None → test e ≡ true → least_above base test (front (suc n) q) ≡ Some (suc n)
+pub least_found : (base : ℕ) (test : ℕ → Entry → Bool) (n : ℕ) (q : List Entry) (e : Entry) → suc n ≤ length q → newest (front (suc n) q) ≡ Some e
+    → base < suc n → least_above base test (front n q) ≡ None → test (suc n) e ≡ true → least_above base test (front (suc n) q) ≡ Some (suc n)
 least_found base test n q e le tip lt below found =
     let len : length (e ∷ front n q) ≡ suc n = ap suc (length-front n q (omega arith)) in
     ap (least_above base test) (front_tip n q e le tip)
     ∙ least_cons base test e (front n q) below
-    ∙ ap (λ (k : ℕ). if nat_lt base k && test e then Some k else None) len
-    ∙ ap (λ (b : Bool). if b && test e then Some (suc n) else None) (lt-ltb base (suc n) lt)
+    ∙ ap (λ (k : ℕ). if nat_lt base k && test k e then Some k else None) len
+    ∙ ap (λ (b : Bool). if b && test (suc n) e then Some (suc n) else None) (lt-ltb base (suc n) lt)
     ∙ ap (λ (b : Bool). if b then Some (suc n) else None) found
 
 -- what was found stays found as the path grows
-pub least_kept : (base : ℕ) (test : Entry → Bool) (u k : ℕ) (p : List Entry) → least_above base test (drop k p) ≡ Some u → least_above base test p ≡ Some u
+pub least_kept : (base : ℕ) (test : ℕ → Entry → Bool) (u k : ℕ) (p : List Entry) → least_above base test (drop k p) ≡ Some u → least_above base test p ≡ Some u
 unfolding least_above
 least_kept base test u zero p h = h
 least_kept base test u (suc k) [] h = h
 least_kept base test u (suc k) (e ∷ p) h =
-    ap (λ (o : Option ℕ). or_this o (if nat_lt base (length (e ∷ p)) && test e then Some (length (e ∷ p)) else None)) (least_kept base test u k p h)
+    ap (λ (o : Option ℕ). or_this o (if nat_lt base (length (e ∷ p)) && test (length (e ∷ p)) e then Some (length (e ∷ p)) else None)) (least_kept base test u k p h)
 
 -- a front below the whole is one of what lies below the last entry
 pub front_under : (n : ℕ) (q : List Entry) → suc n ≤ length q → front n q ≡ drop (length q - suc n) (drop 1 q)

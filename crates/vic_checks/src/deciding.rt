@@ -21,9 +21,9 @@ use vic_prune::Pruned;
 use vic_rules::Own;
 use vic_wire::TaggedList;
 
-// Whether an entry is another client's and conflicts with the operation.
+// Whether an entry is another client's and conflicts with the operation, wherever it stands.
 fn is_in_the_way(me: u8, op: &Op, entry: &Entry) -> bool
-    ensures { result ≡ in_way me op.now entry.now }
+    ensures { (position : ℕ) → result ≡ in_way me op.now position entry.now }
 {
     entry.client != me && conflicts(&entry.op, op)
 }

@@ -39,7 +39,7 @@ same_both k q = (
   (λ e. or-true (bytes_eq q k) (bytes_eq k q) ((bytes_eq-Decides q k).1 (sym e))),
 )
 
-begins : (k p : List ℕ) → (starts_with nat_eq k p ≡ true) ↔ BeginsWith k p
+pub begins : (k p : List ℕ) → (starts_with nat_eq k p ≡ true) ↔ BeginsWith k p
 begins k p =
     let told = starts_is Decides-eqb k p (starts_with nat_eq k p) refl in
     ((λ t. (drop (length p) k, told.0 t)), (λ b. told.1 b.0 b.1))

@@ -24,7 +24,7 @@ Alike o d e = (k : List ℕ) → looks_at o k ≡ true → map.get d k ≡ map.g
 
 -- ---- keys
 
-abbrev is_key : List ℕ → List ℕ → Bool
+abbrev pub is_key : List ℕ → List ℕ → Bool
 is_key q k = eq_by_cmp (slice_cmp nat_cmp) q k
 
 tells : (x y : List ℕ) → slice_cmp nat_cmp x y ≡ Equal → x ≡ y
@@ -33,22 +33,22 @@ tells x y e = map.slice_cmp-IsAntisymmetric map.nat_cmp-IsAntisymmetric x y e
 is_key-eq : (q k : List ℕ) → is_key q k ≡ bytes_eq q k
 is_key-eq q k = is_eq-slice_cmp q k
 
-same_key : (q k : List ℕ) → is_key q k ≡ true → q ≡ k
+pub same_key : (q k : List ℕ) → is_key q k ≡ true → q ≡ k
 same_key q k e = (bytes_eq-Decides q k).0 (sym (is_key-eq q k) ∙ e)
 
-own_key : (k : List ℕ) → bytes_eq k k ≡ true
+pub own_key : (k : List ℕ) → bytes_eq k k ≡ true
 own_key k = (bytes_eq-Decides k k).1 refl
 
 -- ---- what an operation leaves at a key
 
 -- what it leaves there, given what was there
-abbrev leaves_at : Op → List ℕ → Option (List ℕ) → Option (List ℕ)
+abbrev pub leaves_at : Op → List ℕ → Option (List ℕ) → Option (List ℕ)
 leaves_at (op.Put k v) q was = cond (is_key q k) (Some v) was
 leaves_at (op.Get k) q was = was
 leaves_at (op.Del k) q was = cond (is_key q k) None was
 leaves_at (op.List p) q was = was
 
-get-after : (o : Op) (d : Dictionary) (q : List ℕ) → map.get (after d o) q ≡ leaves_at o q (map.get d q)
+pub get-after : (o : Op) (d : Dictionary) (q : List ℕ) → map.get (after d o) q ≡ leaves_at o q (map.get d q)
 get-after (op.Put k v) d q = map.get-insert nat_list_cmp_total d k v q
 get-after (op.Get k) d q = refl
 get-after (op.Del k) d q = map.get-remove nat_list_cmp_total d k q
@@ -117,7 +117,7 @@ passing true x y same = same refl
 passing false x y same = refl
 
 -- dictionaries that are alike at the keys that pass have the same keys that pass
-same_passing : (p : List ℕ → Bool) (d e : Dictionary) → ((k : List ℕ) → p k ≡ true → map.get d k ≡ map.get e k) → filter p (map.keys d) ≡ filter p (map.keys e)
+pub same_passing : (p : List ℕ → Bool) (d e : Dictionary) → ((k : List ℕ) → p k ≡ true → map.get d k ≡ map.get e k) → filter p (map.keys d) ≡ filter p (map.keys e)
 same_passing p d e alike =
     let R = slice_cmp nat_cmp in
     let tied : (q x : List ℕ) → slice_cmp nat_cmp q x ≡ Equal → p x ≡ p q = λ q x t. ap p (sym (tells q x t)) in

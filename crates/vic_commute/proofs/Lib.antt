@@ -1,2 +1,3 @@
 pub mod Commuting
 pub mod Cells
+pub mod Heeding

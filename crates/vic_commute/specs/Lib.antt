@@ -1,1 +1,2 @@
 pub mod Commutes
+pub mod Blocks

@@ -7,6 +7,8 @@
 ghost use Rattle.std.specs.Prelude.{◌≡◌};
 ghost use Rattle.vic_wire.specs.Conflict.{conflicts as conflict, is_met, changed_key, looks_at as looks};
 ghost use Rattle.vic_commute.specs.Commutes.{Commutes, ConflictTable};
+ghost use Rattle.vic_commute.specs.Blocks.{NotBlocked, BlocksConflict, BlocksAre};
+ghost use Rattle.vic_wire.specs.Conflict.{heeds as heeds_test, blocks as block};
 
 use vic_dict::Op;
 
@@ -45,4 +47,31 @@ pub fn commutes()
 /// What `conflicts` says of each two kinds of operations.
 pub fn table()
     ensures { ConflictTable }
+{}
+
+// Whether the answer of an operation depends on the value of a key.
+fn heeds(op: &Op, key: &[u8]) -> bool
+    ensures { result ≡ heeds_test op.now key.now }
+{
+    match op {
+        Op::Put(_, _) => false,
+        Op::Get(_) | Op::Del(_) | Op::List(_) => looks_at(op, key),
+    }
+}
+
+/// Whether a pending operation of another client may change what one's own answers. It costs what comparing two keys costs.
+pub fn blocks(pending: &Op, mine: &Op) -> bool
+    ensures { result ≡ block pending.now mine.now }
+{
+    match pending {
+        Op::Put(key, _) | Op::Del(key) => heeds(mine, key.as_slice()),
+        Op::Get(_) | Op::List(_) => false,
+    }
+}
+
+/// What doesn't block an operation leaves its answer alone; what blocks it conflicts with it; and what `blocks` says of operations.
+pub fn blocking()
+    ensures alone { NotBlocked }
+    ensures conflict { BlocksConflict }
+    ensures table { BlocksAre }
 {}

@@ -27,10 +27,10 @@ neither_one : (a b : Option ℕ) → or_this a b ≡ None → (a ≡ None) × (b
 neither_one (Some u) b e = absurd cc
 neither_one None b e = (refl, e)
 
-pub none_above : (base : ℕ) (test : Entry → Bool) (e : Entry) (path : List Entry) → least_above base test (e ∷ path) ≡ None
-    → (least_above base test path ≡ None) × ((if nat_lt base (length (e ∷ path)) && test e then Some (length (e ∷ path)) else None) ≡ None)
+pub none_above : (base : ℕ) (test : ℕ → Entry → Bool) (e : Entry) (path : List Entry) → least_above base test (e ∷ path) ≡ None
+    → (least_above base test path ≡ None) × ((if nat_lt base (length (e ∷ path)) && test (length (e ∷ path)) e then Some (length (e ∷ path)) else None) ≡ None)
 unfolding least_above
-none_above base test e path h = neither_one (least_above base test path) (if nat_lt base (length (e ∷ path)) && test e then Some (length (e ∷ path)) else None) h
+none_above base test e path h = neither_one (least_above base test path) (if nat_lt base (length (e ∷ path)) && test (length (e ∷ path)) e then Some (length (e ∷ path)) else None) h
 
 pub not_chosen : (a b : Bool) (u : ℕ) → a ≡ true → (if a && b then Some u else None) ≡ None → b ≡ false
 not_chosen a true u e h = let f = sym (ap (λ c. if c && true then Some u else None) e) ∙ h in absurd cc
@@ -49,7 +49,7 @@ walk me o (x ∷ over) base free =
     let higher : length base < length (x ∷ below) = omega (arith, length-append over base) in
     let parts = none_above (length base) (is_in_the_way me o) x.entry (entries below) free in
     let lt : nat_lt (length base) (length (x.entry ∷ entries below)) ≡ true = lt-ltb (length base) (length (x.entry ∷ entries below)) (omega (arith, length-entries below)) in
-    let away : is_in_the_way me o x.entry ≡ false = not_chosen (nat_lt (length base) (length (x.entry ∷ entries below))) (is_in_the_way me o x.entry) (length (x.entry ∷ entries below)) lt parts.1 in
+    let away : is_in_the_way me o (length (x.entry ∷ entries below)) x.entry ≡ false = not_chosen (nat_lt (length base) (length (x.entry ∷ entries below))) (is_in_the_way me o (length (x.entry ∷ entries below)) x.entry) (length (x.entry ∷ entries below)) lt parts.1 in
     let rest = walk me o over base parts.0 in
     let d : Dictionary = fold done_op (dictionary_by base) (owns me (length base) below) in
     subst (λ e. Alike o (fold done_op (dictionary_by base) (owns me (length base) (x ∷ below))) e) (sym (dictionary-next x below))

@@ -190,10 +190,10 @@ own_one_at cs me [] e p h mine = h.0 mine
 own_one_at cs me (x ∷ above) e p h mine = own_one_at cs me above e p h.1 mine
 
 -- a search that finds nothing finds nothing at each place
-none_at : (base : ℕ) (test : Entry → Bool) (above : List Ordered) (u : Ordered) (low : List Ordered) → least_above base test (entries (above ++ u ∷ low)) ≡ None → base < length (u ∷ low) → test u.entry ≡ false
+none_at : (base : ℕ) (test : ℕ → Entry → Bool) (above : List Ordered) (u : Ordered) (low : List Ordered) → least_above base test (entries (above ++ u ∷ low)) ≡ None → base < length (u ∷ low) → test (length (u.entry ∷ entries low)) u.entry ≡ false
 none_at base test [] u low e higher =
     let lt : nat_lt base (length (u.entry ∷ entries low)) ≡ true = lt-ltb base (length (u.entry ∷ entries low)) (omega (arith, length-entries low)) in
-    not_chosen (nat_lt base (length (u.entry ∷ entries low))) (test u.entry) (length (u.entry ∷ entries low)) lt (none_above base test u.entry (entries low) e).1
+    not_chosen (nat_lt base (length (u.entry ∷ entries low))) (test (length (u.entry ∷ entries low)) u.entry) (length (u.entry ∷ entries low)) lt (none_above base test u.entry (entries low) e).1
 none_at base test (x ∷ above) u low e higher = none_at base test above u low (none_above base test x.entry (entries (above ++ u ∷ low)) e).0 higher
 
 abbrev top_fate : List Ordered → Outcome
@@ -240,7 +240,7 @@ module _ (g : Group) (w : World) (fit : WorldFits g w) (know : WorldKnows g w) w
         let at : w.server.log ≡ (above ++ x ∷ mid) ++ u ∷ rest = is ∙ ap (λ l. above ++ x ∷ l) e ∙ sym (append_assoc above (x ∷ mid) (u ∷ rest)) in
         let opened = unconfirmed_open (above ++ x ∷ mid) u rest at none in
         let past : x.sealed_then ≤ sealed_count w.server = (all-second (IsPast (sealed_count w.server)) above (x ∷ low) (subst (AllByRecursion (IsPast (sealed_count w.server))) is know.server.past)).0 in
-        let away : is_in_the_way x.entry.client x.entry.op u.entry ≡ false =
+        let away : is_in_the_way x.entry.client x.entry.op (length (u.entry ∷ entries rest)) u.entry ≡ false =
         none_at x.sealed_then (is_in_the_way x.entry.client x.entry.op) mid u rest (ap (λ l. in_the_way x.entry.client x.entry.op x.sealed_then (entries l)) (sym e) ∙ free) (omega (arith, past, opened.0)) in
         let other : nat_eq u.entry.client x.entry.client ≡ false =
         ne_eqb u.entry.client x.entry.client (λ same. eqb-false x.entry.client u.entry.client (NotOf-at u.entry.client above x mid opened.1) (sym same)) in

@@ -11,7 +11,7 @@ use Rattle.vic_wire.specs.Messages.{IsEntry}
 use Rattle.vic_wire.specs.Trees.{tree_of}
 use Rattle.vic_wire.specs.Cuts.{IsCut}
 use Rattle.vic_wire.specs.Parts.{walked}
-use Rattle.vic_commute.proofs.Commuting.{Alike, reply_alike}
+use Rattle.vic_commute.proofs.Heeding.{HeededAlike, looked_alike, heeded_reply}
 use Rattle.vic_tree.proofs.Alike.{alike as alike_on_cut}
 use Rattle.vic_roots.proofs.Proper.{byte_keys-proper}
 use Rattle.vic_laws.proofs.Paths.{all_drop, path_spelled}
@@ -146,7 +146,7 @@ module _ (g : Group) (whole : List TraceStep) (lawful : AreSteps g whole) (hones
       alike none =
           ap (λ d. reply d r.op) laid_is
           ∙ (reply_stands r.op x.client r.seal.position (completions g whole) (walked r.part r.op) (λ q. was_done (confirmed (completions g whole) q)) (λ c p mine. refl) below none
-          ∙ (reply_alike r.op _ _ (effects_alike r.op (λ q. was_done (confirmed (completions g whole) q)) r.seal.position (walked r.part r.op) base_left shows_base below)
+          ∙ (heeded_reply r.op _ _ (effects_alike r.op (λ q. was_done (confirmed (completions g whole) q)) r.seal.position (walked r.part r.op) base_left shows_base below)
           ∙ ap (λ d. reply d r.op) (left_chosen (completions g whole) r.seal.position base_left below refl)))
         where
           base_left : Dictionary
@@ -159,8 +159,8 @@ module _ (g : Group) (whole : List TraceStep) (lawful : AreSteps g whole) (hones
           proper = left_proper (completions g whole) (front r.seal.position below) (all_drop IsEntry _ below spelled.1)
 
           -- the walk shows what the calls up to the seal leave wherever the operation looks
-          shows_base : Alike r.op (walked r.part r.op) base_left
-          shows_base = alike_on_cut base_left (byte_keys-proper base_left proper) r.part told r.op spelled.0.op.1 r.reached
+          shows_base : HeededAlike r.op (walked r.part r.op) base_left
+          shows_base = looked_alike r.op (walked r.part r.op) base_left (alike_on_cut base_left (byte_keys-proper base_left proper) r.part told r.op spelled.0.op.1 r.reached)
 
   -- each confirmed call is explained by the confirmed calls below it
   confirmed_explains : (e : Entry) (p : List Entry) (c : Completion) → confirmed (completions g whole) (e ∷ p) ≡ Some c

@@ -55,7 +55,7 @@ front_whole u xs le =
 
 -- ---- the least position
 
-passes_above : (test : Entry → Bool) (e : Entry) (path : List Entry) (u : ℕ) → PassesAt test path u → PassesAt test (e ∷ path) u
+passes_above : (test : ℕ → Entry → Bool) (e : Entry) (path : List Entry) (u : ℕ) → PassesAt test path u → PassesAt test (e ∷ path) u
 passes_above test e path u h = record {
   within = let w : u ≤ length path = h.within in omega arith;
   entry = h.entry;
@@ -63,7 +63,7 @@ passes_above test e path u h = record {
   passes = h.passes;
 }
 
-passes_below : (test : Entry → Bool) (e : Entry) (path : List Entry) (u : ℕ) → u ≤ length path → PassesAt test (e ∷ path) u → PassesAt test path u
+passes_below : (test : ℕ → Entry → Bool) (e : Entry) (path : List Entry) (u : ℕ) → u ≤ length path → PassesAt test (e ∷ path) u → PassesAt test path u
 passes_below test e path u le h = record {
   within = le;
   entry = h.entry;
@@ -71,7 +71,7 @@ passes_below test e path u le h = record {
   passes = h.passes;
 }
 
-passes_newest : (test : Entry → Bool) (e : Entry) (path : List Entry) → test e ≡ true → PassesAt test (e ∷ path) (suc (length path))
+passes_newest : (test : ℕ → Entry → Bool) (e : Entry) (path : List Entry) → test (suc (length path)) e ≡ true → PassesAt test (e ∷ path) (suc (length path))
 passes_newest test e path h = record {
   within = omega arith;
   entry = e;
@@ -83,21 +83,23 @@ some_entry : (a b : Entry) → ◌≡◌ {A = Option Entry} (Some a) (Some b) �
 some_entry a b e = cc
 
 -- what passes at the newest position is the newest entry
-newest_passes : (test : Entry → Bool) (e : Entry) (path : List Entry) (u : ℕ) → length path < u → PassesAt test (e ∷ path) u → test e ≡ true
+newest_passes : (test : ℕ → Entry → Bool) (e : Entry) (path : List Entry) (u : ℕ) → length path < u → PassesAt test (e ∷ path) u → test (suc (length path)) e ≡ true
 newest_passes test e path u lt h =
     let there : ◌≡◌ {A = Option Entry} (Some e) (Some h.entry) = ap newest (sym (front_whole u (e ∷ path) lt)) ∙ h.there in
-    subst (λ (x : Entry). test x ≡ true) (sym (some_entry e h.entry there)) h.passes
+    let w : u ≤ suc (length path) = h.within in
+    let at : u ≡ suc (length path) = omega arith in
+    subst (λ n. test n e ≡ true) at (subst (λ (x : Entry). test u x ≡ true) (sym (some_entry e h.entry there)) h.passes)
 
 -- what the search has found
-abbrev Finds : ℕ → (Entry → Bool) → List Entry → Option ℕ → Type 0
+abbrev Finds : ℕ → (ℕ → Entry → Bool) → List Entry → Option ℕ → Type 0
 Finds base test path None = (u : ℕ) → base < u → PassesAt test path u → ⊥
 Finds base test path (Some u) = IsLeastAbove base test path u
 
 cases_top : (n u : ℕ) → (u ≤ n) ⊎ (n < u)
 cases_top n u = grind arith
 
-finds_more : (base : ℕ) (test : Entry → Bool) (e : Entry) (path : List Entry) (o : Option ℕ) → Finds base test path o
-    → (b : Bool) → (nat_lt base (suc (length path)) && test e) ≡ b
+finds_more : (base : ℕ) (test : ℕ → Entry → Bool) (e : Entry) (path : List Entry) (o : Option ℕ) → Finds base test path o
+    → (b : Bool) → (nat_lt base (suc (length path)) && test (suc (length path)) e) ≡ b
     → Finds base test (e ∷ path) (or_this o (if b then Some (suc (length path)) else None))
 finds_more base test e path (Some u) f b eq = record {
   above = f.above;
@@ -107,7 +109,7 @@ finds_more base test e path (Some u) f b eq = record {
       f.least v bv vu (passes_below test e path v (omega arith) s);
 }
 finds_more base test e path None f true eq =
-    let both = and_parts (nat_lt base (suc (length path))) (test e) eq in
+    let both = and_parts (nat_lt base (suc (length path))) (test (suc (length path)) e) eq in
     record {
       above = ltb-true base (suc (length path)) both.0;
       passes = passes_newest test e path both.1;
@@ -118,17 +120,17 @@ finds_more base test e path None f false eq = λ u bu s.
     let Goal : (u ≤ length path) ⊎ (length path < u) → Type 0 = λ c. ⊥ in
     elim (cases_top (length path) u) as Goal [
       | inl le ↦ f u bu (passes_below test e path u le s)
-      | inr lt ↦ true≢false (sym (and_from (nat_lt base (suc (length path))) (test e) (lt-ltb base (suc (length path)) (omega arith)) (newest_passes test e path u lt s)) ∙ eq)
+      | inr lt ↦ true≢false (sym (and_from (nat_lt base (suc (length path))) (test (suc (length path)) e) (lt-ltb base (suc (length path)) (omega arith)) (newest_passes test e path u lt s)) ∙ eq)
     ]
 
 -- the search finds the least position, or there is none
-pub least_above_finds : (base : ℕ) (test : Entry → Bool) (path : List Entry) → Finds base test path (least_above base test path)
+pub least_above_finds : (base : ℕ) (test : ℕ → Entry → Bool) (path : List Entry) → Finds base test path (least_above base test path)
 unfolding least_above
 least_above_finds base test [] = λ u bu s. let w : u ≤ zero = s.within in omega arith
 least_above_finds base test (e ∷ path) =
-    finds_more base test e path (least_above base test path) (least_above_finds base test path) (nat_lt base (suc (length path)) && test e) refl
+    finds_more base test e path (least_above base test path) (least_above_finds base test path) (nat_lt base (suc (length path)) && test (suc (length path)) e) refl
 
-least_is_one : (base : ℕ) (test : Entry → Bool) (path : List Entry) (u v : ℕ) → IsLeastAbove base test path u → IsLeastAbove base test path v → v ≡ u
+least_is_one : (base : ℕ) (test : ℕ → Entry → Bool) (path : List Entry) (u v : ℕ) → IsLeastAbove base test path u → IsLeastAbove base test path v → v ≡ u
 least_is_one base test path u v a b =
     let bu : base < u = a.above in
     let bv : base < v = b.above in
@@ -136,11 +138,11 @@ least_is_one base test path u v a b =
     let not_more : u < v → ⊥ = λ lt. b.least u bu lt a.passes in
     omega arith
 
-told_some : (base : ℕ) (test : Entry → Bool) (path : List Entry) (u : ℕ) (o : Option ℕ) → Finds base test path o → IsLeastAbove base test path u → o ≡ Some u
+told_some : (base : ℕ) (test : ℕ → Entry → Bool) (path : List Entry) (u : ℕ) (o : Option ℕ) → Finds base test path o → IsLeastAbove base test path u → o ≡ Some u
 told_some base test path u None f least = absurd (f u least.above least.passes)
 told_some base test path u (Some v) f least = ap Some (least_is_one base test path u v least f)
 
-told_none : (base : ℕ) (test : Entry → Bool) (path : List Entry) (o : Option ℕ) → Finds base test path o → ((u : ℕ) → base < u → PassesAt test path u → ⊥) → o ≡ None
+told_none : (base : ℕ) (test : ℕ → Entry → Bool) (path : List Entry) (o : Option ℕ) → Finds base test path o → ((u : ℕ) → base < u → PassesAt test path u → ⊥) → o ≡ None
 told_none base test path None f all = refl
 told_none base test path (Some v) f all = absurd (all v f.above f.passes)
 

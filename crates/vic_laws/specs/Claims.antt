@@ -1,5 +1,5 @@
 -- The laws of histories, one by one. Each holds of every lawful history, whatever the payloads hold.
-use Rattle.std.specs.Prelude.{◌≡◌, ◌≢◌, ℕ, ◌≤◌, ◌⊎◌, List, [], ◌∷◌, ◌++◌, length, Some}
+use Rattle.std.specs.Prelude.{◌≡◌, ◌≢◌, ℕ, ◌≤◌, ◌⊎◌, Bool, List, [], ◌∷◌, ◌++◌, length, Some}
 use Rattle.vic_dict.specs.declared.op.Entry.{Entry}
 use Rattle.vic_dict.specs.Lists.{IsIn, front}
 use Rattle.vic_dict.specs.Dictionary.{IsProper}
@@ -12,10 +12,10 @@ use Rattle.vic_wire.specs.Trees.{dictionary_root}
 use Rattle.vic_wire.specs.Parts.{Part, IsPart, read_part}
 use Rattle.vic_spellings.specs.Spellings.{PartHoldsBytes}
 use Rattle.vic_rules.specs.declared.trace.TraceStep.{TraceStep}
-use Rattle.vic_rules.specs.Client.{Seals, entries_of, seal_of, seal_text_on}
+use Rattle.vic_rules.specs.Client.{Seals, entries_of, seal_of, seal_text_on, commit_text_on, is_done}
 use Rattle.vic_rules.specs.History.{IsLawful, path, move_of, Completion, completions}
 use Rattle.vic_rules.specs.Views.{confirmed, confirmed_calls, left_by, view_of, IsLegal}
-use Rattle.vic_rules.specs.Trust.{IsForged, Collides, took, parts_taken}
+use Rattle.vic_rules.specs.Trust.{IsForged, Collides, took, parts_taken, texts_made}
 
 -- ---- tags
 
@@ -93,3 +93,19 @@ pub record IsProperPart (bytes : List ℕ) : Type 0 where
 -- each part that a client took without halting is proper
 abbrev pub PartsAreProper : Type 0
 PartsAreProper = (g : Group) (h : List TraceStep) → IsLawful g h → (bytes : List ℕ) → IsIn (parts_taken g h) bytes → IsProperPart bytes
+
+-- ---- commits
+
+-- the owner of the last entry of a path completed that call on this very path, as done or else as aborted
+pub record CommittedAs (cs : List Completion) (p : List Entry) (done : Bool) : Type 0 where
+  pub by : Completion
+  pub found : confirmed cs p ≡ Some by
+  pub ends : is_done by.outcome ≡ done
+
+-- unless two texts collide, a commit text of a front of a client's path that some client made tells how that front's last call was completed
+abbrev pub CommitsTellIn : Group → List TraceStep → Type 0
+CommitsTellIn g h = (Collides g h → ⊥) → (me n : ℕ) (done : Bool) → IsIn (texts_made g h) (commit_text_on g (front n (path g me h)) done)
+    → CommittedAs (completions g h) (front n (path g me h)) done
+
+abbrev pub CommitsTell : Type 0
+CommitsTell = (g : Group) (h : List TraceStep) → IsLawful g h → CommitsTellIn g h

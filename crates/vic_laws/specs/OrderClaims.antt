@@ -28,24 +28,24 @@ abbrev pub SameEntryIs : Type 0
 SameEntryIs = (a b : Entry) → (same_entry a b ≡ true) ↔ (a ≡ b)
 
 -- the entry at a position of a path passes a test
-pub record PassesAt (test : Entry → Bool) (path : List Entry) (u : ℕ) : Type 0 where
+pub record PassesAt (test : ℕ → Entry → Bool) (path : List Entry) (u : ℕ) : Type 0 where
   pub within : u ≤ length path
   pub entry : Entry
   pub there : newest (front u path) ≡ Some entry
-  pub passes : test entry ≡ true
+  pub passes : test u entry ≡ true
 
 -- a position above base at which the test passes, and no lesser one does
-pub record IsLeastAbove (base : ℕ) (test : Entry → Bool) (path : List Entry) (u : ℕ) : Type 0 where
+pub record IsLeastAbove (base : ℕ) (test : ℕ → Entry → Bool) (path : List Entry) (u : ℕ) : Type 0 where
   pub above : base < u
   pub passes : PassesAt test path u
   pub least : (v : ℕ) → base < v → v < u → PassesAt test path v → ⊥
 
 -- the search finds the least such position, and nothing where there is none
 abbrev pub LeastAboveIs : Type 0
-LeastAboveIs = (base : ℕ) (test : Entry → Bool) (path : List Entry) (u : ℕ) → (least_above base test path ≡ Some u) ↔ IsLeastAbove base test path u
+LeastAboveIs = (base : ℕ) (test : ℕ → Entry → Bool) (path : List Entry) (u : ℕ) → (least_above base test path ≡ Some u) ↔ IsLeastAbove base test path u
 
 abbrev pub NoneAboveIs : Type 0
-NoneAboveIs = (base : ℕ) (test : Entry → Bool) (path : List Entry)
+NoneAboveIs = (base : ℕ) (test : ℕ → Entry → Bool) (path : List Entry)
     → (least_above base test path ≡ None) ↔ ((u : ℕ) → base < u → PassesAt test path u → ⊥)
 
 -- what confirms a path is the one completion with this path, and it is that of the newest entry's client

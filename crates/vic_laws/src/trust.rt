@@ -1,7 +1,7 @@
 //! The laws on tags, hashes and seals, and on what views answer and leave.
 
 ghost use Rattle.vic_laws.specs.Meanings.{AbortedByConflict, ApartIs, LegalIs, LawfulByClient, ListedAre, SealedAnswersStand};
-ghost use Rattle.vic_laws.specs.Claims.{DictionariesAreProper, HashesTellPaths, PartsAreProper, SealsHold, TagsHold, ViewsAreLegal, ViewsLeaveProper};
+ghost use Rattle.vic_laws.specs.Claims.{CommitsTell, DictionariesAreProper, HashesTellPaths, PartsAreProper, SealsHold, TagsHold, ViewsAreLegal, ViewsLeaveProper};
 
 /// One hash tells one path.
 pub fn prefixes()
@@ -28,6 +28,11 @@ pub fn dictionaries_are_proper()
     ensures paths { DictionariesAreProper }
     ensures views { ViewsLeaveProper }
     ensures parts { PartsAreProper }
+{}
+
+/// A commit whose text was made is that of a call that its owner completed so, on this very path.
+pub fn commits()
+    ensures { CommitsTell }
 {}
 
 /// A view is legal exactly where each of its calls was aborted, or has the answer of what the calls below it leave.

@@ -68,15 +68,15 @@ abbrev pub or_this : Option ℕ → Option ℕ → Option ℕ
 or_this (Some u) other = Some u
 or_this None other = other
 
--- the least position above base at which the test finds an entry
-unfoldable pub least_above : ℕ → (Entry → Bool) → List Entry → Option ℕ
+-- the least position above base at which the test finds the entry
+unfoldable pub least_above : ℕ → (ℕ → Entry → Bool) → List Entry → Option ℕ
 least_above base test [] = None
 least_above base test (e ∷ path) =
-    or_this (least_above base test path) (if nat_lt base (length (e ∷ path)) && test e then Some (length (e ∷ path)) else None)
+    or_this (least_above base test path) (if nat_lt base (length (e ∷ path)) && test (length (e ∷ path)) e then Some (length (e ∷ path)) else None)
 
 -- another client's entry that conflicts with the operation
-abbrev pub is_in_the_way : ℕ → Op → Entry → Bool
-is_in_the_way me o e = not (nat_eq e.client me) && conflicts e.op o
+abbrev pub is_in_the_way : ℕ → Op → ℕ → Entry → Bool
+is_in_the_way me o position e = not (nat_eq e.client me) && conflicts e.op o
 
 -- the least position above base whose entry is another client's and conflicts
 abbrev pub in_the_way : ℕ → Op → ℕ → List Entry → Option ℕ

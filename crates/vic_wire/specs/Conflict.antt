@@ -26,3 +26,18 @@ is_met (Some k) b = looks_at b k
 -- one of the two may change a key that the other looks at
 abbrev pub conflicts : Op → Op → Bool
 conflicts a b = is_met (changed_key a) b || is_met (changed_key b) a
+
+-- whether the answer of an operation depends on the value of a key
+abbrev pub heeds : Op → List ℕ → Bool
+heeds (op.Put k v) q = false
+heeds (op.Get k) q = bytes_eq k q
+heeds (op.Del k) q = bytes_eq k q
+heeds (op.List p) q = starts_with nat_eq q p
+
+abbrev pub is_heeded : Option (List ℕ) → Op → Bool
+is_heeded None b = false
+is_heeded (Some k) b = heeds b k
+
+-- the first, while it is pending, may change what the second answers
+abbrev pub blocks : Op → Op → Bool
+blocks a b = is_heeded (changed_key a) b

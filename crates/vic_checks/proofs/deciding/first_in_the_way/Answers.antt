@@ -16,7 +16,7 @@ returns-then-is_in_the_way c = λ g p s.
     let within : suc (suc n) ≤ length q = omega (arith, all, len, is, c.len.ensures, c.loop-position-test.true) in
     let tip = ap (λ (k : ℕ). newest (front k q)) is ∙ c.entry_at-entry.ensures g p s in
     let found = least_found c.args.base test n q c.entry_at-entry.result.now (omega (arith, within)) tip (omega (arith, is, c.loop-position.auto.position))
-    (c.loop-position.invariant g p n (omega (arith, is)) s) (sym c.is_in_the_way.ensures ∙ c.if-is_in_the_way.true) in
+    (c.loop-position.invariant g p n (omega (arith, is)) s) (sym (c.is_in_the_way.ensures (suc n)) ∙ c.if-is_in_the_way.true) in
     ap Some (sym is)
     ∙ sym (least_kept c.args.base test (suc n) (length q - suc (suc n)) (drop 1 q) (ap (least_above c.args.base test) (sym (front_under (suc n) q within)) ∙ found))
 
@@ -41,7 +41,7 @@ loop-position-preserved c = λ g p m e s.
     let tip = ap (λ (k : ℕ). newest (front k q)) is ∙ c.entry_at-entry.ensures g p s in
     ap (λ (k : ℕ). least_above c.args.base test (front k q)) same
     ∙ least_none c.args.base test n q c.entry_at-entry.result.now within tip
-    (c.loop-position.invariant g p n (omega (arith, is)) s) (sym c.is_in_the_way.ensures ∙ c.if-is_in_the_way.false)
+    (c.loop-position.invariant g p n (omega (arith, is)) s) (sym (c.is_in_the_way.ensures (suc n)) ∙ c.if-is_in_the_way.false)
 
 pub returns : goal.returns
 returns c = λ g p s.
