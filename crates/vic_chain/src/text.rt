@@ -70,7 +70,8 @@ fn mode_code(mode: Mode) -> u8
     }
 }
 
-/// The hash of the empty path in a group of this kind and with so many clients.
+/// The hash of the empty path in a group of this kind and with so many clients: that of the four bytes 05, 01, the mode (00 plain,
+/// 01 objects) and the count.
 pub fn genesis(mode: Mode, count: u8) -> Digest32
     ensures { result.bytes ≡ hash (genesis_text mode count) }
 {
@@ -80,7 +81,8 @@ pub fn genesis(mode: Mode, count: u8) -> Digest32
     }
 }
 
-/// The hash of a path with one more entry, from the hash before it.
+/// The hash of a path with one more entry, from the hash before it: that of 01, the hash before in 32 bytes, and the entry (client in
+/// one byte, sequence number in four, operation). It takes no memory, and costs as much as the entry is long.
 pub fn chain_step(previous: &Digest32, entry: &Entry) -> Digest32
     requires { IsEntry entry.now }
     ensures { result.bytes ≡ hash (chain_text previous.now.bytes entry.now) }

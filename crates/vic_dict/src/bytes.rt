@@ -64,18 +64,21 @@ impl Bytes {
         Bytes { items }
     }
 
+    /// How many bytes there are.
     pub fn len(&self) -> usize
         ensures { result ≡ length self.now }
     {
         self.items.len()
     }
 
+    /// Whether there is none.
     pub fn is_empty(&self) -> bool
         ensures { IsTrue result ↔ (self.now ≡ []) }
     {
         self.items.is_empty()
     }
 
+    /// Lends the bytes, in their order.
     pub fn as_slice(&self) -> &[u8]
         ensures { result.now ≡ self.now }
     {
@@ -116,6 +119,7 @@ impl Bytes {
         Ok(())
     }
 
+    /// A list with the same bytes. It takes memory for all of them, and costs as much as they are.
     pub fn copy(&self, alloc: Global) -> Result<Bytes, NoMemory>
         ensures { IfOk result (λ made. made ≡ self.now) }
     {
@@ -147,18 +151,21 @@ impl Names {
         }
     }
 
+    /// How many names there are.
     pub fn len(&self) -> usize
         ensures { result ≡ length self.now }
     {
         self.items.len()
     }
 
+    /// Whether there is none.
     pub fn is_empty(&self) -> bool
         ensures { IsTrue result ↔ (self.now ≡ []) }
     {
         self.items.is_empty()
     }
 
+    /// Lends the names, in their order.
     pub fn as_slice(&self) -> &[Bytes]
         ensures { result.now ≡ self.now }
     {
@@ -182,6 +189,7 @@ impl Names {
         Ok(())
     }
 
+    /// A list with the same names. It takes memory for each of them, and costs as much as their bytes.
     pub fn copy(&self, alloc: Global) -> Result<Names, NoMemory>
         ensures { IfOk result (λ made. made ≡ self.now) }
     {

@@ -89,6 +89,7 @@ impl Op {
         }
     }
 
+    /// The same operation, in memory of its own. It costs as much as its key and value.
     pub fn copy(&self, alloc: Global) -> Result<Op, NoMemory>
         ensures { IfOk result (λ made. made ≡ self.now) }
     {
@@ -102,6 +103,7 @@ impl Op {
 }
 
 impl Answer {
+    /// The same answer, in memory of its own. It costs as much as the bytes that it holds.
     pub fn copy(&self, alloc: Global) -> Result<Answer, NoMemory>
         ensures { IfOk result (λ made. made ≡ self.now) }
     {
@@ -117,6 +119,7 @@ impl Answer {
 }
 
 impl Outcome {
+    /// The same outcome, in memory of its own. It costs as much as the answer that it holds.
     pub fn copy(&self, alloc: Global) -> Result<Outcome, NoMemory>
         ensures { IfOk result (λ made. made ≡ self.now) }
     {
@@ -130,6 +133,7 @@ impl Outcome {
 }
 
 impl Entry {
+    /// The same entry, in memory of its own. It costs as much as its operation.
     pub fn copy(&self, alloc: Global) -> Result<Entry, NoMemory>
         ensures { IfOk result (λ made. made ≡ self.now) }
     {

@@ -207,6 +207,7 @@ impl PlainDict {
         self.rows.len()
     }
 
+    /// Whether it has no key.
     pub fn is_empty(&self) -> bool
         ensures { IsTrue result ↔ (map.len self.now ≡ 0) }
     {
@@ -262,6 +263,7 @@ impl PlainDict {
         Ok(())
     }
 
+    /// A dictionary with the same pairs. It takes memory for each pair, and costs as much as they are.
     pub fn copy(&self, alloc: Global) -> Result<PlainDict, NoMemory>
         ensures { IfOk result (λ made. made ≡ self.now) }
     {

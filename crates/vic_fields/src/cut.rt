@@ -54,6 +54,7 @@ impl<'a> Model for Cut<'a> {
 }
 
 impl<'a> Cut<'a> {
+    /// Begins at the front of the bytes. It takes no memory.
     pub fn new(bytes: &'a [u8]) -> Cut<'a>
         ensures { result ≡ bytes.now }
     {

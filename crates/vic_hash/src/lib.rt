@@ -14,7 +14,7 @@ pub use vic_wire::Digest32;
 #[cfg(test)]
 mod tests;
 
-/// The root of the dictionary without a key.
+/// The root of the dictionary without a key: the hash of the one byte 02.
 pub fn empty() -> Digest32
     ensures { result.bytes ≡ empty_root }
 {
@@ -25,7 +25,9 @@ pub fn empty() -> Digest32
     }
 }
 
-/// The root of the tree that has this key and value alone.
+/// The root of the tree that has this key and value alone: the hash of 03, the key's length in one byte, the key, and the value.
+///
+/// It costs one or more blocks of 64 bytes, as the text is long.
 pub fn leaf(key: &[u8], value: &[u8]) -> Digest32
     requires key { IsKey key.now }
     requires value { length value.now < 65 }
@@ -40,7 +42,8 @@ pub fn leaf(key: &[u8], value: &[u8]) -> Digest32
     }
 }
 
-/// The root of a tree that branches at this bit, from the roots of its two sides.
+/// The root of a tree that branches at this bit, from the roots of its two sides: the hash of 04, the index in two bytes, the
+/// higher first, the left root and the right root, 67 bytes in all.
 pub fn inner(index: u16, left: &Digest32, right: &Digest32) -> Digest32
     ensures { result.bytes ≡ hash (inner_text index left.now.bytes right.now.bytes) }
 {
@@ -54,7 +57,7 @@ pub fn inner(index: u16, left: &Digest32, right: &Digest32) -> Digest32
     }
 }
 
-/// The hash under which a content is kept. Its cost grows with the content.
+/// The hash under which a content is kept: that of 06 and the content's bytes. Its cost grows with the content.
 pub fn content(bytes: &[u8]) -> Digest32
     ensures { result.bytes ≡ hash (content_text bytes.now) }
 {

@@ -137,6 +137,7 @@ impl GroupKey {
         self.items.len()
     }
 
+    /// Lends its bytes, of which there are 1 to 64.
     pub fn as_slice(&self) -> &[u8]
         ensures value { result.now ≡ self.now }
         ensures some { 0 < length self.now }
@@ -145,6 +146,7 @@ impl GroupKey {
         self.items.as_slice()
     }
 
+    /// The same key, in memory of its own.
     pub fn copy(&self, alloc: Global) -> Result<GroupKey, NoMemory>
         ensures { IfOk result (λ made. made ≡ self.now) }
     {

@@ -53,18 +53,21 @@ impl TaggedList {
         }
     }
 
+    /// How many tagged entries there are.
     pub fn len(&self) -> usize
         ensures { result ≡ length self.now }
     {
         self.items.len()
     }
 
+    /// Whether there is none.
     pub fn is_empty(&self) -> bool
         ensures { IsTrue result ↔ (self.now ≡ []) }
     {
         self.items.is_empty()
     }
 
+    /// Lends the tagged entries, in their order.
     pub fn as_slice(&self) -> &[Tagged]
         ensures { result.now ≡ self.now }
     {
