@@ -29,7 +29,8 @@ use Rattle.vic_dict.specs.Dictionary.{IsProper}
 use Rattle.vic_wire.specs.Messages.{IsEntry}
 use Rattle.vic_wire.specs.Trees.{tree_of}
 use Rattle.vic_wire.specs.Cuts.{IsCut}
-use Rattle.vic_commute.proofs.Commuting.{Alike, reply_alike}
+use Rattle.vic_commute.proofs.Commuting.{Alike}
+use Rattle.vic_commute.proofs.Heeding.{HeededAlike, looked_alike, heeded_reply}
 use Rattle.vic_tree.proofs.Alike.{alike as alike_on_cut}
 use Rattle.vic_roots.proofs.Proper.{byte_keys-proper}
 use Rattle.vic_laws.proofs.Paths.{all_drop, path_spelled}
@@ -113,7 +114,7 @@ sealed_answers_stand g h lawful honest apart later x past whole seal entries byt
     let left_is : left_by (confirmed_calls (completions g h) (front r.seal.position (r.others ++ path g x.client past))) ≡ left_by (confirmed_calls (completions g h) (front seal.position below)) =
     ap (λ (z : Seal). left_by (confirmed_calls (completions g h) (front z.position (r.others ++ path g x.client past)))) found.1.0
     ∙ ap (λ (q : List Entry). left_by (confirmed_calls (completions g h) (front seal.position q))) same.1 in
-    let alike : Alike e.op (walked r.part e.op) (left_by (confirmed_calls (completions g h) (front seal.position below))) =
-    subst₂ (λ o d. Alike o (walked r.part o) d) op_is left_is (part_shows g h lawful.steps honest apart later x past whole r) in
+    let alike : HeededAlike e.op (walked r.part e.op) (left_by (confirmed_calls (completions g h) (front seal.position below))) =
+    looked_alike e.op _ _ (subst₂ (λ o d. Alike o (walked r.part o) d) op_is left_is (part_shows g h lawful.steps honest apart later x past whole r)) in
     answers_stand g h lawful later x past whole seal entries bytes t e below path_is a returned r.part (subst (λ b. read_part b ≡ Some r.part) found.1.1 r.is_part) picks own
-    ∙ reply_alike e.op _ _ (effects_alike e.op picks seal.position (walked r.part e.op) (left_by (confirmed_calls (completions g h) (front seal.position below))) alike below)
+    ∙ heeded_reply e.op _ _ (effects_alike e.op picks seal.position (walked r.part e.op) (left_by (confirmed_calls (completions g h) (front seal.position below))) alike below)
