@@ -3,10 +3,11 @@ use Rattle.std.specs.Prelude.{ℕ, ◌+◌, ◌-◌, ◌*◌, ◌/◌, ◌%◌, 
 use Rattle.std.specs.Fmt.{decimal}
 use Rattle.vic_dict.specs.declared.op.Op.{Op}
 use Rattle.vic_dict.specs.declared.op.Op.TheVariants as op
+use Rattle.vic_dict.specs.Dictionary.{Fits}
 use Rattle.vic_gen.specs.declared.Act.{Act}
 use Rattle.vic_gen.specs.declared.Act.TheVariants as act
 
--- the number, and how often each client has acted, the first client first
+-- the number, and how often each client has acted, counted modulo 4, the first client first
 pub record Drawing : Type 0 where
   pub x : ℕ
   pub acts : List ℕ
@@ -53,11 +54,11 @@ abbrev pub acts_of : Drawing → ℕ → ℕ
 acts_of d client = unwrap_or (slice_get d.acts (client - 1)) 0
 
 abbrev pub acted_once : Drawing → ℕ → Drawing
-acted_once d client = record d { acts = slice_set d.acts (client - 1) (acts_of d client + 1) }
+acted_once d client = record d { acts = slice_set d.acts (client - 1) ((acts_of d client + 1) % 4) }
 
 -- every fourth act of a client is a poll
 abbrev pub is_poll : Drawing → ℕ → Bool
-is_poll d client = nat_eq (acts_of d client % 4) 3
+is_poll d client = nat_eq (acts_of d client) 3
 
 -- what a client does, at the call of this number, and the drawing after it
 abbrev pub act_of : Drawing → ℕ → ℕ → Act
@@ -65,3 +66,8 @@ act_of d client call = if is_poll d client then act.Poll else act.Call (op_drawn
 
 abbrev pub acted : Drawing → ℕ → Drawing
 acted d client = if is_poll d client then acted_once d client else moved (moved (acted_once d client))
+
+-- the operation of a call is within the limits
+abbrev pub FitsAct : Act → Type 0
+FitsAct act.Poll = Unit {0}
+FitsAct (act.Call o) = Fits o

@@ -1,6 +1,11 @@
 //! The acts of a drill's clients, drawn from a number.
+//!
+//! `specs/Drawing.antt` says what is drawn. [`Gen`] draws it.
 #![tactic(auto)]
 
+pub mod drawing;
+
+pub use drawing::Gen;
 use vic_dict::Op;
 
 /// What a client is to do.
@@ -11,3 +16,6 @@ pub enum Act {
     /// It calls an operation.
     Call(Op),
 }
+
+#[cfg(test)]
+mod tests;
