@@ -1,26 +1,39 @@
 #!/usr/bin/env python3
 """Measures how the cost of `vicos group` grows with the length of its script.
 
-usage: scale.py [--program FILE] [--events N] [--rounds N] [--clients N ..]
+usage: scale.py [--program FILE] [--events N] [--rounds N] [--clients N ..] [--keys N] [--count BY]
 
 It makes a script of N events and one of 2 N events, an event being a line behind the header, for each number of clients, and
-runs the program on them. In a round the longer script runs once, and beside it, on another processor, the shorter one twice, one
-run after the other: so both see the machine as it is in that while, whose speed may vary with what else goes on. It prints of
-each run the user time, elapsed time, memory and size of the output, and then by what factor the user time grew: that of all runs
-of the longer script, divided by half of that of all runs of the shorter one. The status is 1 where a factor is above 2.3, or a
-run ended otherwise than with status 0 and `tags made`.
+runs the program on them. Calls use so many keys. Scripts are the same at each run.
 
-FILE is the built program, which `rt run` leaves as crates/vicos/out/vicos. Scripts are the same at each run.
+Times. In a round the longer script runs once, and beside it, on another processor, the shorter one twice, one run after the
+other: so both see the machine as it is in that while, whose speed may vary with what else goes on. It prints of each run the
+user time, elapsed time, memory and size of the output, and then by what factor the user time grew: the mean of all runs of the
+longer script, divided by that of the shorter one.
+
+Instructions don't vary with what else goes on. Each script is run once more to count them. BY is `perf` (perf stat, as fast as a
+run), `cachegrind` (of valgrind, some 30 times as long as a run), `none`, or `any`, which is the first of these that works here.
+
+The factor of the instructions decides where they are counted; else that of the times does, and only where the shorter script
+takes at least a second, since below that it is noise. Of few instructions many belong to the start of a run, which hides growth.
+
+Status 0: no factor that decides is above 2.3. Status 1: one is, or a run ended otherwise than with status 0 and `tags made`.
+Status 2: wrong words, or there is no program. FILE is the built program, which `./vicos` leaves as crates/vicos/out/vicos.
 """
 import argparse
 import os
 import platform
+import re
+import shutil
+import subprocess
 import sys
 import tempfile
 import time
 
-KEYS = 200
 MOST = 2.3
+LONG_ENOUGH = 1.0  # seconds of user time from which on a factor of times means something
+MANY_ENOUGH = 10**9  # instructions from which on the start of a run no longer hides how the rest grows
+LIMIT = 16_777_216  # bytes that a script may have
 
 
 def numbers(seed):
@@ -30,10 +43,10 @@ def numbers(seed):
         yield seed
 
 
-def operation(draw):
+def operation(draw, keys):
     """One call's words: half of them put, two in five get, the others delete or list."""
     kind = next(draw) // 64 % 20
-    key = f"k{next(draw) // 64 % KEYS:03}"
+    key = f"k{next(draw) // 64 % keys:03}"
     if kind < 10:
         return f"put {key} v{next(draw) // 64 % 1000}"
     if kind < 18:
@@ -43,13 +56,13 @@ def operation(draw):
     return f"list {key}"
 
 
-def rounds(clients, draw):
+def rounds(clients, keys, draw):
     """Lines without end. Half of the rounds have all calls ordered before one of them is taken, so that some abort."""
     members = range(1, clients + 1)
     while True:
         is_at_once = next(draw) // 64 % 2 == 0
         for who in members:
-            yield f"call {who} {operation(draw)}"
+            yield f"call {who} {operation(draw, keys)}"
             if not is_at_once:
                 yield f"run {who}"
         if is_at_once:
@@ -58,12 +71,19 @@ def rounds(clients, draw):
                     yield f"{step} {who}"
 
 
-def write_script(path, clients, events):
-    lines = rounds(clients, numbers(7))
+def write_script(path, clients, keys, events):
+    lines = rounds(clients, keys, numbers(7))
     with open(path, "w", encoding="ascii") as out:
         out.write(f"clients {clients}\n")
         for _ in range(events):
             out.write(next(lines) + "\n")
+    if os.path.getsize(path) > LIMIT:
+        stop(f"a script of {events} events is over {LIMIT} bytes: give a smaller --events")
+
+
+def stop(why):
+    print(f"scale.py: {why}", file=sys.stderr)
+    sys.exit(2)
 
 
 def last_line(path):
@@ -99,8 +119,6 @@ class Run:
 
 def measure(program, folder, clients, events, rounds):
     """The mean user times of both scripts, and whether each run ended as it should."""
-    for length in (events, 2 * events):
-        write_script(f"{folder}/script-{length}", clients, length)
     short, long = [], []
     for _ in range(rounds):
         beside = Run(program, folder, clients, 2 * events)
@@ -110,27 +128,139 @@ def measure(program, folder, clients, events, rounds):
     return means, all(is_right for _, is_right in short + long)
 
 
-def main():
+def counted_by_perf(words, given):
+    """The instructions of a command in user mode, or None."""
+    perf = shutil.which("perf")
+    if not perf:
+        return None
+    told = subprocess.run(
+        [perf, "stat", "-x", ",", "-e", "instructions:u", *words],
+        stdin=given, stdout=subprocess.DEVNULL, stderr=subprocess.PIPE, text=True, check=False,
+    ).stderr
+    found = re.search(r"^(\d+),[^,]*,instructions", told, re.M)
+    return int(found.group(1)) if found else None
+
+
+def counted_by_cachegrind(words, given):
+    """The same, by an emulated processor."""
+    valgrind = shutil.which("valgrind")
+    if not valgrind:
+        return None
+    told = subprocess.run(
+        [valgrind, "--tool=cachegrind", "--cache-sim=no", "--cachegrind-out-file=/dev/null", *words],
+        stdin=given, stdout=subprocess.DEVNULL, stderr=subprocess.PIPE, text=True, check=False,
+    ).stderr
+    found = re.search(r"I +refs: +([\d,]+)", told)
+    return int(found.group(1).replace(",", "")) if found else None
+
+
+COUNTERS = {"perf": counted_by_perf, "cachegrind": counted_by_cachegrind}
+
+
+def counter_for(asked):
+    """The name of the counter to use, or None. It is tried on a command that does nothing."""
+    for name in COUNTERS if asked == "any" else [asked]:
+        if name != "none" and COUNTERS[name]([shutil.which("true") or "/bin/true"], subprocess.DEVNULL):
+            return name
+    if asked not in ("any", "none"):
+        stop(f"{asked} counts no instructions here")
+    return None
+
+
+def count(counter, program, folder, events):
+    with open(f"{folder}/script-{events}", "rb") as given:
+        return COUNTERS[counter]([program, "group"], given)
+
+
+def factor_of_times(clients, events, once, twice):
+    """What the times say; None where they are too short to decide."""
+    factor = twice / max(once, 0.01)
+    line = f"{clients:7} clients: {once:.2f} s and {twice:.2f} s in the mean, so twice the events cost {factor:.2f} times as much"
+    if once >= LONG_ENOUGH:
+        print(f"{line}; at most {MOST} is wanted", flush=True)
+        return factor
+    enough = int(events * LONG_ENOUGH / max(once, 0.01))
+    print(f"{line}; that is noise: from about --events {enough} on, a second's work, it means something", flush=True)
+    return None
+
+
+def factor_of_counts(clients, events, once, twice, counter):
+    """What the counted instructions say."""
+    if not once or not twice:
+        print(f"{clients:7} clients: {counter} counted nothing", flush=True)
+        return None
+    factor = twice / once
+    enough = int(events * MANY_ENOUGH / once)
+    few = f"; a smaller factor means something from about --events {enough} on" if once < MANY_ENOUGH else ""
+    print(
+        f"{clients:7} clients: {once / 1e6:,.0f} and {twice / 1e6:,.0f} million instructions by {counter}, so twice the events "
+        f"cost {factor:.2f} times as much; at most {MOST} is wanted{few}",
+        flush=True,
+    )
+    return factor
+
+
+def is_within(program, folder, clients, asked, counter):
+    """Whether the factor that decides is within the bound, and each run ended as it should."""
+    for length in (asked.events, 2 * asked.events):
+        write_script(f"{folder}/script-{length}", clients, asked.keys, length)
+    means, is_right = measure(program, folder, clients, asked.events, asked.rounds)
+    decides = factor_of_times(clients, asked.events, *means)
+    if counter:
+        counts = [count(counter, program, folder, length) for length in (asked.events, 2 * asked.events)]
+        decides = factor_of_counts(clients, asked.events, *counts, counter)
+    return is_right and (decides is None or decides <= MOST)
+
+
+def processor():
+    """The processor's name, where the system tells it."""
+    try:
+        with open("/proc/cpuinfo", encoding="utf-8") as told:
+            found = re.search(r"^model name\s*: (.*)$", told.read(), re.M)
+    except OSError:
+        found = None
+    return found.group(1) if found else platform.machine()
+
+
+def number(low, high=None):
+    """A whole number from low to high, as a word of the command."""
+
+    def read(word):
+        value = int(word)
+        if value < low or high is not None and value > high:
+            raise argparse.ArgumentTypeError(f"{value} isn't from {low} to {high}" if high else f"{value} is below {low}")
+        return value
+
+    read.__name__ = "number"
+    return read
+
+
+def words():
     top = os.path.dirname(os.path.dirname(os.path.abspath(__file__)))
-    words = argparse.ArgumentParser(description="Measures how the cost of `vicos group` grows with its script.")
-    words.add_argument("--program", default=f"{top}/crates/vicos/out/vicos")
-    words.add_argument("--events", type=int, default=50_000)
-    words.add_argument("--rounds", type=int, default=4)
-    words.add_argument("--clients", type=int, nargs="+", default=[1, 8, 64])
-    asked = words.parse_args()
+    wanted = argparse.ArgumentParser(description="Measures how the cost of `vicos group` grows with its script.")
+    wanted.add_argument("--program", default=f"{top}/crates/vicos/out/vicos", help="the built program")
+    wanted.add_argument("--events", type=number(1), default=50_000, help="lines of the shorter script (50000)")
+    wanted.add_argument("--rounds", type=number(1), default=4, help="how often the times are taken (4)")
+    wanted.add_argument("--clients", type=number(1, 64), nargs="+", default=[1, 8, 64], help="sizes of the group (1 8 64)")
+    wanted.add_argument("--keys", type=number(1, 1_000_000), default=200, help="how many keys the calls use (200)")
+    wanted.add_argument("--count", choices=[*COUNTERS, "none", "any"], default="any", help="what counts instructions (any)")
+    return wanted.parse_args()
+
+
+def main():
+    asked = words()
     program = os.path.abspath(asked.program)
-    print(f"{program} on {platform.machine()}, {os.cpu_count()} processors, load {os.getloadavg()[0]:.1f}", flush=True)
+    if not (os.path.isfile(program) and os.access(program, os.X_OK)):
+        stop(f"the built program isn't there: run ./vicos once, or give --program FILE ({program})")
+    counter = counter_for(asked.count)
+    print(f"{program} on {processor()}, {os.cpu_count()} processors, load {os.getloadavg()[0]:.1f}; {asked.keys} keys")
+    no_counter = "as asked" if asked.count == "none" else "since neither perf nor valgrind counts here"
+    by = f"instructions are counted by {counter}" if counter else f"instructions aren't counted, {no_counter}: times alone decide"
+    print(by, flush=True)
     is_well = True
     with tempfile.TemporaryDirectory(prefix="vicos-scale-") as folder:
         for clients in asked.clients:
-            (once, twice), is_right = measure(program, folder, clients, asked.events, asked.rounds)
-            factor = twice / max(once, 0.01)
-            is_well = is_well and is_right and factor <= MOST
-            print(
-                f"{clients:7} clients: {once:.2f} s and {twice:.2f} s in the mean, so twice the events cost {factor:.2f} times "
-                f"as much; at most {MOST} is wanted",
-                flush=True,
-            )
+            is_well = is_within(program, folder, clients, asked, counter) and is_well
     return 0 if is_well else 1
 
 
