@@ -110,7 +110,7 @@ CanAsk m (input.Payload payload) = ⊥
 abbrev pub Makes : {S V : Type 0} → (S → V) → Serving V → SceneOf V → List Event → World S → List ℕ → List ℕ → Type 0
 Makes state rule s events w before after = (after ≡ before ++ print_of_events rule s events) × ShowsScene state w (after_events rule s events)
 
--- one move was made; or there was nothing to be taken, and nothing changed
+-- one event happened; or there was nothing to be taken, and nothing changed
 abbrev pub MakesIf : {S V : Type 0} → (S → V) → Serving V → SceneOf V → Event → World S → List ℕ → List ℕ → Bool → Type 0
 MakesIf state rule s m w before after true = Makes state rule s (m ∷ []) w before after
 MakesIf state rule s m w before after false = (after ≡ before) × ShowsScene state w s

@@ -5,7 +5,7 @@ use Rattle.vic_order.specs.Order.{Server}
 use Rattle.vic_order.specs.Serving.{by_rule}
 use Rattle.vic_order.specs.Scenes.{Scene, SceneOf, opening, server_at, Event, Asks, Serves, Takes, Flips, Hears, Resends, Copies, Joins, after_events, MayHappen}
 
--- a move that leaves requests and answers as they are, in their order, and clients with their server
+-- an event that leaves requests and answers as they are, in their order, and clients with their server
 abbrev pub IsHonestEvent : Event → Type 0
 IsHonestEvent (Asks i given) = Unit {0}
 IsHonestEvent (Serves i) = Unit {0}

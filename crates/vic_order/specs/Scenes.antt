@@ -215,7 +215,7 @@ abbrev pub MayAsk : {V : Type 0} → SceneOf V → ℕ → Input → Type 0
 MayAsk s i (input.Payload payload) = ⊥
 MayAsk s i given = MayStep s.group (stands s i) given
 
--- a move may be made: the client is one of the group, and it may be asked for this, or a payload waits, or what it takes is bytes; and a
+-- an event may happen: the client is one of the group, and it may be asked for this, or a payload waits, or what it takes is bytes; and a
 -- server that is copied or joined exists
 abbrev pub MayHappen : {V : Type 0} → SceneOf V → Event → Type 0
 MayHappen s (Asks i given) = (0 < i) × (i ≤ s.group.count) × MayAsk s i given
@@ -227,7 +227,7 @@ MayHappen s (Resends i) = (0 < i) × (i ≤ s.group.count)
 MayHappen s (Copies n t) = is_server s n ≡ true
 MayHappen s (Joins i n) = (0 < i) × (i ≤ s.group.count) × (is_server s n ≡ true)
 
--- each move is one that may be made after those before it
+-- each event is one that may happen after those before it
 abbrev pub MayAllHappen : {V : Type 0} → Serving V → SceneOf V → List Event → Type 0
 MayAllHappen rule s [] = Unit {0}
 MayAllHappen rule s (m ∷ before) = MayAllHappen rule s before × MayHappen (after_events rule s before) m

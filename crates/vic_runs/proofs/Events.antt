@@ -1,4 +1,4 @@
--- What each move keeps, events keep.
+-- What each event keeps, events keep.
 use Rattle.std.proofs.Common.{◌≡◌, ℕ, ◌+◌, List, [], ◌∷◌, ◌++◌, refl, sym, ap, subst, ◌∙◌, arith}
 use Rattle.std.specs.List.{AllByRecursion}
 use Rattle.std.proofs.lemmas.List.{append-nil, append_assoc}
@@ -32,7 +32,7 @@ may-step s i input.Sync may = may
 may-step s i (input.Payload payload) may = absurd may
 
 module _ {V : Type 0} (rule : Serving V) where
-  -- what holds of a scene in which no client was called more than n times, and is kept by each good move, is kept by events
+  -- what holds of a scene in which no client was called more than n times, and is kept by each good event, is kept by them
   pub kept-after : (P : SceneOf V → ℕ → Type 0) (Good : Event → Type 0) → ((s : SceneOf V) (n : ℕ) (m : Event) → P s n → MayHappen s m → Good m → P (happens rule s m) (n + asked m))
       → (s : SceneOf V) (n : ℕ) (events : List Event) → P s n → MayAllHappen rule s events → AllByRecursion Good events → P (after_events rule s events) (n + asks events)
   kept-after P Good each s n [] h may good = subst (P s) (omega arith) h

@@ -38,7 +38,7 @@ may-ask s server i input.Poll may = may
 may-ask s server i input.Sync may = may
 may-ask s server i (input.Payload payload) may = absurd may
 
--- one more honest move
+-- one more honest event
 one_more : (s : Scene) (server : Server) (events : List Event) → IsHonestRun s server events → (m : Event) → MayHonestly s m → (next : Scene) (after : Server) → happens by_rule s m ≡ next → next.group ≡ s.group
     → server_at next.servers 1 ≡ Some after → IsHonestRun next after (m ∷ events)
 one_more s server events run m may next after is same one = record {
@@ -182,7 +182,7 @@ module _ {V : Type 0} (R : V → Server → Type 0) where
 
   -- ---- events
 
-  -- an honest move that may be made leads on to such a scene
+  -- an honest event that may happen leads on to such a scene
   honest-happens : (rule : Serving V) → IsKept rule R → (s : SceneOf V) (n : ℕ) (m : Event) → IsHonestlyReached R s n → MayHappen s m → IsHonestEvent m → IsHonestlyReached R (happens rule s m) (n + asked m)
   honest-happens rule kept s n (Asks i given) r may honest = honest-asked s n r i may.0 may.1 given may.2
   honest-happens rule kept s n (Serves i) r may honest = honest-more _ n (n + 0) (omega arith) (honest-serves rule kept s n r i may.0 may.1)

@@ -31,7 +31,7 @@ told-next : (x : TraceStep) (past : List TraceStep) → told (x ∷ past) ≡ to
 told-next x past = ap (flat_map line_of_step) (reverse-append (x ∷ []) past) ∙ sym (flat_map_more line_of_step [] (reverse past) x)
 
 module _ {V : Type 0} (rule : Serving V) where
-  -- what a move prints is what its step tells, if it makes one
+  -- what an event prints is what its step tells, if it makes one
   abbrev IsTold : SceneOf V → Event → Type 0
   IsTold s m = told (happens rule s m).history ≡ told s.history ++ print_of_event m (happens rule s m).history
 

@@ -245,7 +245,7 @@ any : (events : List Event) → AllByRecursion Any events
 any [] = tt
 any (m ∷ before) = (tt, any before)
 
--- a move that may be made leads on to a scene that is reached
+-- an event that may happen leads on to a scene that is reached
 reached-happens : (s : Scene) (n : ℕ) (m : Event) → IsReached s n → MayHappen s m → Any m → IsReached (happens by_rule s m) (n + asked m)
 reached-happens s n (Asks i given) r may any = reached-steps s n r i may.0 may.1 given (may-step s i given may.2)
 reached-happens s n (Serves i) r may any = reached-more _ n (n + 0) (omega arith) (reached-serves s n r i may.0 may.1)

@@ -83,7 +83,7 @@ module _ {V : Type 0} where
     placed = all-set (λ m. is_server s m ≡ true) s.served_by (i - 1) n h.placed there;
   }
 
-  -- a move that may be made leaves each client its queues and a server that exists
+  -- an event that may happen leaves each client its queues and a server that exists
   pub seated-happens : (rule : Serving V) (s : SceneOf V) (m : Event) → IsSeated s → MayHappen s m → IsSeated (happens rule s m)
   seated-happens rule s (Asks i given) h may = seated-steps s h i given
   seated-happens rule s (Serves i) h may = seated-serves rule s h i

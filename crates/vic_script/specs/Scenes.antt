@@ -28,7 +28,7 @@ abbrev pub said : ℕ → Option Outcome → List ℕ
 said i None = decimal i ++ codes " took" ++ newline
 said i (Some o) = decimal i ++ codes " " ++ outcome_words o ++ newline
 
--- what is printed of a move, by the history behind it: of one by which a client took a payload, what became of it
+-- what is printed of an event, by the history behind it: of one by which a client took a payload, what became of it
 abbrev pub print_of_event : Event → List TraceStep → List ℕ
 print_of_event (Asks i given) h = []
 print_of_event (Serves i) h = []
