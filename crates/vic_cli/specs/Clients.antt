@@ -1,34 +1,15 @@
 -- What the command of a client does: it reads its script, does its session, and writes what it composed.
-use Rattle.std.specs.Prelude.{◌≡◌, ◌⊎◌, ℕ, Bool, List, ◌++◌, Option, codes}
+use Rattle.std.specs.Prelude.{◌≡◌, ℕ, List}
 use Rattle.vic_wire.specs.Hashes.{Group}
-use Rattle.vic_ports.specs.Causes.{Rose}
-use Rattle.vic_ports.specs.Written.{AppendedAll, AppendedFront}
 use Rattle.vic_ports.specs.InputGives.{InputGives}
 use Rattle.vic_ports.specs.declared.reading.Input.{Input}
 use Rattle.vic_ports.specs.declared.reading.Input.TheVariants as input
 use Rattle.vic_ports.specs.Links.{Told}
-use Rattle.vic_script.specs.Words.{newline}
-use Rattle.vic_cli.specs.declared.status.Status.{Status}
-use Rattle.vic_cli.specs.declared.status.Status.TheVariants as status
-use Rattle.vic_cli.specs.Telling.{TellsSession, no_memory_line}
-
-abbrev pub read_fault_line : List ℕ
-read_fault_line = codes "read fault" ++ newline
-
--- what is told of a source before and after: what is left, its count of faults, and whether it has ended
-pub record Taken : Type 0 where
-  pub old : Option (List ℕ)
-  pub new : Option (List ℕ)
-  pub before : ℕ
-  pub now : ℕ
-  pub ended : Bool
-
--- what is told of a sink before and after
-pub record Given : Type 0 where
-  pub old : Option (List ℕ)
-  pub new : Option (List ℕ)
-  pub before : ℕ
-  pub now : ℕ
+use Rattle.vic_text.specs.declared.status.Status.{Status}
+use Rattle.vic_text.specs.declared.status.Status.TheVariants as status
+use Rattle.vic_text.specs.Statuses.{read_fault_line, no_memory_line}
+use Rattle.vic_cli.specs.Output.{Taken, Given, Finishes}
+use Rattle.vic_cli.specs.Telling.{TellsSession}
 
 -- by what was read: a session was done with the script; or none was, and the link is as it was
 abbrev pub DoesBy : Group → ℕ → Input → Told → Told → Status → List ℕ → Type 0
@@ -39,12 +20,6 @@ DoesBy g me input.NoMemory old new s text = (new ≡ old) × ((s ≡ status.NoMe
 
 abbrev pub ComposesClient : Group → ℕ → Taken → Told → Told → Status → List ℕ → Type 0
 ComposesClient g me t old new s text = (i : Input) × (InputGives t.old t.new t.before t.now t.ended i × DoesBy g me i old new s text)
-
--- a text was written whole, or the sink failed or found no memory
-abbrev pub Finishes : Status → List ℕ → Given → Status → Type 0
-Finishes planned line k result =
-    ((result ≡ planned) × AppendedAll line k.old k.new)
-    ⊎ (((result ≡ status.WriteFault) × (Rose k.before k.now × AppendedFront line k.old k.new)) ⊎ ((result ≡ status.NoMemory) × AppendedFront line k.old k.new))
 
 abbrev pub ClientDid : Group → ℕ → Taken → Told → Told → Given → Status → Type 0
 ClientDid g me t old new k result = (s : Status) × ((text : List ℕ) × (ComposesClient g me t old new s text × Finishes s text k result))

@@ -1,3 +1,6 @@
-pub mod Clients
+pub mod Output
+pub mod Words
+pub mod GroupEnds
+pub mod GroupOutput
 pub mod Telling
-pub mod Texts
+pub mod Clients

@@ -9,11 +9,9 @@ use Rattle.vic_script.specs.Print.{bad_line}
 use Rattle.vic_session.specs.declared.end.SessionEnd.{SessionEnd}
 use Rattle.vic_session.specs.declared.end.SessionEnd.TheVariants as ends
 use Rattle.vic_session.specs.Sessions.{IsSession}
-use Rattle.vic_cli.specs.declared.status.Status.{Status}
-use Rattle.vic_cli.specs.declared.status.Status.TheVariants as status
-
-abbrev pub no_memory_line : List ℕ
-no_memory_line = codes "no memory" ++ newline
+use Rattle.vic_text.specs.declared.status.Status.{Status}
+use Rattle.vic_text.specs.declared.status.Status.TheVariants as status
+use Rattle.vic_text.specs.Statuses.{no_memory_line, link_fault_line, bad_frame_line}
 
 -- the status of a session's end
 abbrev pub status_by : SessionEnd → Status
@@ -29,9 +27,9 @@ status_by ends.NoMemory = status.NoMemory
 abbrev pub end_line : SessionEnd → List ℕ
 end_line ends.Ok = []
 end_line (ends.BadLine n k) = bad_line (record { number = n; kind = k })
-end_line ends.LinkFault = codes "link fault" ++ newline
+end_line ends.LinkFault = link_fault_line
 end_line (ends.Halted k h) = codes "halted " ++ decimal k ++ space ++ encode_lower h.bytes ++ newline
-end_line ends.BadFrame = codes "bad frame" ++ newline
+end_line ends.BadFrame = bad_frame_line
 end_line (ends.GreetingRefused r) = codes "greeting refused " ++ decimal r ++ newline
 end_line ends.NoMemory = []
 

@@ -3,14 +3,15 @@
 ghost use Rattle.std.specs.Prelude.{◌≡◌};
 ghost use Rattle.vic_rules.specs.Client.{at_start};
 ghost use Rattle.vic_client.specs.Kept.{StandsFor, group_of};
-ghost use Rattle.vic_cli.specs.Clients.{ComposesClient, ClientDid, Finishes};
-ghost use Rattle.vic_cli.specs.Texts.{text_bytes};
+ghost use Rattle.vic_cli.specs.Output.{text_bytes};
+ghost use Rattle.vic_cli.specs.Clients.{ComposesClient, ClientDid};
 
-use crate::session::{Composed, Text, compose_session};
-use crate::status::Status;
+use crate::output::{Composed, finish};
+use crate::session::compose_session;
 use std::alloc::Global;
 use vic_client::Client;
-use vic_ports::{Input, Link, Sink, Source, Written, read_input, write_output};
+use vic_ports::{Input, Link, Sink, Source, read_input};
+use vic_text::Status;
 
 // Reads a script, and does the client's session with it.
 fn compose_client<S: Source, L: Link>(
@@ -25,25 +26,8 @@ fn compose_client<S: Source, L: Link>(
     match read_input(alloc, source) {
         Input::Whole(script) => compose_session(alloc, client, script.as_slice(), link),
         Input::TooLong(front) => compose_session(alloc, client, front.as_slice(), link),
-        Input::Fault => Composed {
-            status: Status::ReadFault,
-            text: Text::Fixed(b"read fault\n"),
-        },
-        Input::NoMemory => Composed {
-            status: Status::NoMemory,
-            text: Text::Fixed(b"no memory\n"),
-        },
-    }
-}
-
-/// Writes a text and answers the command's status; where the write fails, that replaces it.
-pub fn finish<K: Sink>(sink: &mut K, status: Status, text: &[u8]) -> Status
-    ensures { Finishes status text.now (record { old = K.held sink.old; new = K.held sink.new; before = K.faults sink.old; now = K.faults sink.new }) result }
-{
-    match write_output(sink, text) {
-        Written::All => status,
-        Written::Fault => Status::WriteFault,
-        Written::NoMemory => Status::NoMemory,
+        Input::Fault => Composed::of(Status::ReadFault),
+        Input::NoMemory => Composed::of(Status::NoMemory),
     }
 }
 

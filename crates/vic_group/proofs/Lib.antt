@@ -1,4 +1,3 @@
-pub mod Ends
 pub mod Members
 pub mod Playing
 pub mod Spans

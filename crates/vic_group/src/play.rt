@@ -8,7 +8,7 @@ ghost use Rattle.vic_order.specs.Serving.{by_rule};
 ghost use Rattle.vic_order.specs.Scenes.{opening};
 ghost use Rattle.vic_script.specs.Scenes.{bad_kind, done_line};
 ghost use Rattle.vic_script.specs.Run.{limit, plain_group, run_of, try_line, tried_by, play as play_by};
-ghost use Rattle.vic_script.specs.Print.{print_of_script, kind_text as kind_text_by, bad_line, end_text, is_forged};
+ghost use Rattle.vic_script.specs.Print.{print_of_script, bad_line, end_text, is_forged};
 ghost use Rattle.vic_view.specs.Transcripts.{group_of, history_of};
 ghost use Rattle.vic_runs.specs.Reached.{IsReached};
 ghost use Rattle.vic_group.specs.World.{MayDo, ShowsScene};
@@ -19,9 +19,8 @@ use crate::place::{first_line, place_behind};
 use crate::world::{World, WorldFault};
 use std::alloc::Global;
 use vic_dict::{Bytes, Mode, NoMemory};
-use vic_ports::LIMIT;
 use vic_server::Served;
-use vic_text::{Line, LineFault, put_number, read_line};
+use vic_text::{Line, LineFault, SCRIPT_LIMIT, put_bad_line, read_line};
 
 /// How the run of a script ends.
 #[derive(Clone, Copy, Debug, PartialEq, Eq)]
@@ -79,10 +78,10 @@ pub(crate) fn run_script(alloc: Global, script: &[u8]) -> Result<Ran, NoMemory>
 fn known_of(script: &[u8]) -> &[u8]
     ensures { result.now ≡ take (limit + 1) script.now }
 {
-    if script.len() <= LIMIT {
+    if script.len() <= SCRIPT_LIMIT {
         script
     } else {
-        &script[..LIMIT + 1]
+        &script[..SCRIPT_LIMIT + 1]
     }
 }
 
@@ -95,7 +94,7 @@ fn run_known(alloc: Global, known: &[u8]) -> Result<Ran, NoMemory>
     }
     let (text, rest) = first_line(known);
     let place = place_behind(known.len(), 0, text);
-    if LIMIT < place {
+    if SCRIPT_LIMIT < place {
         return Ok(unopened(alloc, 7));
     }
     match opened_by(alloc, text)? {
@@ -182,7 +181,7 @@ fn do_line(
     requires few { number + 1 < 2 ^ 32 }
     ensures { IfOk result (λ bad. Follows number (tried_at behind (scene_of world.old) text.now) world.new out.old out.new bad) }
 {
-    if LIMIT < behind {
+    if SCRIPT_LIMIT < behind {
         return Ok(Some(BadLine { number, kind: 7 }));
     }
     match try_text(alloc, world, text, out)? {
@@ -255,27 +254,9 @@ fn stopped(alloc: Global, out: Bytes, bad: BadLine) -> Result<Played, NoMemory>
     ensures { IfOk result (λ p. (p.text ≡ out ++ bad_line (record { number = bad.number; kind = bad.kind })) × (p.end ≡ End.Bad)) }
 {
     let mut text = out;
-    text.append(b"line ")?;
-    put_number(&mut text, alloc, bad.number)?;
-    text.append(b": ")?;
-    text.append(kind_text(bad.kind))?;
-    text.append(b"\n")?;
+    put_bad_line(&mut text, alloc, bad.number, bad.kind)?;
     Ok(Played {
         text,
         end: End::Bad,
     })
-}
-
-fn kind_text(kind: u8) -> &'static [u8]
-    ensures { result.now ≡ kind_text_by kind }
-{
-    match kind {
-        2 => b"no such client",
-        3 => b"client has halted",
-        4 => b"client is busy",
-        5 => b"nothing waiting",
-        6 => b"no such server",
-        7 => b"script too long",
-        _ => b"not a line of this script",
-    }
 }

@@ -1,208 +1,207 @@
-//! Rows of the command on a script, over a source and a sink in memory. What each prints was worked out by hand from the rules.
+//! Scripts with what they print, and lines of a world. What each script prints was worked out by hand from the rules.
 
 ghost use Rattle.vic_rules.specs.History.{IsLawful};
 ghost use Rattle.vic_view.specs.Transcripts.{group_of, history_of};
 
 use crate::opening::zero_key;
-use crate::play::{Ran, run_script};
-use crate::{World, WorldFault, run_group, run_in_memory};
+use crate::play::{Ran, play, run_script};
+use crate::{End, World, WorldFault};
 use std::alloc::Global;
 use std::test::Fail;
 use vic_dict::{Bytes, Mode, NoMemory};
-use vic_ports::{Calls, MemorySink, MemorySource, NeverFails};
 use vic_script::Line;
 use vic_server::Served;
 use vic_view::{
     Transcript, View, agree, forged, forged_plainly, print_views, view_of, view_plainly,
 };
 
-/// A script and what it prints, each with ` / ` between its lines, and the status.
-type Row = (&'static str, &'static str, u8);
+/// A script and what it prints, each with ` / ` between its lines, and how it ends.
+type Row = (&'static str, &'static str, End);
 
 const ROWS: [Row; 41] = [
     // A put and a get by one client, which memory suffices for.
     (
         "clients 1 / call 1 put a x / run 1 / call 1 get a / run 1",
         "1 done stored / 1 took / 1 took / 1 done value x / 1 took / 1 took / view 1 / 1.1 put a x = done stored / 1.2 get a = done value x / tags made",
-        0,
+        End::Whole,
     ),
     // A group in which nothing is done.
-    ("clients 2", "view 1 / view 2 / agree 1 2 0 / tags made", 0),
+    ("clients 2", "view 1 / view 2 / agree 1 2 0 / tags made", End::Whole),
     // Puts of different keys, both unsealed.
     (
         "clients 2 / call 1 put a x / call 2 put b y / serve 1 / serve 2 / take 1 / take 2",
         "1 done stored / 2 done stored / view 1 / 1.1 put a x = done stored / view 2 / 1.1 put a x = done stored / 2.1 put b y = done stored / agree 1 2 1 / tags made",
-        0,
+        End::Whole,
     ),
     // Puts of one key at once, and a get afterwards.
     (
         "clients 2 / call 1 put a x / call 2 put a y / serve 1 / serve 2 / take 1 / take 2 / run 1 / run 2 / call 2 get a / run 2",
         "1 done stored / 2 aborted 1 / 1 took / 1 took / 2 took / 2 took / 2 done value x / 2 took / 2 took / view 1 / 1.1 put a x = done stored / view 2 / 1.1 put a x = done stored / 2.1 put a y = aborted 1 / 2.2 get a = done value x / agree 1 2 1 / tags made",
-        0,
+        End::Whole,
     ),
     // Another's call that stays unfinished, and so stands in no view.
     (
         "clients 2 / call 2 put b z / serve 2 / call 1 put a x / run 1 / call 1 put a y / run 1 / call 1 get a / run 1",
         "1 done stored / 1 took / 1 done stored / 1 took / 1 done value y / 1 took / view 1 / 1.1 put a x = done stored / 1.2 put a y = done stored / 1.3 get a = done value y / view 2 / agree 1 2 0 / tags made",
-        0,
+        End::Whole,
     ),
     // A list against an unfinished put.
     (
         "clients 2 / call 2 put ab z / serve 2 / call 1 list % / run 1 / call 1 list x / run 1",
         "1 aborted 1 / 1 took / 1 done names / 1 took / view 1 / 1.1 list % = aborted 1 / 1.2 list x = done names / view 2 / agree 1 2 0 / tags made",
-        0,
+        End::Whole,
     ),
     // Two gets, taken the other way round.
     (
         "clients 2 / call 1 get a / call 2 get a / serve 1 / serve 2 / take 2 / take 1",
         "2 done none / 1 done none / view 1 / 1.1 get a = done none / view 2 / 1.1 get a = done none / 2.1 get a = done none / agree 1 2 1 / tags made",
-        0,
+        End::Whole,
     ),
     // Puts, a list, a del and a del again.
     (
         "clients 1 / call 1 put b y / run 1 / call 1 put a x / run 1 / call 1 list % / run 1 / call 1 del a / run 1 / call 1 del a / run 1",
         "1 done stored / 1 took / 1 took / 1 done stored / 1 took / 1 took / 1 done names a b / 1 took / 1 took / 1 done removed / 1 took / 1 took / 1 done absent / 1 took / 1 took / view 1 / 1.1 put b y = done stored / 1.2 put a x = done stored / 1.3 list % = done names a b / 1.4 del a = done removed / 1.5 del a = done absent / tags made",
-        0,
+        End::Whole,
     ),
     // Puts of different keys, each sealed by its client; then a list, of which the other client learns by a sync.
     (
         "clients 2 / call 1 put a x / call 2 put b y / serve 1 / serve 2 / take 1 / take 2 / run 1 / run 2 / run 1 / call 1 list % / run 1 / sync 2 / run 2",
         "1 done stored / 2 done stored / 1 took / 1 took / 2 took / 2 took / 1 done names a b / 1 took / 1 took / 2 took / view 1 / 1.1 put a x = done stored / 2.1 put b y = done stored / 1.2 list % = done names a b / view 2 / 1.1 put a x = done stored / 2.1 put b y = done stored / agree 1 2 2 / tags made",
-        0,
+        End::Whole,
     ),
     // A call that can be sealed once another's before it is, by a poll.
     (
         "clients 2 / call 2 put b z / serve 2 / call 1 put a x / run 1 / take 2 / run 2 / poll 1 / run 1",
         "1 done stored / 1 took / 2 done stored / 2 took / 2 took / 1 took / 1 took / view 1 / 2.1 put b z = done stored / 1.1 put a x = done stored / view 2 / 2.1 put b z = done stored / agree 1 2 1 / tags made",
-        0,
+        End::Whole,
     ),
     // A server that forgets a seal which its client has learned of.
     (
         "clients 1 / call 1 put a x / run 1 / call 1 put a y / serve 1 / take 1 / serve 1 / copy 1 2 / take 1 / serve 1 / take 1 / move 1 2 / call 1 get a / run 1",
         "1 done stored / 1 took / 1 took / 1 done stored / 1 took / 1 took / 1 halted 4 / view 1 / 1.1 put a x = done stored / 1.2 put a y = done stored / tags made",
-        0,
+        End::Whole,
     ),
     // A server that forgets an entry which its client has learned of.
     (
         "clients 1 / call 1 put a x / run 1 / copy 1 2 / call 1 put a y / run 1 / move 1 2 / call 1 get a / run 1",
         "1 done stored / 1 took / 1 took / 1 done stored / 1 took / 1 took / 1 refused 5 / view 1 / 1.1 put a x = done stored / 1.2 put a y = done stored / tags made",
-        0,
+        End::Whole,
     ),
     // An answer that comes a second time, and a call after the halt that it leads to.
     (
         "clients 1 / call 1 put a x / serve 1 / take 1 / again 1",
         "1 done stored / 1 halted 1 / view 1 / 1.1 put a x = done stored / tags made",
-        0,
+        End::Whole,
     ),
     (
         "clients 1 / call 1 put a x / serve 1 / take 1 / again 1 / call 1 get a",
         "1 done stored / 1 halted 1 / line 6: client has halted",
-        5,
+        End::Bad,
     ),
     // An answer with another first byte of its first entry's tag.
     (
         "clients 2 / call 2 put b z / serve 2 / call 1 put a x / serve 1 / flip 1 17",
         "1 halted 3 / view 1 / view 2 / agree 1 2 0 / tags made",
-        0,
+        End::Whole,
     ),
     // The answer has 54 bytes: behind its last one there is none to change.
     (
         "clients 1 / call 1 put a x / serve 1 / flip 1 51",
         "line 4: nothing waiting",
-        5,
+        End::Bad,
     ),
     (
         "clients 1 / call 1 put a x / serve 1 / flip 1 50",
         "1 halted 1 / view 1 / tags made",
-        0,
+        End::Whole,
     ),
     // A server and its copy go separate ways.
     (
         "clients 2 / copy 1 2 / move 2 2 / call 1 put a x / run 1 / call 2 get a / run 2",
         "1 done stored / 1 took / 1 took / 2 done none / 2 took / 2 took / view 1 / 1.1 put a x = done stored / view 2 / 2.1 get a = done none / agree 1 2 0 / tags made",
-        0,
+        End::Whole,
     ),
     // The same, where a copy takes the place of a copy: server 2 is what server 1 was at line 5.
     (
         "clients 2 / copy 1 2 / call 1 put a x / run 1 / copy 1 2 / move 2 2 / call 2 get a / run 2 / call 1 get a / run 1",
         "1 done stored / 1 took / 1 took / 2 done value x / 2 took / 2 took / 1 done value x / 1 took / 1 took / view 1 / 1.1 put a x = done stored / 1.2 get a = done value x / view 2 / 1.1 put a x = done stored / 2.1 get a = done value x / agree 1 2 1 / tags made",
-        0,
+        End::Whole,
     ),
     // An entry of the one branch that the other has too.
     (
         "clients 2 / copy 1 2 / move 2 2 / call 2 put b y / run 2 / call 1 put a x / resend 1 / serve 1 / move 1 2 / serve 1 / move 1 1 / take 1 / call 2 put a z / run 2",
         "2 done stored / 2 took / 2 took / 1 done stored / 2 aborted 2 / 2 took / view 1 / 1.1 put a x = done stored / view 2 / 2.1 put b y = done stored / 2.2 put a z = aborted 2 / agree 1 2 0 / tags made",
-        0,
+        End::Whole,
     ),
     // A client that is moved from the one branch to the other.
     (
         "clients 2 / copy 1 2 / move 2 2 / call 1 put a x / run 1 / call 2 put b y / run 2 / move 2 1 / call 2 get a / run 2",
         "1 done stored / 1 took / 1 took / 2 done stored / 2 took / 2 took / 2 halted 5 / view 1 / 1.1 put a x = done stored / view 2 / 2.1 put b y = done stored / agree 1 2 0 / tags made",
-        0,
+        End::Whole,
     ),
     // A client's Seal, sent again.
     (
         "clients 1 / call 1 put a x / run 1 / resend 1 / run 1",
         "1 done stored / 1 took / 1 took / 1 halted 1 / view 1 / 1.1 put a x = done stored / tags made",
-        0,
+        End::Whole,
     ),
     // A client that halted: it sends its call again, to a copy, and takes what comes; but it can be asked for nothing.
     (
         "clients 1 / call 1 put a x / give 1 % / serve 1 / resend 1 / copy 1 2 / move 1 2 / run 1 / poll 1",
         "1 halted 1 / 1 halted 1 / line 9: client has halted",
-        5,
+        End::Bad,
     ),
     // Tampering that cannot be.
-    ("clients 1 / again 1", "line 2: nothing waiting", 5),
-    ("clients 1 / resend 1", "line 2: nothing waiting", 5),
-    ("clients 1 / move 1 2", "line 2: no such server", 5),
-    ("clients 1 / copy 2 3", "line 2: no such server", 5),
+    ("clients 1 / again 1", "line 2: nothing waiting", End::Bad),
+    ("clients 1 / resend 1", "line 2: nothing waiting", End::Bad),
+    ("clients 1 / move 1 2", "line 2: no such server", End::Bad),
+    ("clients 1 / copy 2 3", "line 2: no such server", End::Bad),
     (
         "clients 1 / copy 1 5",
         "line 2: not a line of this script",
-        5,
+        End::Bad,
     ),
-    ("clients 1 / move 2 1", "line 2: no such client", 5),
+    ("clients 1 / move 2 1", "line 2: no such client", End::Bad),
     // Two tests fail at once: the first one's kind is told.
-    ("clients 1 / move 9 9", "line 2: no such client", 5),
+    ("clients 1 / move 9 9", "line 2: no such client", End::Bad),
     (
         "clients 1 / copy 9 5",
         "line 2: not a line of this script",
-        5,
+        End::Bad,
     ),
-    ("clients 1 / copy 9 1", "line 2: no such server", 5),
+    ("clients 1 / copy 9 1", "line 2: no such server", End::Bad),
     // A halted client takes what comes, and says each time why it halted.
     (
         "clients 1 / call 1 put a x / serve 1 / give 1 % / take 1 / again 1",
         "1 halted 1 / 1 halted 1 / 1 halted 1 / view 1 / tags made",
-        0,
+        End::Whole,
     ),
     // A server copied onto itself; answers that wait while no request does.
     (
         "clients 1 / copy 1 1 / call 1 put a x / serve 1 / run 1 / take 1 / serve 1 / copy 1 1 / take 1",
         "1 done stored / 1 took / view 1 / 1.1 put a x = done stored / tags made",
-        0,
+        End::Whole,
     ),
     // Bytes that are no answer.
     (
         "clients 1 / give 1 %ff / call 1 get a",
         "1 halted 1 / line 3: client has halted",
-        5,
+        End::Bad,
     ),
     // Bad lines, one of them behind a line that prints.
-    ("", "line 1: not a line of this script", 5),
-    ("clients 65", "line 1: not a line of this script", 5),
-    ("clients 1 / take 1", "line 2: nothing waiting", 5),
-    ("clients 1 / call 2 get a", "line 2: no such client", 5),
+    ("", "line 1: not a line of this script", End::Bad),
+    ("clients 65", "line 1: not a line of this script", End::Bad),
+    ("clients 1 / take 1", "line 2: nothing waiting", End::Bad),
+    ("clients 1 / call 2 get a", "line 2: no such client", End::Bad),
     (
         "clients 1 / call 1 put a x / call 1 get a",
         "line 3: client is busy",
-        5,
+        End::Bad,
     ),
     (
         "clients 1 / call 1 get a / run 1 / serve 1",
         "1 done none / 1 took / 1 took / line 4: nothing waiting",
-        5,
+        End::Bad,
     ),
 ];
 
@@ -219,60 +218,10 @@ fn lines_of(alloc: Global, text: &str) -> Result<Bytes, NoMemory> {
     Ok(lines)
 }
 
-/// The words of a command line, as a text with a space between them.
-fn words_of(alloc: Global, text: &str) -> Result<Vec<String>, NoMemory> {
-    let mut words = Vec::new(alloc);
-    for word in text.split(' ') {
-        words.push(String::from_str(alloc, word)?)?;
-    }
-    Ok(words)
-}
-
-/// The reads or writes that are to fail: the one with this number, or none for 0.
-fn failing(alloc: Global, number: u64) -> Result<Calls, NoMemory> {
-    let mut calls = Calls::new(alloc);
-    if number > 0 {
-        calls.push(number)?;
-    }
-    Ok(calls)
-}
-
-/// Whether the command so named writes this of a script, and ends with this status.
-fn prints(
-    alloc: Global,
-    command: &str,
-    script: Bytes,
-    text: &[u8],
-    status: u8,
-) -> Result<bool, NoMemory> {
-    let words = words_of(alloc, command)?;
-    let mut source = MemorySource::new(script, Calls::new(alloc));
-    let mut sink = MemorySink::new(alloc, Calls::new(alloc));
-    let ended = run_group(alloc, words.as_slice(), &mut source, &mut sink);
-    Ok(sink.held().as_slice() == text && ended.number() == status)
-}
-
-fn prints_row(alloc: Global, command: &str, row: &Row) -> Result<bool, NoMemory> {
-    let script = lines_of(alloc, row.0)?;
-    let text = lines_of(alloc, row.1)?;
-    prints(alloc, command, script, text.as_slice(), row.2)
-}
-
-/// Whether the first row's script ends with this text and status where a read or a write fails.
-fn faults(
-    alloc: Global,
-    command: &str,
-    reads: u64,
-    writes: u64,
-    text: &[u8],
-    status: u8,
-) -> Result<bool, NoMemory> {
-    let words = words_of(alloc, command)?;
-    let script = lines_of(alloc, ROWS[0].0)?;
-    let mut source = MemorySource::new(script, failing(alloc, reads)?);
-    let mut sink = MemorySink::new(alloc, failing(alloc, writes)?);
-    let ended = run_group(alloc, words.as_slice(), &mut source, &mut sink);
-    Ok(sink.held().as_slice() == text && ended.number() == status)
+/// Whether the run of a script prints this, and ends so.
+fn prints(alloc: Global, script: &[u8], text: &[u8], end: End) -> Result<bool, NoMemory> {
+    let played = play(alloc, script)?;
+    Ok(played.text.as_slice() == text && played.end == end)
 }
 
 fn append_times(out: &mut Bytes, lines: &[u8], times: u32) -> Result<(), NoMemory> {
@@ -289,15 +238,6 @@ fn append_puts(alloc: Global, out: &mut Bytes, count: u32) -> Result<(), NoMemor
         out.append(line.as_bytes())?;
     }
     Ok(())
-}
-
-/// A script of so many bytes: its header, and one line of letters.
-fn long_script(alloc: Global, size: usize) -> Result<Bytes, NoMemory> {
-    let mut script = Bytes::of(alloc, b"clients 1\n")?;
-    for _ in 10..size {
-        script.push(b'a')?;
-    }
-    Ok(script)
 }
 
 /// Calls up to the bound of unsealed ones, which another's unfinished call holds back, then past it, and then again.
@@ -350,61 +290,11 @@ fn behind_print(alloc: Global) -> Result<Bytes, NoMemory> {
 
 #[test]
 fn rows(rt: HostRuntime) -> Result<(), Fail> {
-    for row in ROWS.iter() {
-        assert!(rt; prints_row(rt.alloc(), "group", row)?, "{}", row.0);
-    }
-    Ok(())
-}
-
-#[test]
-fn in_memory(rt: HostRuntime) -> Result<(), Fail> {
     let alloc = rt.alloc();
-    let words = words_of(alloc, "group")?;
-    let script = lines_of(alloc, ROWS[0].0)?;
-    let text = lines_of(alloc, ROWS[0].1)?;
-    let mut source = NeverFails::new(MemorySource::new(script, Calls::new(alloc)));
-    let mut sink = NeverFails::new(MemorySink::new(alloc, Calls::new(alloc)));
-    let ended = run_in_memory(alloc, words.as_slice(), &mut source, &mut sink);
-    assert!(rt; ended.number() == 0);
-    assert!(rt; sink.inner().held().as_slice() == text.as_slice());
-    Ok(())
-}
-
-#[test]
-fn wrong_words(rt: HostRuntime) -> Result<(), Fail> {
-    let row: Row = ("clients 1", "usage: vicos group", 2);
-    for command in ["group x", "groups", ""] {
-        assert!(rt; prints_row(rt.alloc(), command, &row)?);
+    for row in ROWS.iter() {
+        let (script, text) = (lines_of(alloc, row.0)?, lines_of(alloc, row.1)?);
+        assert!(rt; prints(alloc, script.as_slice(), text.as_slice(), row.2)?, "{}", row.0);
     }
-    Ok(())
-}
-
-#[test]
-fn one_fault(rt: HostRuntime) -> Result<(), Fail> {
-    // The second read is the one that would find the end.
-    assert!(rt; faults(rt.alloc(), "group", 1, 0, b"read fault\n", 3)?);
-    assert!(rt; faults(rt.alloc(), "group", 2, 0, b"read fault\n", 3)?);
-    assert!(rt; faults(rt.alloc(), "group", 0, 1, b"", 4)?);
-    assert!(rt; faults(rt.alloc(), "group", 1, 1, b"", 4)?);
-    // Wrong words are found before anything is read.
-    assert!(rt; faults(rt.alloc(), "group x", 1, 0, b"usage: vicos group\n", 2)?);
-    Ok(())
-}
-
-#[test]
-fn longest_script(rt: HostRuntime) -> Result<(), Fail> {
-    let script = long_script(rt.alloc(), 16_777_216)?;
-    assert!(rt;
-        prints(
-            rt.alloc(),
-            "group",
-            script,
-            b"line 2: not a line of this script\n",
-            5
-        )?
-    );
-    let script = long_script(rt.alloc(), 16_777_217)?;
-    assert!(rt; prints(rt.alloc(), "group", script, b"line 2: script too long\n", 5)?);
     Ok(())
 }
 
@@ -412,7 +302,7 @@ fn longest_script(rt: HostRuntime) -> Result<(), Fail> {
 fn most_unsealed(rt: HostRuntime) -> Result<(), Fail> {
     let script = unsealed_script(rt.alloc())?;
     let text = unsealed_print(rt.alloc())?;
-    assert!(rt; prints(rt.alloc(), "group", script, text.as_slice(), 0)?);
+    assert!(rt; prints(rt.alloc(), script.as_slice(), text.as_slice(), End::Whole)?);
     Ok(())
 }
 
@@ -420,7 +310,7 @@ fn most_unsealed(rt: HostRuntime) -> Result<(), Fail> {
 fn far_behind(rt: HostRuntime) -> Result<(), Fail> {
     let script = behind_script(rt.alloc())?;
     let text = behind_print(rt.alloc())?;
-    assert!(rt; prints(rt.alloc(), "group", script, text.as_slice(), 0)?);
+    assert!(rt; prints(rt.alloc(), script.as_slice(), text.as_slice(), End::Whole)?);
     Ok(())
 }
 
@@ -447,12 +337,12 @@ const FORGED: &str =
 fn forged_tag(rt: HostRuntime) -> Result<(), Fail> {
     let script = forged_script(rt.alloc())?;
     let text = lines_of(rt.alloc(), FORGED)?;
-    assert!(rt; prints(rt.alloc(), "group", script, text.as_slice(), 1)?);
+    assert!(rt; prints(rt.alloc(), script.as_slice(), text.as_slice(), End::Forged)?);
     // A bad line behind it: nothing is said of tags.
     let mut script = forged_script(rt.alloc())?;
     script.append(b"take 1\n")?;
     let text = lines_of(rt.alloc(), "1 done stored / line 4: nothing waiting")?;
-    assert!(rt; prints(rt.alloc(), "group", script, text.as_slice(), 5)?);
+    assert!(rt; prints(rt.alloc(), script.as_slice(), text.as_slice(), End::Bad)?);
     Ok(())
 }
 
@@ -518,7 +408,7 @@ fn as_defined(rt: HostRuntime) -> Result<(), Fail> {
     for row in ROWS.iter() {
         let (script, print) = (lines_of(alloc, row.0)?, lines_of(alloc, row.1)?);
         let is_whole = runs_plainly(alloc, script.as_slice(), print.as_slice())?;
-        assert!(rt; is_whole == (row.2 == 0), "{}", row.0);
+        assert!(rt; is_whole == (row.2 == End::Whole), "{}", row.0);
     }
     let (script, print) = (forged_script(alloc)?, lines_of(alloc, FORGED)?);
     assert!(rt; runs_plainly(alloc, script.as_slice(), print.as_slice())?);

@@ -1,2 +1,3 @@
 pub mod ClientLines
 pub mod Splits
+pub mod Statuses

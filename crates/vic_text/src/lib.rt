@@ -1,17 +1,20 @@
-//! Reading the lines of a script, and printing operations and outcomes.
+//! Reading the lines of a script, printing operations, outcomes and bad lines, and the statuses with which commands end.
 //!
-//! `read_line` answers the line that a text spells by `line_of` of `vic_script`; `op_text` and `outcome_text` are `op_words`
-//! and `outcome_words` there.
+//! `read_line` answers the line that a text spells by `line_of` of `vic_script`; `op_text`, `outcome_text` and `put_bad_line` are
+//! `op_words`, `outcome_words` and `bad_line` there. `Status::number` and `Status::line` are `status_number` and `fixed_line` of
+//! `specs/Statuses.antt`.
 #![tactic(auto)]
 
 pub mod client_line;
 pub mod print;
 pub mod read;
+pub mod status;
 pub mod word;
 
 pub use client_line::{ClientLine, read_client_line};
-pub use print::{op_text, outcome_text, put_number, put_op, put_outcome};
-pub use read::{LineFault, read_line};
+pub use print::{op_text, outcome_text, put_bad_line, put_number, put_op, put_outcome};
+pub use read::{LineFault, SCRIPT_LIMIT, read_line};
+pub use status::Status;
 pub use vic_script::Line;
 pub use word::split_line;
 

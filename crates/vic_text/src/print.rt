@@ -1,10 +1,11 @@
-//! Printing bytes, operations and outcomes.
+//! Printing bytes, operations, outcomes and bad lines.
 
 ghost use Rattle.std.specs.Prelude.{◌≡◌, ◌<◌, ◌++◌, ◌∷◌, length, OnOk, OnErr, IfOk, if◌then◌else◌};
 ghost use Rattle.hex.specs.Hex.{encode_lower};
 ghost use Rattle.std.specs.List.{flat_map, list_all};
 ghost use Rattle.std.specs.Fmt.{decimal};
 ghost use Rattle.vic_script.specs.Words.{is_plain as plain_test, bytes_word, space, op_words, answer_words, outcome_words};
+ghost use Rattle.vic_script.specs.Print.{kind_text as kind_words, bad_line};
 
 use crate::word::are_plain;
 use std::alloc::Global;
@@ -104,6 +105,32 @@ pub fn put_outcome(out: &mut Bytes, alloc: Global, outcome: &Outcome) -> Result<
 {
     let text = outcome_text(alloc, outcome)?;
     out.append(text.as_slice())
+}
+
+/// Appends the line that tells of a bad line: its number, from 1 on, and the text of its kind, 1 to 7. Where memory runs out, some
+/// of it may stand there.
+pub fn put_bad_line(out: &mut Bytes, alloc: Global, number: u32, kind: u8) -> Result<(), NoMemory>
+    ensures ok { OnOk result (out.new ≡ out.old ++ bad_line (record { number = number; kind = kind })) }
+{
+    out.append(b"line ")?;
+    put_number(out, alloc, number)?;
+    out.append(b": ")?;
+    out.append(kind_text(kind))?;
+    out.append(b"\n")
+}
+
+fn kind_text(kind: u8) -> &'static [u8]
+    ensures { result.now ≡ kind_words kind }
+{
+    match kind {
+        2 => b"no such client",
+        3 => b"client has halted",
+        4 => b"client is busy",
+        5 => b"nothing waiting",
+        6 => b"no such server",
+        7 => b"script too long",
+        _ => b"not a line of this script",
+    }
 }
 
 // ---- parts of a text that is being made; where memory runs out, some of the part may stand there

@@ -10,6 +10,9 @@ use thiserror::Error;
 use vic_dict::{Bytes, Mode, NoMemory, Op};
 use vic_script::Line;
 
+/// The most bytes that a script may have.
+pub const SCRIPT_LIMIT: usize = 16_777_216;
+
 /// Why a text is no line.
 #[derive(Clone, Copy, Debug, PartialEq, Eq, Error)]
 pub enum LineFault {

@@ -6,10 +6,10 @@
 use std::alloc::Global;
 use std::process::ExitCode;
 use std::{env, io};
+use vic_cli::{finish, run_group};
 use vic_dict::NoMemory;
-use vic_group::finish::finish;
-use vic_group::{Status, run_group};
 use vic_ports::{StdSink, StdSource};
+use vic_text::Status;
 
 /// The words behind the program's name; none where they aren't all text.
 fn words_of(alloc: Global, rt: &HostRuntime) -> Result<Vec<String>, NoMemory> {
@@ -31,7 +31,7 @@ fn main(rt: HostRuntime) -> ExitCode {
     let mut sink = StdSink::new(rt.stdout());
     let status = match words_of(alloc, &rt) {
         Ok(words) => run_group(alloc, words.as_slice(), &mut source, &mut sink),
-        Err(NoMemory) => finish(&mut sink, Status::NoMemory, b"no memory\n"),
+        Err(NoMemory) => finish(&mut sink, Status::NoMemory, Status::NoMemory.line()),
     };
     ExitCode::from(status.number())
 }

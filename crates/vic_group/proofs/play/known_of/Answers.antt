@@ -3,5 +3,5 @@ use Rattle.vic_script.specs.Run.{limit}
 use Rattle.vic_group.proofs.Playing.{known_all}
 use Rattle.vic_group.proofs.play.known_of.Goals as goal
 
-pub returns-then-script-le-LIMIT : goal.returns-then-script-le-LIMIT
-returns-then-script-le-LIMIT c = known_all limit c.args.script.now (omega (arith, c.if-script-le-LIMIT.true))
+pub returns-then-script-le-SCRIPT_LIMIT : goal.returns-then-script-le-SCRIPT_LIMIT
+returns-then-script-le-SCRIPT_LIMIT c = known_all limit c.args.script.now (omega (arith, c.if-script-le-SCRIPT_LIMIT.true))

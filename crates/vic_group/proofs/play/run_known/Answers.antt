@@ -10,13 +10,13 @@ returns-then-is_empty c =
     let total : ℕ = length c.args.known.now in
     leaves_lines (lines_of c.args.known.now) [] total _ c.unopened.result (lines_none c.args.known.now none) c.unopened.ensures (leaves_empty total)
 
-pub returns-then-place-gt-LIMIT : goal.returns-then-place-gt-LIMIT
-returns-then-place-gt-LIMIT c =
+pub returns-then-place-gt-SCRIPT_LIMIT : goal.returns-then-place-gt-SCRIPT_LIMIT
+returns-then-place-gt-SCRIPT_LIMIT c =
     let total : ℕ = length c.args.known.now in
     let text : List ℕ = c.first_line.result.0.now in
     let others : List ℕ = c.first_line.result.1.now in
-    leaves_lines (lines_of c.args.known.now) (text ∷ lines_of others) total _ c.unopened-then-place-gt-LIMIT.result c.first_line.ensures.lines c.unopened-then-place-gt-LIMIT.ensures
-    (leaves_long total text (lines_of others) (omega (arith, c.place_behind-place.ensures, c.if-place-gt-LIMIT.true)))
+    leaves_lines (lines_of c.args.known.now) (text ∷ lines_of others) total _ c.unopened-then-place-gt-SCRIPT_LIMIT.result c.first_line.ensures.lines c.unopened-then-place-gt-SCRIPT_LIMIT.ensures
+    (leaves_long total text (lines_of others) (omega (arith, c.place_behind-place.ensures, c.if-place-gt-SCRIPT_LIMIT.true)))
 
 pub returns-in-Some : goal.returns-in-Some
 returns-in-Some c =
@@ -25,7 +25,7 @@ returns-in-Some c =
     let others : List ℕ = c.first_line.result.1.now in
     if_ok-map c.run_on.result _ _
     (λ r h. leaves_lines (lines_of c.args.known.now) (text ∷ lines_of others) total r r c.first_line.ensures.lines refl
-    (leaves_opened total text (lines_of others) c.in-Some.world r (omega (arith, c.place_behind-place.ensures, c.if-place-gt-LIMIT.false)) (rw (sym c.in-Some.is) c.in_ok-world.ensures) (rw (sym c.place_behind-place.ensures) h)))
+    (leaves_opened total text (lines_of others) c.in-Some.world r (omega (arith, c.place_behind-place.ensures, c.if-place-gt-SCRIPT_LIMIT.false)) (rw (sym c.in-Some.is) c.in_ok-world.ensures) (rw (sym c.place_behind-place.ensures) h)))
     c.run_on.ensures
 
 pub returns-in-None : goal.returns-in-None
@@ -34,4 +34,4 @@ returns-in-None c =
     let text : List ℕ = c.first_line.result.0.now in
     let others : List ℕ = c.first_line.result.1.now in
     leaves_lines (lines_of c.args.known.now) (text ∷ lines_of others) total _ c.unopened-in-None.result c.first_line.ensures.lines c.unopened-in-None.ensures
-    (leaves_unopened total text (lines_of others) (omega (arith, c.place_behind-place.ensures, c.if-place-gt-LIMIT.false)) (rw (sym c.in-None.is) c.in_ok-world.ensures))
+    (leaves_unopened total text (lines_of others) (omega (arith, c.place_behind-place.ensures, c.if-place-gt-SCRIPT_LIMIT.false)) (rw (sym c.in-None.is) c.in_ok-world.ensures))

@@ -1,5 +1,5 @@
 -- How the command on a script ends: what was read, what was written, and why.
-use Rattle.std.specs.Prelude.{◌≡◌, ℕ, ◌<◌, ◌⊎◌, ◌↔◌, Bool, true, false, List, ◌++◌, length, reverse, Option, Some, None, IsSome, IfSome}
+use Rattle.std.specs.Prelude.{◌≡◌, ℕ, ◌⊎◌, ◌↔◌, Bool, true, false, List, ◌++◌, reverse, Option, Some, None, IsSome, IfSome}
 use Rattle.std.specs.List.{flat_map}
 use Rattle.vic_rules.specs.History.{IsLawful}
 use Rattle.vic_rules.specs.Headline.{Headline}
@@ -7,47 +7,19 @@ use Rattle.vic_rules.specs.Trust.{IsForged}
 use Rattle.vic_rules.specs.Views.{view_of, HasAll, ShowsOnlyCalls, Agree, IsInRealTime}
 use Rattle.vic_laws.specs.Claims.{HashesTellPathsIn, SealsHoldIn}
 use Rattle.vic_laws.specs.OrderClaims.{CompletedOnceIn, DoneMeetsNoConflictIn, AnswersStandIn}
-use Rattle.vic_ports.specs.Causes.{Rose, IsSpent, LeavesBehind}
+use Rattle.vic_ports.specs.Causes.{Rose}
 use Rattle.vic_ports.specs.Written.{AppendedAll, AppendedFront}
 use Rattle.vic_order.specs.Scenes.{Scene}
-use Rattle.vic_script.specs.Run.{limit, Bad, run_of, is_honest_script, group_of, history_of, bad_line_of}
+use Rattle.vic_script.specs.Run.{Bad, run_of, is_honest_script, group_of, history_of, bad_line_of}
 use Rattle.vic_script.specs.Print.{print_of_script, is_forged, all_views, all_agreements, tags_line}
 use Rattle.vic_runs.specs.Agreements.{AgreementsCountIn}
 use Rattle.vic_order.specs.Honest.{ComesHonestly, IsSame}
 use Rattle.vic_runs.specs.Claims.{line_of_step}
 use Rattle.vic_honest.specs.Claims.{IsHonestScene}
-use Rattle.vic_group.specs.declared.status.Status.{Status}
-use Rattle.vic_group.specs.declared.status.Status.TheVariants as status
-use Rattle.vic_group.specs.Words.{usage_line, read_fault_line, no_memory_line}
-
--- what is told of a source before and after: what is left, its count of faults, and whether it has ended
-pub record Taken : Type 0 where
-  pub old : Option (List ℕ)
-  pub new : Option (List ℕ)
-  pub before : ℕ
-  pub now : ℕ
-  pub ended : Bool
-
-abbrev pub taken_of : Option (List ℕ) → Option (List ℕ) → ℕ → ℕ → Bool → Taken
-taken_of old new before now ended = record { old = old; new = new; before = before; now = now; ended = ended }
-
--- it was read to its end
-abbrev pub IsReadWhole : Taken → Type 0
-IsReadWhole t = (t.ended ≡ true) × IsSpent t.new
-
--- more was taken than a script may have
-abbrev pub IsReadPast : Taken → Type 0
-IsReadPast t = (bytes : List ℕ) × ((limit < length bytes) × LeavesBehind bytes t.old t.new)
-
--- what is told of a sink before and after
-pub record Given : Type 0 where
-  pub old : Option (List ℕ)
-  pub new : Option (List ℕ)
-  pub before : ℕ
-  pub now : ℕ
-
-abbrev pub given_of : Option (List ℕ) → Option (List ℕ) → ℕ → ℕ → Given
-given_of old new before now = record { old = old; new = new; before = before; now = now }
+use Rattle.vic_text.specs.declared.status.Status.{Status}
+use Rattle.vic_text.specs.declared.status.Status.TheVariants as status
+use Rattle.vic_text.specs.Statuses.{usage_line, read_fault_line, no_memory_line}
+use Rattle.vic_cli.specs.Output.{Taken, Given, IsReadWhole, IsReadPast}
 
 -- a text that the command may be about to write: the usage line where the words are wrong; else that a read failed, where one
 -- did, that memory ran out, or the print of the script's run
@@ -68,6 +40,10 @@ Ends right t k status.ReadFault = (right ≡ true) × (Rose t.before t.now × Ap
 Ends right t k status.WriteFault = Rose k.before k.now × ((text : List ℕ) × (IsOutput right t text × AppendedFront text k.old k.new))
 Ends right t k status.BadLine = (right ≡ true) × ((IsReadWhole t ⊎ IsReadPast t) × IfSome t.old (λ script. IsSome (bad_line_of script) × AppendedAll (print_of_script script) k.old k.new))
 Ends right t k status.NoMemory = (text : List ℕ) × (IsOutput right t text × AppendedFront text k.old k.new)
+Ends right t k status.LinkFault = ⊥
+Ends right t k status.Halted = ⊥
+Ends right t k status.BadFrame = ⊥
+Ends right t k status.GreetingRefused = ⊥
 
 -- the status of a run in which every line is done
 abbrev pub done_status : Bool → Status

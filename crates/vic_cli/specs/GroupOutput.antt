@@ -1,20 +1,13 @@
--- What is about to be written, and how a writing ends.
+-- What the command on a script is about to write.
 use Rattle.std.specs.Prelude.{◌≡◌, ℕ, ◌⊎◌, Bool, true, false, List, IsSome, IfSome}
 use Rattle.vic_ports.specs.Causes.{Rose}
-use Rattle.vic_ports.specs.Written.{AppendedAll, AppendedFront}
 use Rattle.vic_script.specs.Run.{bad_line_of}
 use Rattle.vic_script.specs.Print.{print_of_script}
-use Rattle.vic_group.specs.declared.output.Text.{Text}
-use Rattle.vic_group.specs.declared.output.Text.TheVariants as text
-use Rattle.vic_group.specs.declared.status.Status.{Status}
-use Rattle.vic_group.specs.declared.status.Status.TheVariants as status
-use Rattle.vic_group.specs.Words.{usage_line, read_fault_line, no_memory_line}
-use Rattle.vic_group.specs.Ends.{Taken, Given, IsReadWhole, IsReadPast, IsDone, done_status}
-
--- the bytes of a text
-abbrev pub text_bytes : Text → List ℕ
-text_bytes (text.Fixed line) = line.now
-text_bytes (text.Made bytes) = bytes
+use Rattle.vic_text.specs.declared.status.Status.{Status}
+use Rattle.vic_text.specs.declared.status.Status.TheVariants as status
+use Rattle.vic_text.specs.Statuses.{usage_line, read_fault_line, no_memory_line}
+use Rattle.vic_cli.specs.Output.{Taken, IsReadWhole, IsReadPast}
+use Rattle.vic_cli.specs.GroupEnds.{IsDone, done_status}
 
 -- a status and its text, before it is written
 abbrev pub Composes : Bool → Taken → Status → List ℕ → Type 0
@@ -25,6 +18,10 @@ Composes right t status.ReadFault line = (right ≡ true) × (Rose t.before t.no
 Composes right t status.WriteFault line = ⊥
 Composes right t status.BadLine line = (right ≡ true) × ((IsReadWhole t ⊎ IsReadPast t) × IfSome t.old (λ script. IsSome (bad_line_of script) × (line ≡ print_of_script script)))
 Composes right t status.NoMemory line = (right ≡ true) × (line ≡ no_memory_line)
+Composes right t status.LinkFault line = ⊥
+Composes right t status.Halted line = ⊥
+Composes right t status.BadFrame line = ⊥
+Composes right t status.GreetingRefused line = ⊥
 
 -- a status and its text where memory ran out
 abbrev pub ComposesNone : Status → List ℕ → Type 0
@@ -35,9 +32,3 @@ abbrev pub ComposesRun : List ℕ → Status → List ℕ → Type 0
 ComposesRun script s line =
     ((forged : Bool) × ((s ≡ done_status forged) × (IsDone script forged × (line ≡ print_of_script script))))
     ⊎ (((s ≡ status.BadLine) × (IsSome (bad_line_of script) × (line ≡ print_of_script script))) ⊎ ComposesNone s line)
-
--- a text was written whole, or the sink failed or found no memory
-abbrev pub Finishes : Status → List ℕ → Given → Status → Type 0
-Finishes planned line k result =
-    ((result ≡ planned) × AppendedAll line k.old k.new)
-    ⊎ (((result ≡ status.WriteFault) × (Rose k.before k.now × AppendedFront line k.old k.new)) ⊎ ((result ≡ status.NoMemory) × AppendedFront line k.old k.new))

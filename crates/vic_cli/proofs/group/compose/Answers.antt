@@ -1,7 +1,8 @@
 use Rattle.std.proofs.Common.{subst}
-use Rattle.vic_group.specs.Output.{ComposesRun, text_bytes}
-use Rattle.vic_group.proofs.Ends.{composes_past}
-use Rattle.vic_group.proofs.group.compose.Goals as goal
+use Rattle.vic_cli.specs.Output.{text_bytes}
+use Rattle.vic_cli.specs.GroupOutput.{ComposesRun}
+use Rattle.vic_cli.proofs.GroupEnds.{composes_past}
+use Rattle.vic_cli.proofs.group.compose.Goals as goal
 
 pub returns-in-TooLong : goal.returns-in-TooLong
 returns-in-TooLong g c =

@@ -3,24 +3,17 @@
 ghost use Rattle.std.specs.Prelude.{◌≡◌, ◌≢◌, ◌⊎◌, IfSome, Some, None, true, drop, map, string_bytes};
 ghost use Rattle.vic_script.specs.Run.{bad_line_of, group_of, history_of};
 ghost use Rattle.vic_script.specs.Print.{is_forged};
-ghost use Rattle.vic_group.specs.Words.{is_group};
-ghost use Rattle.vic_group.specs.Ends.{Ends, IsComplete, IsAsClaimed, done_status, taken_of, given_of};
-ghost use Rattle.vic_group.specs.Output.{Composes, ComposesRun, ComposesNone, text_bytes};
+ghost use Rattle.vic_cli.specs.Words.{is_group};
+ghost use Rattle.vic_cli.specs.Output.{taken_of, given_of, text_bytes};
+ghost use Rattle.vic_cli.specs.GroupEnds.{Ends, IsComplete, IsAsClaimed, done_status};
+ghost use Rattle.vic_cli.specs.GroupOutput.{Composes, ComposesRun};
 
-use crate::finish::finish;
-use crate::output::Text;
-use crate::play::{End, play};
-use crate::status::Status;
+use crate::output::{Composed, Text, finish};
 use std::alloc::Global;
+use vic_group::play::{End, play};
 use vic_ports::{Input, MemorySink, MemorySource, NeverFails, Sink, Source, read_input};
+use vic_text::Status;
 use vic_text::word::is_name;
-
-/// A status, and the text to write before the command ends so.
-#[derive(Drop)]
-struct Composed {
-    status: Status,
-    text: Text,
-}
 
 /// Whether the words name the command, and nothing else.
 fn is_right(words: &[String]) -> bool
@@ -45,16 +38,7 @@ fn compose_run(alloc: Global, script: &[u8]) -> Composed
             },
             text: Text::Made(played.text),
         },
-        Err(_) => no_memory(),
-    }
-}
-
-fn no_memory() -> Composed
-    ensures { ComposesNone result.status (text_bytes result.text) }
-{
-    Composed {
-        status: Status::NoMemory,
-        text: Text::Fixed(b"no memory\n"),
+        Err(_) => Composed::of(Status::NoMemory),
     }
 }
 
@@ -63,19 +47,13 @@ fn compose<S: Source>(alloc: Global, right: bool, source: &mut S) -> Composed
     ensures { Composes right (taken_of (S.left source.old) (S.left source.new) (S.faults source.old) (S.faults source.new) (S.ended source.new)) result.status (text_bytes result.text) }
 {
     if !right {
-        return Composed {
-            status: Status::Usage,
-            text: Text::Fixed(b"usage: vicos group\n"),
-        };
+        return Composed::of(Status::Usage);
     }
     match read_input(alloc, source) {
         Input::Whole(script) => compose_run(alloc, script.as_slice()),
         Input::TooLong(front) => compose_run(alloc, front.as_slice()),
-        Input::Fault => Composed {
-            status: Status::ReadFault,
-            text: Text::Fixed(b"read fault\n"),
-        },
-        Input::NoMemory => no_memory(),
+        Input::Fault => Composed::of(Status::ReadFault),
+        Input::NoMemory => Composed::of(Status::NoMemory),
     }
 }
 

@@ -1,7 +1,7 @@
 use Rattle.std.proofs.Common.{sym}
-use Rattle.vic_group.specs.Output.{Finishes, text_bytes}
-use Rattle.vic_group.proofs.Ends.{ends_of, claims_in}
-use Rattle.vic_group.proofs.group.run_group.Goals as goal
+use Rattle.vic_cli.specs.Output.{Finishes, text_bytes}
+use Rattle.vic_cli.proofs.GroupEnds.{ends_of, claims_in}
+use Rattle.vic_cli.proofs.group.run_group.Goals as goal
 
 pub returns-clause-ends : goal.returns-clause-ends
 returns-clause-ends g c =

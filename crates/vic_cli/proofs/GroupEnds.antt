@@ -21,13 +21,14 @@ use Rattle.vic_runs.proofs.Halted.{none_for_halting}
 use Rattle.vic_runs.proofs.Prints.{prints_returns}
 use Rattle.vic_group.specs.declared.play.End.{End}
 use Rattle.vic_group.specs.declared.play.End.TheVariants as end
-use Rattle.vic_group.specs.declared.status.Status.{Status}
-use Rattle.vic_group.specs.declared.status.Status.TheVariants as status
-use Rattle.vic_group.specs.Words.{usage_line, read_fault_line}
-use Rattle.vic_group.specs.Ends.{Taken, Given, taken_of, IsReadWhole, IsOutput, IsDone, done_status, Ends, IsComplete, IsHonest, IsAsClaimed}
 use Rattle.vic_group.specs.Playing.{ended_by, end_of}
-use Rattle.vic_group.specs.Output.{Composes, ComposesRun, Finishes}
 use Rattle.vic_group.proofs.Spans.{run-front, long-bad}
+use Rattle.vic_text.specs.declared.status.Status.{Status}
+use Rattle.vic_text.specs.declared.status.Status.TheVariants as status
+use Rattle.vic_text.specs.Statuses.{usage_line, read_fault_line}
+use Rattle.vic_cli.specs.Output.{Taken, Given, taken_of, IsReadWhole, Finishes}
+use Rattle.vic_cli.specs.GroupEnds.{IsOutput, IsDone, done_status, Ends, IsComplete, IsHonest, IsAsClaimed}
+use Rattle.vic_cli.specs.GroupOutput.{Composes, ComposesRun}
 
 -- ---- what was read, and the script
 
@@ -94,6 +95,10 @@ output-of false t status.ReadFault line c = absurd cc
 output-of false t status.WriteFault line c = absurd c
 output-of false t status.BadLine line c = absurd cc
 output-of false t status.NoMemory line c = absurd cc
+output-of false t status.LinkFault line c = absurd c
+output-of false t status.Halted line c = absurd c
+output-of false t status.BadFrame line c = absurd c
+output-of false t status.GreetingRefused line c = absurd c
 output-of true t status.Ok line c = inr (inr (if_some-map t.old (λ script. IsDone script false × (line ≡ print_of_script script)) (λ script. line ≡ print_of_script script) (λ script p. p.1) c.1.1))
 output-of true t status.TagsNotMade line c = inr (inr (if_some-map t.old (λ script. IsDone script true × (line ≡ print_of_script script)) (λ script. line ≡ print_of_script script) (λ script p. p.1) c.1.1))
 output-of true t status.Usage line c = absurd cc
@@ -101,6 +106,10 @@ output-of true t status.ReadFault line c = inl (c.1.1, c.1.0)
 output-of true t status.WriteFault line c = absurd c
 output-of true t status.BadLine line c = inr (inr (if_some-map t.old (λ script. IsSome (bad_line_of script) × (line ≡ print_of_script script)) (λ script. line ≡ print_of_script script) (λ script p. p.1) c.1.1))
 output-of true t status.NoMemory line c = inr (inl c.1)
+output-of true t status.LinkFault line c = absurd c
+output-of true t status.Halted line c = absurd c
+output-of true t status.BadFrame line c = absurd c
+output-of true t status.GreetingRefused line c = absurd c
 
 -- a written line is the text that it equals
 written-as : (line text : List ℕ) (k : Given) → AppendedAll line k.old k.new → line ≡ text → AppendedAll text k.old k.new
@@ -135,6 +144,10 @@ ends-done right t k status.BadLine line c all = (
   ),
 )
 ends-done right t k status.NoMemory line c all = (line, (output-of right t status.NoMemory line c, all-front line k.old k.new all))
+ends-done right t k status.LinkFault line c all = absurd c
+ends-done right t k status.Halted line c all = absurd c
+ends-done right t k status.BadFrame line c all = absurd c
+ends-done right t k status.GreetingRefused line c all = absurd c
 
 pub ends_of : (right : Bool) (t : Taken) (k : Given) (planned : Status) (line : List ℕ) (result : Status) → Composes right t planned line → Finishes planned line k result → Ends right t k result
 ends_of right t k planned line result c finished = elim finished [
@@ -168,6 +181,10 @@ complete_of right t k status.BadLine ends is read written script told good =
     subst (λ o. IfSome o (λ s. IsSome (bad_line_of s) × AppendedAll (print_of_script s) k.old k.new)) told ends.1.1 in
     absurd (bad-none script (bad_line_of script) good here.0)
 complete_of right t k status.NoMemory ends is read written script told good = inr refl
+complete_of right t k status.LinkFault ends is read written script told good = absurd ends
+complete_of right t k status.Halted ends is read written script told good = absurd ends
+complete_of right t k status.BadFrame ends is read written script told good = absurd ends
+complete_of right t k status.GreetingRefused ends is read written script told good = absurd ends
 
 -- ---- how a run ends
 
