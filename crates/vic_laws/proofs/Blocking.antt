@@ -1,5 +1,5 @@
 -- A call is aborted exactly by the least entry of another client that conflicts with it.
-use Rattle.std.proofs.Common.{◌≡◌, ℕ, ◌<◌, true, not, List, Option, Some, None, ap, arith}
+use Rattle.std.proofs.Common.{◌≡◌, ℕ, ◌<◌, true, not, List, ap}
 use Rattle.std.specs.Prelude.{◌≢◌, nat_eq}
 use Rattle.std.proofs.lemmas.Bool.{and_parts, and_from, eq-eqb, ne_eqb}
 use Rattle.vic_dict.specs.declared.op.Op.{Op}

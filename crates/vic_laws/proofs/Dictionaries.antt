@@ -11,7 +11,7 @@ use Rattle.vic_dict.specs.declared.op.Op.TheVariants as op
 use Rattle.vic_dict.specs.declared.op.Outcome.{Outcome}
 use Rattle.vic_dict.specs.declared.op.Outcome.TheVariants as outcome
 use Rattle.vic_dict.specs.declared.op.Entry.{Entry}
-use Rattle.vic_dict.specs.Lists.{IsIn, AreBytes}
+use Rattle.vic_dict.specs.Lists.{IsIn}
 use Rattle.vic_dict.specs.Dictionary.{Dictionary, nothing, after, AreBytesIn, IsProper}
 use Rattle.vic_wire.specs.Hashes.{empty_root}
 use Rattle.vic_wire.specs.Trees.{tree_of, tree_by, root_of, dictionary_root, node_texts}

@@ -1,5 +1,5 @@
 -- A commit whose text was made is that of a call that its owner completed, with this status, on this very path.
-use Rattle.std.specs.Prelude.{◌≡◌, ℕ, ◌≤◌, ◌⊎◌, Bool, true, false, List, [], ◌∷◌, ◌++◌, length, Some}
+use Rattle.std.specs.Prelude.{◌≡◌, ℕ, ◌⊎◌, Bool, true, false, List, [], ◌∷◌, ◌++◌, length}
 use Rattle.std.specs.List.{AllByRecursion}
 use Rattle.std.specs.Int.{w32, to_be_bytes}
 use Rattle.std.proofs.Common.{refl, ap, subst, sym, ◌∙◌, inl, inr, arith, append_assoc}
@@ -10,17 +10,16 @@ use Rattle.vic_wire.specs.Hashes.{Group, chain}
 use Rattle.vic_wire.specs.Messages.{IsEntry}
 use Rattle.vic_rules.specs.declared.trace.Input.{Input}
 use Rattle.vic_rules.specs.declared.trace.TraceStep.{TraceStep}
-use Rattle.vic_rules.specs.Client.{Standing, Move, decision, is_done, commit_text_on, seal_text_on}
+use Rattle.vic_rules.specs.Client.{Standing, Move, is_done, commit_text_on, seal_text_on}
 use Rattle.vic_rules.specs.History.{standing, path, move_of, AreSteps, Completion, completions}
-use Rattle.vic_rules.specs.Views.{confirmed}
-use Rattle.vic_rules.specs.Trust.{Collides, IsListed, of_genesis, texts_made, text_sent, chain_texts}
+use Rattle.vic_rules.specs.Trust.{IsListed, of_genesis, texts_made, text_sent, chain_texts}
 use Rattle.vic_laws.specs.Claims.{CommittedAs, CommitsTellIn, CommitsTell}
 use Rattle.vic_laws.proofs.Words.{tail_same, in_either}
-use Rattle.vic_laws.proofs.Steps.{Kind, is_quiet, is_called, is_replied, is_updated, is_listed, call_of, Replied}
+use Rattle.vic_laws.proofs.Steps.{Kind, is_quiet, is_called, is_replied, is_updated, is_listed, Replied}
 use Rattle.vic_laws.proofs.Standings.{standing_moved, earlier_steps}
 use Rattle.vic_laws.proofs.Chains.{TwoTexts, append_same, told_by_chain, length-chain}
 use Rattle.vic_laws.proofs.Paths.{all_drop, texts_drop, path_listed, path_spelled, collides_from}
-use Rattle.vic_laws.proofs.Calls.{kind_of, RepliedAt, completed_by, completion_joins, completion_stays}
+use Rattle.vic_laws.proofs.Calls.{kind_of, completed_by, completion_joins, completion_stays}
 use Rattle.vic_laws.proofs.Growth.{path_later, texts_below}
 use Rattle.vic_laws.proofs.Agreement.{confirmed_by}
 
@@ -32,7 +31,7 @@ one_status true false h = absurd cc
 one_status false true h = absurd cc
 one_status false false h = refl
 
-commit_told : (n m : ℕ) (a b : List ℕ) (d e : Bool) → length a ≡ length b → commit_text n a d ≡ commit_text m b e → (a ≡ b) × (d ≡ e)
+pub commit_told : (n m : ℕ) (a b : List ℕ) (d e : Bool) → length a ≡ length b → commit_text n a d ≡ commit_text m b e → (a ≡ b) × (d ≡ e)
 commit_told n m a b d e same h =
     let outer = append_same (to_be_bytes w32 n) (to_be_bytes w32 m) (a ++ status_byte d ∷ []) (b ++ status_byte e ∷ []) refl
     (tail_same 18 18 (to_be_bytes w32 n ++ a ++ status_byte d ∷ []) (to_be_bytes w32 m ++ b ++ status_byte e ∷ []) h) in

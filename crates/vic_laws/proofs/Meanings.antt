@@ -1,24 +1,25 @@
 -- Legal views by their splits, and the listed texts as a list.
-use Rattle.std.specs.Prelude.{nat_eq, if◌then◌else◌, ◌≡◌, ◌↔◌, ℕ, zero, suc, ◌-◌, ◌<◌, ◌≤◌, ◌⊎◌, List, [], ◌∷◌, ◌++◌, Option, Some, None, length, drop}
+use Rattle.std.specs.Prelude.{Bool, true, false, nat_eq, if◌then◌else◌, ◌≡◌, ℕ, zero, suc, ◌<◌, ◌≤◌, ◌⊎◌, List, [], ◌∷◌, ◌++◌, Option, Some, None}
 use Rattle.std.proofs.Common.{refl, ap, subst, sym, ◌∙◌, inl, inr, arith}
 use Rattle.std.proofs.lemmas.Bool.{cases_eq, cases_lt, eq-eqb, ne_eqb}
 use Rattle.vic_dict.specs.declared.op.Outcome.{Outcome}
 use Rattle.vic_dict.specs.declared.op.Outcome.TheVariants as outcome
 use Rattle.vic_dict.specs.declared.op.Entry.{Entry}
 use Rattle.vic_dict.specs.Lists.{IsIn, front}
-use Rattle.vic_dict.specs.Dictionary.{Dictionary, reply}
-use Rattle.vic_wire.specs.Texts.{genesis_text}
-use Rattle.vic_wire.specs.Hashes.{Group}
-use Rattle.vic_wire.specs.Parts.{Part, read_part, part_texts}
+use Rattle.vic_dict.specs.Dictionary.{Dictionary}
+use Rattle.vic_wire.specs.Texts.{chain_text}
+use Rattle.vic_wire.specs.Hashes.{Group, chain}
+use Rattle.vic_wire.specs.Parts.{Part, read_part}
 use Rattle.vic_rules.specs.declared.trace.TraceStep.{TraceStep}
 use Rattle.vic_rules.specs.declared.trace.Shown.{Shown}
 use Rattle.vic_rules.specs.Client.{Standing, at_start, step, MayStep, payload_of}
-use Rattle.vic_rules.specs.History.{standing, path, move_of, IsStep, AreSteps, IsLawful}
+use Rattle.vic_rules.specs.History.{standing, path, IsStep, AreSteps, IsLawful}
 use Rattle.vic_rules.specs.Views.{left_by, Explains, IsLegal}
-use Rattle.vic_rules.specs.Trust.{IsListed, of_genesis, of_path, of_part, of_sealed, chain_texts, parts_taken, applied}
-use Rattle.vic_laws.specs.Meanings.{IsExplained, by_answer, by_abort, LegalIs, gathered, up_to, nodes_of, listed_of, listed, ListedAre, own_steps, LawfulByClient}
-use Rattle.vic_laws.proofs.Words.{some_same, in_left, in_right, in_either}
+use Rattle.vic_rules.specs.Trust.{IsListed, of_genesis, of_path, of_part, of_sealed, chain_texts, parts_in, parts_taken, applied, took}
+use Rattle.vic_laws.specs.Meanings.{IsExplained, by_answer, by_abort, LegalIs, gathered, one_to, zero_to, chain_texts_up, parts_of, nodes_of, texts_of_paths, texts_of_parts, texts_of_sealed, listed, ListedAre, own_steps, LawfulByClient}
+use Rattle.vic_laws.proofs.Words.{in_left, in_right, in_either}
 use Rattle.vic_laws.proofs.Standings.{standing_moved, standing_kept}
+use Rattle.vic_laws.proofs.Growth.{front_none, front_whole}
 
 -- ---- legal views
 
@@ -65,23 +66,52 @@ of_gathered f (y ∷ xs) t i = elim (in_either (f y) (gathered f xs) t i) [
   | inr b ↦ (let r = of_gathered f xs t b in (r.0, inr r.1, r.2))
 ]
 
-in_up_to : (n k : ℕ) → k ≤ n → IsIn (up_to n) k
-in_up_to zero k le = let e : zero ≡ k = omega arith in inl e
-in_up_to (suc n) k le = now (cases_eq (suc n) k) (in_up_to n k)
+in_one_to : (n k : ℕ) → 0 < k → k ≤ n → IsIn (one_to n) k
+in_one_to zero k low le = absurd (omega arith)
+in_one_to (suc n) k low le = now (cases_eq (suc n) k) (in_one_to n k low)
   where
-    now : (suc n ≡ k) ⊎ (suc n ≡ k → ⊥) → (k ≤ n → IsIn (up_to n) k) → IsIn (up_to (suc n)) k
-    now (inl e) before = inl e
-    now (inr apart) before = inr (before (below (cases_lt n k)))
+    now : (suc n ≡ k) ⊎ (suc n ≡ k → ⊥) → (k ≤ n → IsIn (one_to n) k) → IsIn (one_to (suc n)) k
+    now (inl e) before = in_right (one_to n) (suc n ∷ []) k (inl e)
+    now (inr apart) before = in_left (one_to n) (suc n ∷ []) k (before (below (cases_lt n k)))
       where
         below : (n < k) ⊎ (k ≤ n) → k ≤ n
-        below (inl more) = let e : suc n ≡ k = omega arith in absurd (apart e)
+        below (inl more) = let e : suc n ≡ k = omega (arith, le) in absurd (apart e)
         below (inr l) = l
 
-of_up_to : (n k : ℕ) → IsIn (up_to n) k → k ≤ n
-of_up_to zero k (inl e) = omega (arith, e)
-of_up_to zero k (inr i) = absurd i
-of_up_to (suc n) k (inl e) = omega (arith, e)
-of_up_to (suc n) k (inr i) = omega (arith, of_up_to n k i)
+of_one_to : (n k : ℕ) → IsIn (one_to n) k → (0 < k) × (k ≤ n)
+of_one_to zero k i = absurd i
+of_one_to (suc n) k i = elim (in_either (one_to n) (suc n ∷ []) k i) [
+  | inl a ↦ (let r = of_one_to n k a in (r.0, omega (arith, r.1)))
+  | inr b ↦ (let r = only b in (omega (arith, r), omega (arith, r)))
+]
+  where
+    only : IsIn (suc n ∷ []) k → suc n ≡ k
+    only (inl e) = e
+    only (inr i) = absurd i
+
+in_zero_to : (n k : ℕ) → k ≤ n → IsIn (zero_to n) k
+in_zero_to n zero le = inl refl
+in_zero_to n (suc k) le = inr (in_one_to n (suc k) (omega arith) le)
+
+of_zero_to : (n k : ℕ) → IsIn (zero_to n) k → k ≤ n
+of_zero_to n k (inl e) = omega (arith, e)
+of_zero_to n k (inr i) = (of_one_to n k i).1
+
+-- the texts of a path are the same from either end
+chains_to : (g : Group) (p : List Entry) (t : List ℕ) → IsIn (chain_texts g p) t → IsIn (chain_texts_up g p) t
+unfolding chain_texts_up
+chains_to g [] t i = i
+chains_to g (e ∷ p) t (inl same) = in_right (chain_texts_up g p) (chain_text (chain g p) e ∷ []) t (inl same)
+chains_to g (e ∷ p) t (inr i) = in_left (chain_texts_up g p) (chain_text (chain g p) e ∷ []) t (chains_to g p t i)
+
+chains_from : (g : Group) (p : List Entry) (t : List ℕ) → IsIn (chain_texts_up g p) t → IsIn (chain_texts g p) t
+unfolding chain_texts_up
+chains_from g [] t i = i
+chains_from g (e ∷ p) t i = elim (in_either (chain_texts_up g p) (chain_text (chain g p) e ∷ []) t i) [ inl a ↦ inr (chains_from g p t a) | inr b ↦ only b ]
+  where
+    only : IsIn (chain_text (chain g p) e ∷ []) t → IsIn (chain_texts g (e ∷ p)) t
+    only (inl same) = inl same
+    only (inr j) = absurd j
 
 -- a number that is no member's stands at the start
 nobody_stands : (g : Group) (me : ℕ) → ((i : ℕ) → 0 < i → i ≤ g.count → i ≡ me → ⊥) → (h : List TraceStep) → AreSteps g h → standing g me h ≡ at_start
@@ -90,63 +120,119 @@ nobody_stands g me none [] steps = refl
 nobody_stands g me none (x ∷ past) steps =
     standing_kept g me x past (none x.client steps.1.member.0 steps.1.member.1) ∙ nobody_stands g me none past steps.0
 
--- so what is listed by it is listed by 0, which is none
-module _ (g : Group) (h : List TraceStep) (steps : AreSteps g h) where
-  zero_stands : standing g 0 h ≡ at_start
-  zero_stands = nobody_stands g 0 (λ i low high e. omega (arith, low, e)) h steps
+-- whose part it was
+part_owner : (g : Group) (h : List TraceStep) → AreSteps g h → (bytes : List ℕ) → IsIn (parts_taken g h) bytes → (i : ℕ) × (0 < i) × (i ≤ g.count) × IsIn (parts_of g i h) bytes
+unfolding parts_taken parts_of
+part_owner g [] steps bytes i = absurd i
+part_owner g (x ∷ past) steps bytes i = elim (in_either (parts_in (took g past x)) (parts_taken g past) bytes i) [
+  | inl a ↦ (
+    x.client,
+    steps.1.member.0,
+    steps.1.member.1,
+    in_right (parts_of g x.client past) (if nat_eq x.client x.client then parts_in (took g past x) else []) bytes (subst (λ b. IsIn (if b then parts_in (took g past x) else []) bytes) (sym (eq-eqb x.client x.client refl)) a),
+  )
+  | inr b ↦ (let r = part_owner g past steps.0 bytes b in (r.0, r.1, r.2, in_left (parts_of g r.0 past) (if nat_eq x.client r.0 then parts_in (took g past x) else []) bytes r.3))
+]
 
-  above_stands : (me : ℕ) → g.count < me → standing g me h ≡ at_start
-  above_stands me above = nobody_stands g me (λ i low high e. omega (arith, above, high, e)) h steps
+part_taken : (g : Group) (me : ℕ) (h : List TraceStep) (bytes : List ℕ) → IsIn (parts_of g me h) bytes → IsIn (parts_taken g h) bytes
+unfolding parts_taken parts_of
+part_taken g me [] bytes i = absurd i
+part_taken g me (x ∷ past) bytes i = elim (in_either (parts_of g me past) (if nat_eq x.client me then parts_in (took g past x) else []) bytes i) [
+  | inl a ↦ in_right (parts_in (took g past x)) (parts_taken g past) bytes (part_taken g me past bytes a)
+  | inr b ↦ in_left (parts_in (took g past x)) (parts_taken g past) bytes (now (nat_eq x.client me) b)
+]
+  where
+    now : (b : Bool) → IsIn (if b then parts_in (took g past x) else []) bytes → IsIn (parts_in (took g past x)) bytes
+    now true j = j
+    now false j = absurd j
 
-  as_zero : (me : ℕ) → g.count < me → standing g me h ≡ standing g 0 h
-  as_zero me above = above_stands me above ∙ sym zero_stands
+module _ (g : Group) (h : List TraceStep) (lawful : IsLawful g h) where
+  abbrev chained : ℕ → List (List ℕ)
+  chained i = chain_texts_up g (path g i h)
 
-  -- the texts of a number
-  abbrev texts_of : Standing → List (List ℕ)
-  texts_of s = chain_texts g s.path ++ gathered (λ n. applied g h (front n s.path)) (up_to s.sealed)
+  abbrev parted : ℕ → List (List ℕ)
+  parted i = gathered (λ bytes. nodes_of (read_part bytes)) (parts_of g i h)
 
-  member_or : (me : ℕ) (t : List ℕ) → IsIn (texts_of (standing g me h)) t → IsIn (listed g h) t
-  member_or me t i = inr (in_right (gathered (λ bytes. nodes_of (read_part bytes)) (parts_taken g h)) (gathered (listed_of g h) (up_to g.count)) t (now (cases_lt g.count me)))
+  abbrev left_at : Standing → List (List ℕ)
+  left_at s = gathered (λ n. applied g h (front n s.path)) (zero_to s.sealed)
+
+  abbrev members : List ℕ
+  members = one_to g.count
+
+  -- a number is a member's, or stands at the start
+  member_or : (me : ℕ) → IsIn members me ⊎ (standing g me h ≡ at_start)
+  member_or me = now (cases_lt 0 me) (cases_lt g.count me)
     where
-      now : (g.count < me) ⊎ (me ≤ g.count) → IsIn (gathered (listed_of g h) (up_to g.count)) t
-      now (inl above) = in_gathered (listed_of g h) (up_to g.count) 0 t (in_up_to g.count 0 (omega arith)) (subst (λ s. IsIn (texts_of s) t) (as_zero me above) i)
-      now (inr l) = in_gathered (listed_of g h) (up_to g.count) me t (in_up_to g.count me l) i
+      now : (0 < me) ⊎ (me ≤ 0) → (g.count < me) ⊎ (me ≤ g.count) → IsIn members me ⊎ (standing g me h ≡ at_start)
+      now (inl low) (inr high) = inl (in_one_to g.count me low high)
+      now (inr none) high = inr (nobody_stands g me (λ i low l e. omega (arith, low, none, e)) h lawful.steps)
+      now (inl low) (inl above) = inr (nobody_stands g me (λ i low l e. omega (arith, l, above, e)) h lawful.steps)
+
+  first_member : IsIn members 1
+  first_member = in_one_to g.count 1 (omega arith) (omega (arith, lawful.group.count.0))
+
+  in_paths : (t : List ℕ) → IsIn (texts_of_paths g h) t → IsIn (listed g h) t
+  in_paths t i = inr (in_left (texts_of_paths g h) (texts_of_parts g h ++ texts_of_sealed g h) t i)
+
+  in_parts : (t : List ℕ) → IsIn (texts_of_parts g h) t → IsIn (listed g h) t
+  in_parts t i = inr (in_right (texts_of_paths g h) (texts_of_parts g h ++ texts_of_sealed g h) t (in_left (texts_of_parts g h) (texts_of_sealed g h) t i))
+
+  in_sealed : (t : List ℕ) → IsIn (texts_of_sealed g h) t → IsIn (listed g h) t
+  in_sealed t i = inr (in_right (texts_of_paths g h) (texts_of_parts g h ++ texts_of_sealed g h) t (in_right (texts_of_parts g h) (texts_of_sealed g h) t i))
+
+  path_to : (me : ℕ) (t : List ℕ) → IsIn (chain_texts g (path g me h)) t → IsIn members me ⊎ (standing g me h ≡ at_start) → IsIn (listed g h) t
+  path_to me t i (inl there) = in_paths t (in_gathered chained members me t there (chains_to g (path g me h) t i))
+  path_to me t i (inr start) = absurd (subst (λ s. IsIn (chain_texts g s.path) t) start i)
+
+  -- the front of no entries is that of every path
+  same_front : (n : ℕ) → n ≤ 0 → front n [] ≡ front 0 (path g 1 h)
+  same_front n none = front_whole n [] (omega arith) ∙ sym (front_none (path g 1 h))
+
+  sealed_to : (me n : ℕ) (t : List ℕ) → n ≤ (standing g me h).sealed → IsIn (applied g h (front n (path g me h))) t → IsIn members me ⊎ (standing g me h ≡ at_start) → IsIn (listed g h) t
+  sealed_to me n t le i (inl there) =
+      in_sealed t (in_gathered (λ k. left_at (standing g k h)) members me t there (in_gathered (λ k. applied g h (front k (path g me h))) (zero_to (standing g me h).sealed) n t (in_zero_to (standing g me h).sealed n le) i))
+  sealed_to me n t le i (inr start) =
+      let none : n ≤ 0 = subst (λ (s : Standing). n ≤ s.sealed) start le in
+      let here : IsIn (applied g h (front n [])) t = subst (λ (s : Standing). IsIn (applied g h (front n s.path)) t) start i in
+      let there : IsIn (applied g h (front 0 (path g 1 h))) t = subst (λ p. IsIn (applied g h p) t) (same_front n none) here in
+      in_sealed t (in_gathered (λ k. left_at (standing g k h)) members 1 t first_member (in_gathered (λ k. applied g h (front k (path g 1 h))) (zero_to (standing g 1 h).sealed) 0 t (inl refl) there))
 
   listed_to : (t : List ℕ) → IsListed g h t → IsIn (listed g h) t
   listed_to t (of_genesis e) = inl (sym e)
-  listed_to t (of_path me i) = member_or me t (in_left (chain_texts g (path g me h)) (gathered (λ n. applied g h (front n (path g me h))) (up_to (standing g me h).sealed)) t i)
+  listed_to t (of_path me i) = path_to me t i (member_or me)
   listed_to t (of_part bytes part i e j) =
-      inr (in_left (gathered (λ b. nodes_of (read_part b)) (parts_taken g h)) (gathered (listed_of g h) (up_to g.count)) t
-      (in_gathered (λ b. nodes_of (read_part b)) (parts_taken g h) bytes t i (subst (λ o. IsIn (nodes_of o) t) (sym e) j)))
-  listed_to t (of_sealed me n le i) =
-      member_or me t (in_right (chain_texts g (path g me h)) (gathered (λ k. applied g h (front k (path g me h))) (up_to (standing g me h).sealed)) t
-      (in_gathered (λ k. applied g h (front k (path g me h))) (up_to (standing g me h).sealed) n t (in_up_to (standing g me h).sealed n le) i))
+      let r = part_owner g h lawful.steps bytes i in
+      in_parts t (in_gathered parted members r.0 t (in_one_to g.count r.0 r.1 r.2) (in_gathered (λ b. nodes_of (read_part b)) (parts_of g r.0 h) bytes t r.3 (subst (λ o. IsIn (nodes_of o) t) (sym e) j)))
+  listed_to t (of_sealed me n le i) = sealed_to me n t le i (member_or me)
 
   of_nodes : (bytes : List ℕ) (o : Option Part) (t : List ℕ) → IsIn (parts_taken g h) bytes → read_part bytes ≡ o → IsIn (nodes_of o) t → IsListed g h t
   of_nodes bytes None t i e j = absurd j
   of_nodes bytes (Some part) t i e j = of_part bytes part i e j
 
-  of_client : (me : ℕ) (t : List ℕ) → IsIn (listed_of g h me) t → IsListed g h t
-  of_client me t i = now (in_either (chain_texts g (path g me h)) (gathered (λ n. applied g h (front n (path g me h))) (up_to (standing g me h).sealed)) t i)
-    where
-      now : IsIn (chain_texts g (path g me h)) t ⊎ IsIn (gathered (λ n. applied g h (front n (path g me h))) (up_to (standing g me h).sealed)) t → IsListed g h t
-      now (inl a) = of_path me a
-      now (inr b) =
-          let r = of_gathered (λ n. applied g h (front n (path g me h))) (up_to (standing g me h).sealed) t b in
-          of_sealed me r.0 (of_up_to (standing g me h).sealed r.0 r.1) r.2
+  from_paths : (t : List ℕ) → IsIn (texts_of_paths g h) t → IsListed g h t
+  from_paths t i = let r = of_gathered chained members t i in of_path r.0 (chains_from g (path g r.0 h) t r.2)
+
+  from_parts : (t : List ℕ) → IsIn (texts_of_parts g h) t → IsListed g h t
+  from_parts t i =
+      let r = of_gathered parted members t i in
+      let b = of_gathered (λ bytes. nodes_of (read_part bytes)) (parts_of g r.0 h) t r.2 in
+      of_nodes b.0 (read_part b.0) t (part_taken g r.0 h b.0 b.1) refl b.2
+
+  from_sealed : (t : List ℕ) → IsIn (texts_of_sealed g h) t → IsListed g h t
+  from_sealed t i =
+      let r = of_gathered (λ k. left_at (standing g k h)) members t i in
+      let n = of_gathered (λ k. applied g h (front k (path g r.0 h))) (zero_to (standing g r.0 h).sealed) t r.2 in
+      of_sealed r.0 n.0 (of_zero_to (standing g r.0 h).sealed n.0 n.1) n.2
 
   listed_from : (t : List ℕ) → IsIn (listed g h) t → IsListed g h t
   listed_from t (inl e) = of_genesis (sym e)
-  listed_from t (inr i) = now (in_either (gathered (λ bytes. nodes_of (read_part bytes)) (parts_taken g h)) (gathered (listed_of g h) (up_to g.count)) t i)
-    where
-      now : IsIn (gathered (λ bytes. nodes_of (read_part bytes)) (parts_taken g h)) t ⊎ IsIn (gathered (listed_of g h) (up_to g.count)) t → IsListed g h t
-      now (inl a) =
-          let r = of_gathered (λ bytes. nodes_of (read_part bytes)) (parts_taken g h) t a in
-          of_nodes r.0 (read_part r.0) t r.1 refl r.2
-      now (inr b) = let r = of_gathered (listed_of g h) (up_to g.count) t b in of_client r.0 t r.2
+  listed_from t (inr i) = elim (in_either (texts_of_paths g h) (texts_of_parts g h ++ texts_of_sealed g h) t i) [
+    | inl a ↦ from_paths t a
+    | inr b ↦ elim (in_either (texts_of_parts g h) (texts_of_sealed g h) t b) [ inl c ↦ from_parts t c | inr d ↦ from_sealed t d ]
+  ]
 
 pub listed_tells : ListedAre
-listed_tells g h lawful text = (listed_to g h lawful.steps text, listed_from g h lawful.steps text)
+listed_tells g h lawful text = (listed_to g h lawful text, listed_from g h lawful text)
 
 -- ---- histories client by client
 

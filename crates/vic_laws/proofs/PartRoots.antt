@@ -1,5 +1,5 @@
 -- The roots of a part that was read, and of the part after an operation, are digests.
-use Rattle.std.specs.Prelude.{◌≡◌, ℕ, ◌+◌, Bool, true, false, List, length, Some, nat_lt, if◌then◌else◌}
+use Rattle.std.specs.Prelude.{◌≡◌, ℕ, ◌+◌, true, false, List, length, Some, nat_lt, if◌then◌else◌}
 use Rattle.std.specs.Str.{bytes_eq}
 use Rattle.std.proofs.Common.{subst}
 use Rattle.sha2.proofs.Facts256.{length-sha256}
@@ -8,7 +8,7 @@ use Rattle.vic_dict.specs.declared.op.Op.TheVariants as op
 use Rattle.vic_dict.specs.Lists.{AreBytes}
 use Rattle.vic_wire.specs.Bits.{key_bit, shared}
 use Rattle.vic_wire.specs.Trees.{Tree, Empty, Leaf, Inner, Stub, root_of}
-use Rattle.vic_wire.specs.Walks.{end_at, revalued, forked, planted, put_beside, put_in, is_gone, joined, del_in, tree_after}
+use Rattle.vic_wire.specs.Walks.{end_at, revalued, forked, planted, put_beside, is_gone, joined, del_in, tree_after}
 use Rattle.vic_wire.specs.Parts.{Part, IsNodeFrom, IsPart, read_part}
 use Rattle.vic_spellings.specs.Spellings.{PartHoldsBytes}
 use Rattle.vic_spellings.proofs.Bytes.{bytes-sha256}

@@ -1,28 +1,22 @@
 -- Answers over what is sealed.
-use Rattle.std.specs.Prelude.{◌≡◌, ℕ, ◌<◌, ◌≤◌, ◌⊎◌, List, [], ◌∷◌, ◌++◌, length, Option, Some, None}
-use Rattle.std.proofs.Common.{refl, ap, subst, subst₂, sym, ◌∙◌, inl, inr, arith, append_assoc, le_refl, le_of_suc-le-suc}
-use Rattle.std.proofs.lemmas.Bool.{cases_lt}
-use Rattle.vic_dict.specs.declared.op.Op.{Op}
+use Rattle.std.specs.Prelude.{◌≡◌, ◌≤◌, List, [], ◌∷◌, ◌++◌, Some}
+use Rattle.std.proofs.Common.{refl, ap, subst, subst₂, sym, ◌∙◌, inl, le_refl, le_of_suc-le-suc}
 use Rattle.vic_dict.specs.declared.op.Entry.{Entry}
 use Rattle.vic_dict.specs.Lists.{IsIn, front}
-use Rattle.vic_dict.specs.Dictionary.{Dictionary, reply}
+use Rattle.vic_dict.specs.Dictionary.{Dictionary}
 use Rattle.vic_wire.specs.Hashes.{Group}
 use Rattle.vic_rules.specs.declared.trace.TraceStep.{TraceStep}
-use Rattle.vic_rules.specs.declared.trace.Shown.{Shown}
-use Rattle.vic_rules.specs.Client.{Standing, in_the_way, decided, decision, laid}
+use Rattle.vic_rules.specs.Client.{Standing}
 use Rattle.vic_rules.specs.History.{standing, path, move_of, AreSteps, Completion, completions}
-use Rattle.vic_rules.specs.Views.{confirmed, confirmed_calls, shown_as, left_by, last_prefix, view_of, Explains, IsLegal}
+use Rattle.vic_rules.specs.Views.{confirmed_calls, left_by}
 use Rattle.vic_rules.specs.Trust.{IsForged, Collides, parts_in}
-use Rattle.vic_laws.specs.Claims.{SealHolds, ViewsAreLegal}
-use Rattle.vic_laws.specs.OrderClaims.{effect_of, was_done}
+use Rattle.vic_laws.specs.Claims.{SealHolds}
 use Rattle.vic_laws.proofs.Steps.{call_of}
 use Rattle.vic_laws.proofs.Standings.{standing_moved, earlier_steps}
-use Rattle.vic_laws.proofs.Calls.{RepliedAt, completed_by, completion_after}
-use Rattle.vic_laws.proofs.Agreement.{confirmed_tells}
+use Rattle.vic_laws.proofs.Calls.{RepliedAt}
 use Rattle.vic_laws.proofs.Dictionaries.{left_proper}
-use Rattle.vic_laws.proofs.Growth.{front_grows, front_whole, confirmed_calls_stay, completions_grow}
+use Rattle.vic_laws.proofs.Growth.{front_grows, confirmed_calls_stay, completions_grow}
 use Rattle.vic_laws.proofs.SealsHeld.{all_hold, part_is_left, taken_at}
-use Rattle.vic_laws.proofs.OwnLaid.{own_op, own_laid, lays_at}
 use Rattle.vic_laws.proofs.AnswersStand.{effects_alike}
 use Rattle.std.specs.List.{AllByRecursion}
 use Rattle.vic_dict.specs.Dictionary.{IsProper}
@@ -34,10 +28,8 @@ use Rattle.vic_commute.proofs.Heeding.{HeededAlike, looked_alike, heeded_reply}
 use Rattle.vic_tree.proofs.Alike.{alike as alike_on_cut}
 use Rattle.vic_roots.proofs.Proper.{byte_keys-proper}
 use Rattle.vic_laws.proofs.Paths.{all_drop, path_spelled}
-use Rattle.vic_dict.specs.declared.op.Answer.{Answer}
-use Rattle.vic_dict.specs.declared.op.Outcome.TheVariants as outcome
 use Rattle.vic_wire.specs.declared.message.Seal.{Seal}
-use Rattle.vic_wire.specs.Parts.{Part, read_part, walked}
+use Rattle.vic_wire.specs.Parts.{read_part, walked}
 use Rattle.vic_laws.specs.Meanings.{SealedAnswersStand}
 use Rattle.vic_laws.proofs.Decisions.{reply_taken, same_parts}
 use Rattle.vic_laws.proofs.Calls.{kind_of}

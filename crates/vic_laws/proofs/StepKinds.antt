@@ -227,6 +227,7 @@ reply_kind g me s b seal entries bytes alive are_bytes read passes =
     let v = reply_moves me s seal (grown s entries) (r.0 ++ s.path) (call_of me w.0 w.1) (read_part bytes) t.0 s.awaiting w.0 w.1 w.2 e1 t.1 w.3 in
     let n0 = leb-true n 1048576 f.2 in
     let n1 = ltb-true seal.position n f.3 in
+    let n2 = leb-true (n - seal.position) 1024 f.4 in
     let goes_on : (taken me s (say.Reply seal entries bytes)).next.halted ≡ None = ap (λ x. x.next.halted) v ∙ alive in
     let takes = takes_read (taken me s (say.Reply seal entries bytes)).next b (Some (say.Reply seal entries bytes)) goes_on read in
     is_replied (record {
@@ -255,6 +256,7 @@ reply_kind g me s b seal entries bytes alive are_bytes read passes =
       sealing = sealing_from g s (call_of me w.0 w.1 ∷ (r.0 ++ s.path)) seal passes.spelled.0 passes.goes (subst (λ p. is_sealed g p (Some seal) ≡ true) e1 passes.sealing) passes.own (omega arith);
       below = omega arith;
       few = omega arith;
+      near = omega arith;
       moved = v;
     })
 
@@ -300,6 +302,7 @@ entries_kind g me s b seal entries alive read passes =
     let l : length s.path + length entries ≡ length (newest_first entries ++ s.path) = same_length entries s.path (newest_first entries) refl in
     let n0 = leb-true n 1048576 f.1 in
     let n1 = leb-true seal.position n f.2 in
+    let n2 = leb-true (n - seal.position) 1024 f.3 in
     let takes = takes_read (taken me s (say.Entries seal entries)).next b (Some (say.Entries seal entries)) alive read in
     is_listed (record {
       payload = b;
@@ -317,6 +320,7 @@ entries_kind g me s b seal entries alive read passes =
           (arrived_from entries (newest_first entries) (seal_texts g (taken me s (say.Entries seal entries)).next.path (Some seal)) refl passes.spelled.1.1);
       sealing = sealing_from g s (newest_first entries ++ s.path) seal passes.spelled.0 passes.goes (subst (λ p. is_sealed g p (Some seal) ≡ true) e1 passes.sealing) passes.own (omega arith);
       few = omega arith;
+      near = omega arith;
       moved = ap (λ p. listed_to s p seal.position seal.root.bytes) e1;
     })
 

@@ -113,6 +113,7 @@ pub record Replied (g : Group) (me : ℕ) (s : Standing) (i : Input) (v : Move) 
   pub sealing : Sealing g s (call_of me seq op ∷ (others ++ s.path)) seal
   pub below : seal.position < length (call_of me seq op ∷ (others ++ s.path))
   pub few : length (call_of me seq op ∷ (others ++ s.path)) ≤ 1048576
+  pub near : length (call_of me seq op ∷ (others ++ s.path)) ≤ seal.position + 1024
   pub moved : v ≡ replied_to s (call_of me seq op ∷ (others ++ s.path)) seal.position seal.root.bytes
       (s.own ++ record { position = length (call_of me seq op ∷ (others ++ s.path)); op = op; done = is_done (decision me s (others ++ s.path) seal.position part op) } ∷ [])
       (decision me s (others ++ s.path) seal.position part op)
@@ -156,6 +157,7 @@ pub record Listed (g : Group) (me : ℕ) (s : Standing) (i : Input) (v : Move) :
   pub arrived : Arrived (checked_texts g v.next.path (taken_by v.next i)) others
   pub sealing : Sealing g s (others ++ s.path) seal
   pub few : length (others ++ s.path) ≤ 1048576
+  pub near : length (others ++ s.path) ≤ seal.position + 1024
   pub moved : v ≡ listed_to s (others ++ s.path) seal.position seal.root.bytes
 
 -- the kinds of a step

@@ -1,3 +1,6 @@
 pub mod Claims
 pub mod OrderClaims
 pub mod Meanings
+pub mod ByCases
+pub mod Limits
+pub mod Fields

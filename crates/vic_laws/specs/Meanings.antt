@@ -1,7 +1,7 @@
 -- What words of the claim mean, said once more in other words.
 use Rattle.std.specs.List.{list_all}
 use Rattle.std.specs.Str.{bytes_eq}
-use Rattle.std.specs.Prelude.{◌≡◌, ◌≢◌, ◌↔◌, ℕ, zero, suc, ◌<◌, ◌≤◌, true, length, List, [], ◌∷◌, ◌++◌, Option, Some, None, nat_eq, if◌then◌else◌, Bool, not, ◌&&◌, ◌||◌}
+use Rattle.std.specs.Prelude.{◌≡◌, ◌≢◌, ◌↔◌, ℕ, zero, suc, ◌<◌, ◌≤◌, true, false, length, List, [], ◌∷◌, ◌++◌, Option, Some, None, nat_eq, if◌then◌else◌, Bool, not, ◌&&◌, ◌||◌}
 use Rattle.vic_dict.specs.declared.op.Outcome.TheVariants as outcome
 use Rattle.vic_dict.specs.Lists.{IsIn, front, newest}
 use Rattle.vic_dict.specs.Dictionary.{Dictionary, reply}
@@ -11,8 +11,8 @@ use Rattle.vic_wire.specs.declared.message.Seal.{Seal}
 use Rattle.vic_wire.specs.declared.message.Tagged.{Tagged}
 use Rattle.vic_wire.specs.declared.message.ToClient.TheVariants as say
 use Rattle.vic_wire.specs.Conflict.{conflicts}
-use Rattle.vic_wire.specs.Texts.{genesis_text}
-use Rattle.vic_wire.specs.Hashes.{Group, hash}
+use Rattle.vic_wire.specs.Texts.{genesis_text, chain_text}
+use Rattle.vic_wire.specs.Hashes.{Group, chain, hash}
 use Rattle.vic_wire.specs.Parts.{Part, read_part, part_texts}
 use Rattle.vic_rules.specs.declared.trace.TraceStep.{TraceStep}
 use Rattle.vic_rules.specs.declared.trace.Shown.{Shown}
@@ -20,7 +20,7 @@ use Rattle.vic_rules.specs.History.{standing, path, IsLawful, completions}
 use Rattle.vic_dict.specs.declared.op.Answer.{Answer}
 use Rattle.vic_rules.specs.Views.{confirmed_calls, left_by, IsLegal}
 use Rattle.vic_laws.specs.OrderClaims.{effect_of, PicksOwn}
-use Rattle.vic_rules.specs.Trust.{took, IsForged, Collides, IsListed, chain_texts, parts_taken, applied}
+use Rattle.vic_rules.specs.Trust.{took, IsForged, Collides, IsListed, parts_in, applied}
 
 -- ---- legal views
 
@@ -40,22 +40,43 @@ abbrev pub gathered : {A : Type 0} → (A → List (List ℕ)) → List A → Li
 gathered f [] = []
 gathered f (x ∷ xs) = f x ++ gathered f xs
 
--- n and the numbers below it
-abbrev pub up_to : ℕ → List ℕ
-up_to zero = zero ∷ []
-up_to (suc n) = suc n ∷ up_to n
+-- the numbers from 1 to n, and from 0 to n
+abbrev pub one_to : ℕ → List ℕ
+one_to zero = []
+one_to (suc n) = one_to n ++ suc n ∷ []
 
+abbrev pub zero_to : ℕ → List ℕ
+zero_to n = 0 ∷ one_to n
+
+-- the texts of a path's hashes, the oldest entry first
+unfoldable pub chain_texts_up : Group → List Entry → List (List ℕ)
+chain_texts_up g [] = []
+chain_texts_up g (e ∷ p) = chain_texts_up g p ++ chain_text (chain g p) e ∷ []
+
+-- the parts that a client took, the oldest first
+unfoldable pub parts_of : Group → ℕ → List TraceStep → List (List ℕ)
+parts_of g me [] = []
+parts_of g me (x ∷ past) = parts_of g me past ++ (if nat_eq x.client me then parts_in (took g past x) else [])
+
+-- the texts of a part's nodes, each before those below it, the left side before the right
 abbrev pub nodes_of : Option Part → List (List ℕ)
 nodes_of None = []
 nodes_of (Some part) = part_texts part
 
--- the texts of a client's path, and those of what its fronts leave up to its highest seal
-abbrev pub listed_of : Group → List TraceStep → ℕ → List (List ℕ)
-listed_of g h me = chain_texts g (path g me h) ++ gathered (λ n. applied g h (front n (path g me h))) (up_to (standing g me h).sealed)
+-- the texts of all paths, by client and position; of all parts that were taken, by client and step; and of the dictionaries that the fronts
+-- of the paths leave, up to the highest seal, by client and position
+abbrev pub texts_of_paths : Group → List TraceStep → List (List ℕ)
+texts_of_paths g h = gathered (λ i. chain_texts_up g (path g i h)) (one_to g.count)
 
--- all texts of which the claim on collisions speaks
+abbrev pub texts_of_parts : Group → List TraceStep → List (List ℕ)
+texts_of_parts g h = gathered (λ i. gathered (λ bytes. nodes_of (read_part bytes)) (parts_of g i h)) (one_to g.count)
+
+abbrev pub texts_of_sealed : Group → List TraceStep → List (List ℕ)
+texts_of_sealed g h = gathered (λ i. gathered (λ n. applied g h (front n (path g i h))) (zero_to (standing g i h).sealed)) (one_to g.count)
+
+-- all texts of which the claim on collisions speaks, in the order in which they are looked through
 abbrev pub listed : Group → List TraceStep → List (List ℕ)
-listed g h = genesis_text g.mode g.count ∷ (gathered (λ bytes. nodes_of (read_part bytes)) (parts_taken g h) ++ gathered (listed_of g h) (up_to g.count))
+listed g h = genesis_text g.mode g.count ∷ (texts_of_paths g h ++ (texts_of_parts g h ++ texts_of_sealed g h))
 
 -- the texts that are listed are those of this list
 abbrev pub ListedAre : Type 0
@@ -102,9 +123,9 @@ abbrev pub are_apart : List (List ℕ) → Bool
 are_apart [] = true
 are_apart (t ∷ ts) = list_all (is_apart t) ts && are_apart ts
 
--- where the test finds none, no two listed texts collide
+-- the test fails exactly where two different listed texts have one hash
 abbrev pub ApartIs : Type 0
-ApartIs = (g : Group) (h : List TraceStep) → IsLawful g h → are_apart (listed g h) ≡ true → Collides g h → ⊥
+ApartIs = (g : Group) (h : List TraceStep) → IsLawful g h → (are_apart (listed g h) ≡ false) ↔ Collides g h
 
 -- ---- answers over what is sealed
 

@@ -55,7 +55,7 @@ pub fn aborted_by_conflict()
     ensures { AbortedByConflict }
 {}
 
-/// Where the test of the listed texts finds no two that collide, there are none.
+/// The test of the listed texts fails exactly where two of them collide.
 pub fn apart_is()
     ensures { ApartIs }
 {}
