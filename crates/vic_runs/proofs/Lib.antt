@@ -20,3 +20,4 @@ pub mod Halted
 pub mod Prints
 pub mod Agreed
 pub mod Tampering
+mod Ending

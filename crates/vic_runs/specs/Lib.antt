@@ -2,3 +2,4 @@ pub mod Reached
 pub mod Claims
 pub mod Agreements
 pub mod Tampering
+pub mod Prints

@@ -8,6 +8,7 @@
 #![tactic(auto)]
 
 ghost use Rattle.vic_runs.specs.Claims.{RunsAreLawful, NothingIsForged, ForgedIs, RunsAreHonest, ClaimsHold, OutcomesAreFates, NobodyHalts, NoLineIsHalted, PrintsAreReturns};
+ghost use Rattle.vic_runs.specs.Prints.{FirstUnmadeIs, PrintsHaveAgreements, PrintsHaveViews};
 ghost use Rattle.vic_runs.specs.Tampering.{HonestLineIs};
 
 pub mod agreements;
@@ -60,4 +61,15 @@ pub fn prints_are_returns()
 /// The lines that aren't honest are those that tamper.
 pub fn honest_line_is()
     ensures { HonestLineIs }
+{}
+
+/// The first step at which a text was taken that no client had made, and the first such text of its payload.
+pub fn first_unmade_is()
+    ensures { FirstUnmadeIs }
+{}
+
+/// A print without a bad line has the view of each client, and for each two clients how far their views agree.
+pub fn prints_have_ends()
+    ensures views { PrintsHaveViews }
+    ensures agreements { PrintsHaveAgreements }
 {}

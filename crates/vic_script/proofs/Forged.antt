@@ -1,15 +1,15 @@
 -- The test for forged histories.
-use Rattle.std.proofs.Common.{◌≡◌, ℕ, Bool, true, false, not, ◌||◌, List, [], ◌∷◌, inl, inr, refl, sym, ap, subst, ◌∙◌, true≢false}
+use Rattle.std.proofs.Common.{◌≡◌, ℕ, Bool, true, false, not, ◌||◌, List, [], ◌∷◌, length, Option, Some, None, inl, inr, refl, sym, ap, subst, ◌∙◌, true≢false}
 use Rattle.std.specs.List.{list_any}
 use Rattle.std.specs.Str.{bytes_eq}
-use Rattle.std.specs.Prelude.{◌↔◌}
+use Rattle.std.specs.Prelude.{◌↔◌, is_some, if◌then◌else◌}
 use Rattle.std.proofs.lemmas.Bool.{or_left, or_right, cases_Bool, not_from_true, not_from_false, false_from_ne_true}
 use Rattle.std.proofs.lemmas.Slice.Eq.{bytes_eq-Decides}
 use Rattle.vic_dict.specs.Lists.{IsIn}
 use Rattle.vic_wire.specs.Hashes.{Group}
 use Rattle.vic_rules.specs.declared.trace.TraceStep.{TraceStep}
 use Rattle.vic_rules.specs.Trust.{IsForged, texts_taken, texts_made}
-use Rattle.vic_script.specs.Print.{is_among, takes_unmade, is_forged}
+use Rattle.vic_script.specs.Print.{is_among, takes_unmade, Unmade, first_unmade_of, unmade_at, or_unmade, first_unmade, is_forged}
 
 -- a test that one of a list passes
 any_found : {X : Type 0} (test : X → Bool) (xs : List X) → list_any test xs ≡ true → (x : X) × IsIn xs x × (test x ≡ true)
@@ -25,10 +25,10 @@ any_from test [] x i e = absurd i
 any_from test (y ∷ xs) x (inl same) e = or_left (test y) (list_any test xs) (ap test same ∙ e)
 any_from test (y ∷ xs) x (inr i) e = or_right (test y) (list_any test xs) (any_from test xs x i e)
 
-is_among-in : (texts : List (List ℕ)) (text : List ℕ) → is_among texts text ≡ true → IsIn texts text
+pub is_among-in : (texts : List (List ℕ)) (text : List ℕ) → is_among texts text ≡ true → IsIn texts text
 is_among-in texts text e = let found = any_found (bytes_eq text) texts e in subst (IsIn texts) (sym ((bytes_eq-Decides text found.0).0 found.2)) found.1
 
-in-is_among : (texts : List (List ℕ)) (text : List ℕ) → IsIn texts text → is_among texts text ≡ true
+pub in-is_among : (texts : List (List ℕ)) (text : List ℕ) → IsIn texts text → is_among texts text ≡ true
 in-is_among texts text i = any_from (bytes_eq text) texts text i ((bytes_eq-Decides text text).1 refl)
 
 -- a step that takes a text that was not made
@@ -45,20 +45,48 @@ unmade-from g past x h =
     any_from (λ t. not (is_among (texts_made g past) t)) (texts_taken g past x) h.0 h.1
     (not_from_false _ (false_from_ne_true (is_among (texts_made g past) h.0) (λ e. h.2 (is_among-in (texts_made g past) h.0 e))))
 
+-- ---- the first such text
+
+first-found : (made texts : List (List ℕ)) → is_some (first_unmade_of made texts) ≡ list_any (λ t. not (is_among made t)) texts
+first-found made [] = refl
+first-found made (t ∷ texts) = now (is_among made t) (first-found made texts)
+  where
+    now : (b : Bool) → is_some (first_unmade_of made texts) ≡ list_any (λ u. not (is_among made u)) texts
+        → is_some (if b then first_unmade_of made texts else Some t) ≡ (not b || list_any (λ u. not (is_among made u)) texts)
+    now true later = later
+    now false later = refl
+
+some-or : (a b : Option Unmade) → is_some (or_unmade a b) ≡ (is_some a || is_some b)
+some-or None b = refl
+some-or (Some u) b = refl
+
+some-at : (n : ℕ) (o : Option (List ℕ)) → is_some (unmade_at n o) ≡ is_some o
+some-at n None = refl
+some-at n (Some t) = refl
+
+pub is_forged-first : (g : Group) → is_forged g [] ≡ false
+unfolding is_forged first_unmade
+is_forged-first g = refl
+
+-- a history is forged where the one before is, or its newest step takes such a text
+pub is_forged-step : (g : Group) (x : TraceStep) (past : List TraceStep) → is_forged g (x ∷ past) ≡ (is_forged g past || takes_unmade g past x)
+unfolding is_forged first_unmade
+is_forged-step g x past =
+    some-or (first_unmade g past) (unmade_at (length (x ∷ past)) (first_unmade_of (texts_made g past) (texts_taken g past x)))
+    ∙ ap (λ b. is_some (first_unmade g past) || b) (some-at (length (x ∷ past)) (first_unmade_of (texts_made g past) (texts_taken g past x)) ∙ first-found (texts_made g past) (texts_taken g past x))
+
 forged-found : (g : Group) (h : List TraceStep) → is_forged g h ≡ true → IsForged g h
-unfolding is_forged
-forged-found g [] e = absurd (true≢false (sym e))
+forged-found g [] e = absurd (true≢false (sym e ∙ is_forged-first g))
 forged-found g (x ∷ past) e =
     elim (cases_Bool (is_forged g past)) [
       | inl holds ↦ inl (forged-found g past holds)
-      | inr other ↦ inr (unmade-found g past x (sym (ap (λ b. b || takes_unmade g past x) other) ∙ e))
+      | inr other ↦ inr (unmade-found g past x (sym (ap (λ b. b || takes_unmade g past x) other) ∙ (sym (is_forged-step g x past) ∙ e)))
     ]
 
 forged-from : (g : Group) (h : List TraceStep) → IsForged g h → is_forged g h ≡ true
-unfolding is_forged
 forged-from g [] f = absurd f
-forged-from g (x ∷ past) (inl before) = or_left (is_forged g past) (takes_unmade g past x) (forged-from g past before)
-forged-from g (x ∷ past) (inr now) = or_right (is_forged g past) (takes_unmade g past x) (unmade-from g past x now)
+forged-from g (x ∷ past) (inl before) = is_forged-step g x past ∙ or_left (is_forged g past) (takes_unmade g past x) (forged-from g past before)
+forged-from g (x ∷ past) (inr now) = is_forged-step g x past ∙ or_right (is_forged g past) (takes_unmade g past x) (unmade-from g past x now)
 
 -- the test is true exactly where a text was taken that no client had made
 pub is_forged-Decides : (g : Group) (h : List TraceStep) → (is_forged g h ≡ true) ↔ IsForged g h

@@ -1,6 +1,6 @@
 -- The print of a run: what its lines printed, and then the views, how far they agree, and whether every tag that was taken was
 -- made before; or the bad line.
-use Rattle.std.specs.Prelude.{ℕ, zero, suc, ◌+◌, ◌-◌, Bool, true, false, not, ◌&&◌, ◌||◌, List, [], ◌∷◌, ◌++◌, reverse, Option, Some, None, nat_eq, if◌then◌else◌, codes}
+use Rattle.std.specs.Prelude.{ℕ, zero, suc, ◌+◌, ◌-◌, Bool, true, false, not, ◌&&◌, ◌||◌, List, [], ◌∷◌, ◌++◌, length, reverse, Option, Some, None, is_some, nat_eq, if◌then◌else◌, codes}
 use Rattle.std.specs.List.{flat_map, list_any}
 use Rattle.std.specs.Str.{bytes_eq}
 use Rattle.std.specs.Cmp.Lexicographic.{pointwise}
@@ -79,9 +79,32 @@ is_among texts text = list_any (bytes_eq text) texts
 abbrev pub takes_unmade : Group → List TraceStep → TraceStep → Bool
 takes_unmade g past x = list_any (λ t. not (is_among (texts_made g past) t)) (texts_taken g past x)
 
+-- a step, counted from 1, the oldest first, and a text that was taken there and made at no step before
+pub record Unmade : Type 0 where
+  pub step : ℕ
+  pub text : List ℕ
+
+-- the first text that isn't among those that were made
+abbrev pub first_unmade_of : List (List ℕ) → List (List ℕ) → Option (List ℕ)
+first_unmade_of made [] = None
+first_unmade_of made (t ∷ texts) = if is_among made t then first_unmade_of made texts else Some t
+
+abbrev pub unmade_at : ℕ → Option (List ℕ) → Option Unmade
+unmade_at n None = None
+unmade_at n (Some t) = Some (record { step = n; text = t })
+
+abbrev pub or_unmade : Option Unmade → Option Unmade → Option Unmade
+or_unmade (Some u) now = Some u
+or_unmade None now = now
+
+-- the first step at which such a text was taken, and the first such text of its payload
+unfoldable pub first_unmade : Group → List TraceStep → Option Unmade
+first_unmade g [] = None
+first_unmade g (x ∷ past) = or_unmade (first_unmade g past) (unmade_at (length (x ∷ past)) (first_unmade_of (texts_made g past) (texts_taken g past x)))
+
+-- the history is forged: there is one
 unfoldable pub is_forged : Group → List TraceStep → Bool
-is_forged g [] = false
-is_forged g (x ∷ past) = is_forged g past || takes_unmade g past x
+is_forged g h = is_some (first_unmade g h)
 
 abbrev pub tags_line : Bool → List ℕ
 tags_line true = codes "tags not made" ++ newline

@@ -12,6 +12,7 @@ use Rattle.vic_rules.specs.declared.trace.TraceStep.{TraceStep}
 use Rattle.vic_rules.specs.History.{IsLawful, AreSteps}
 use Rattle.vic_rules.specs.Trust.{texts_made}
 use Rattle.vic_script.specs.Print.{is_among, takes_unmade, is_forged}
+use Rattle.vic_script.proofs.Forged.{is_forged-first, is_forged-step}
 use Rattle.vic_laws.proofs.Standings.{earlier_steps}
 use Rattle.vic_laws.proofs.Paths.{path_spelled}
 use Rattle.vic_view.specs.declared.replay.Place.{Place}
@@ -113,9 +114,8 @@ unmade_is g xs i x lt is steps hs are made same =
     ∙ sym (taken_at_step g (reverse (drop (i + 1) xs)) x (reverse (take i xs)) (steps_then g xs i x lt is steps)))
 
 forged_later : (g : Group) (later : List TraceStep) (x : TraceStep) (past : List TraceStep) → takes_unmade g past x ≡ true → is_forged g (later ++ x ∷ past) ≡ true
-unfolding is_forged
-forged_later g [] x past e = or_right (is_forged g past) (takes_unmade g past x) e
-forged_later g (y ∷ later) x past e = or_left (is_forged g (later ++ x ∷ past)) (takes_unmade g (later ++ x ∷ past) y) (forged_later g later x past e)
+forged_later g [] x past e = is_forged-step g x past ∙ or_right (is_forged g past) (takes_unmade g past x) e
+forged_later g (y ∷ later) x past e = is_forged-step g y (later ++ x ∷ past) ∙ or_left (is_forged g (later ++ x ∷ past)) (takes_unmade g (later ++ x ∷ past) y) (forged_later g later x past e)
 
 -- an unmade text at a step makes the history forged
 pub forged_at : (g : Group) (xs : List TraceStep) (i : ℕ) (x : TraceStep) → i < length xs → x ≡ get_or xs i x → takes_unmade g (reverse (take i xs)) x ≡ true → is_forged g (reverse xs) ≡ true
@@ -127,8 +127,7 @@ neither a b e f = ap (λ (c : Bool). c || b) e ∙ f
 -- a step at which none is found
 pub not_forged_next : (g : Group) (xs : List TraceStep) (i : ℕ) (x : TraceStep) → i < length xs → x ≡ get_or xs i x → is_forged g (reverse (take i xs)) ≡ false → takes_unmade g (reverse (take i xs)) x ≡ false
     → is_forged g (reverse (take (i + 1) xs)) ≡ false
-unfolding is_forged
-not_forged_next g xs i x lt is e f = ap (is_forged g) (newest_step xs i x lt is) ∙ neither (is_forged g (reverse (take i xs))) (takes_unmade g (reverse (take i xs)) x) e f
+not_forged_next g xs i x lt is e f = ap (is_forged g) (newest_step xs i x lt is) ∙ is_forged-step g x (reverse (take i xs)) ∙ neither (is_forged g (reverse (take i xs))) (takes_unmade g (reverse (take i xs)) x) e f
 
 pub or_swap : (a b : Bool) → (a || b) ≡ (b || a)
 or_swap true true = refl
@@ -169,5 +168,5 @@ made_next g xs i x lt is steps hs are made new same e =
 
 -- nothing was made before the first step
 pub nothing_made : (g : Group) (made : List (List ℕ)) → made ≡ [] → (is_forged g [] ≡ false) × SameTexts made (texts_made g [])
-unfolding is_forged texts_made
-nothing_made g made e = (refl, λ t. ap (λ (ts : List (List ℕ)). is_among ts t) e)
+unfolding texts_made
+nothing_made g made e = (is_forged-first g, λ t. ap (λ (ts : List (List ℕ)). is_among ts t) e)
