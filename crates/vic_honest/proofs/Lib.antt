@@ -24,3 +24,4 @@ pub mod Refusals
 pub mod Told
 pub mod Replies
 pub mod Scenes
+pub mod Turned

@@ -14,6 +14,7 @@ use Rattle.vic_honest.proofs.OneHistory.{one_history, views_are_fronts}
 use Rattle.vic_honest.proofs.Replies.{replies_return, refusals_return}
 use Rattle.vic_honest.proofs.Refusals.{refusals_are_limits, limits_are_refused, calls_are_ordered}
 use Rattle.vic_honest.proofs.Told.{refusals_are_told}
+use Rattle.vic_honest.proofs.Turned.{syncs_are_answered, turns_are_told}
 
 -- a client's path is the oldest entries of the log
 front_is : (s : Scene) (server : Server) (i : ℕ) → IsFrontOf s server i → (k : ℕ) × ((standing s.group i s.history).path ≡ entries (front k server.log))
@@ -42,5 +43,7 @@ honest_runs_hold s server events run = record {
     refused = refusals_are_limits s server events run i above upto payload rest waits;
     limited = limits_are_refused s server events run i above upto payload rest waits;
     ordered = calls_are_ordered s server events run i above upto payload rest waits;
+    synced = syncs_are_answered server i payload (refusals_are_limits s server events run i above upto payload rest waits);
+    turned = turns_are_told server i payload (refusals_are_limits s server events run i above upto payload rest waits);
   };
 }

@@ -1,5 +1,5 @@
 -- The laws of honest runs, one by one.
-use Rattle.std.specs.Prelude.{◌≡◌, ◌≢◌, ◌↔◌, ℕ, ◌+◌, ◌-◌, ◌<◌, ◌≤◌, Bool, true, false, not, ◌||◌, List, [], ◌∷◌, ◌++◌, length, Option, Some, None, nat_eq, nat_le}
+use Rattle.std.specs.Prelude.{◌≡◌, ◌≢◌, ◌↔◌, ℕ, ◌+◌, ◌-◌, ◌<◌, ◌≤◌, Bool, true, false, not, ◌||◌, List, [], ◌∷◌, ◌++◌, length, Option, Some, None, nat_eq, nat_le, min}
 use Rattle.vic_dict.specs.declared.op.Op.{Op}
 use Rattle.vic_dict.specs.declared.op.Entry.{Entry}
 use Rattle.vic_dict.specs.declared.op.Outcome.TheVariants as outcome
@@ -7,7 +7,9 @@ use Rattle.vic_dict.specs.Lists.{IsIn, front, newest}
 use Rattle.vic_wire.specs.declared.message.Digest32.{Digest32}
 use Rattle.vic_wire.specs.declared.message.Seal.{Seal}
 use Rattle.vic_wire.specs.declared.message.Tagged.{Tagged}
+use Rattle.vic_wire.specs.declared.message.ToServer.{ToServer}
 use Rattle.vic_wire.specs.declared.message.ToServer.TheVariants as ask
+use Rattle.vic_wire.specs.declared.message.ToClient.{ToClient}
 use Rattle.vic_wire.specs.declared.message.ToClient.TheVariants as say
 use Rattle.vic_wire.specs.Hashes.{Group}
 use Rattle.vic_wire.specs.Conflict.{conflicts}
@@ -17,11 +19,11 @@ use Rattle.vic_rules.specs.declared.state.Awaiting.TheVariants as awaits
 use Rattle.vic_rules.specs.declared.trace.Input.TheVariants as input
 use Rattle.vic_rules.specs.declared.trace.TraceStep.{TraceStep}
 use Rattle.vic_rules.specs.declared.trace.Shown.{Shown}
-use Rattle.vic_rules.specs.Client.{Standing, first_failing, is_done}
+use Rattle.vic_rules.specs.Client.{Standing, first_failing, is_done, onto}
 use Rattle.vic_rules.specs.History.{IsLawful, standing, Completion, completions}
 use Rattle.vic_rules.specs.Views.{confirmed_calls, view_of, IsLegal, left_by, IsInRealTime, HasAll, ShowsOnlyCalls}
 use Rattle.vic_rules.specs.Trust.{IsForged}
-use Rattle.vic_order.specs.Order.{Ordered, Server, Answered, size, sealed_count, top_seal, is_put, op_weight, weight, serve}
+use Rattle.vic_order.specs.Order.{Ordered, Server, Answered, size, sealed_count, top_seal, is_put, op_weight, weight, ordered_at, commit_at, serve}
 use Rattle.vic_order.specs.Fates.{entries, fate, dictionary_by}
 use Rattle.vic_order.specs.Scenes.{Queue, Scene, SceneOf, queue_of, server_at, Event, Serves}
 use Rattle.vic_order.specs.Honest.{IsHonestRun, scene_after}
@@ -171,6 +173,39 @@ pub record ReturnsSo (g : Group) (log : List Ordered) (past : List TraceStep) (x
   -- of a refusal: refused, with its number
   pub refusal : (number : ℕ) → read_answer payload ≡ Some (say.Refused number) → x.returned ≡ Some (outcome.Refused number)
 
+-- a sync's answer has the entries that the client lacks: put onto as many of the log's oldest entries as it knows, they give the oldest entries of
+-- the log, up to 8,192 more
+pub record IsSyncedSo (server : Server) (known : ℕ) (answer : ToClient) : Type 0 where
+  pub seal : Seal
+  pub told : List Tagged
+  pub is : answer ≡ say.Entries seal told
+  pub gives : onto told (front known (entries server.log)) ≡ entries (front (min (size server) (known + 8192)) server.log)
+
+-- requests by which a client asks for its turn
+abbrev pub AsksTurn : ToServer → Type 0
+AsksTurn (ask.Hello kind client) = ⊥
+AsksTurn (ask.Invoke known seq o tag) = ⊥
+AsksTurn (ask.Commit position done tag) = Unit {0}
+AsksTurn ask.Poll = Unit {0}
+AsksTurn (ask.Seal position root tag) = Unit {0}
+AsksTurn (ask.Sync known) = ⊥
+AsksTurn (ask.Keep content) = ⊥
+AsksTurn (ask.Fetch hash) = ⊥
+AsksTurn ask.Bye = ⊥
+
+-- the first entry that isn't sealed is the client's, and is committed
+pub record HasTurn (server : Server) (me : ℕ) : Type 0 where
+  pub first : Ordered
+  pub there : ordered_at server (sealed_count server + 1) ≡ Some first
+  pub own : first.entry.client ≡ me
+  pub done : Bool
+  pub committed : commit_at server (sealed_count server + 1) ≡ Some done
+
+-- a client with the turn is told to seal over the highest seal, and no other one is
+pub record IsTurnedSo (server : Server) (me : ℕ) (answer : ToClient) : Type 0 where
+  pub comes : HasTurn server me → (part : List ℕ) × (answer ≡ say.Update (top_seal server) part)
+  pub waits : (HasTurn server me → ⊥) → answer ≡ say.Wait
+
 -- how a server answers a client's request
 pub record IsServedSo (server : Server) (me : ℕ) (payload : List ℕ) : Type 0 where
   -- it refuses nothing but calls that would pass one of its limits, with the number of that limit
@@ -181,6 +216,10 @@ pub record IsServedSo (server : Server) (me : ℕ) (payload : List ℕ) : Type 0
   -- a call that would pass no limit is ordered as the newest entry of the log, and a Reply answers it
   pub ordered : (known seq : ℕ) (o : Op) (tag : Digest32) → read_request payload ≡ Some (ask.Invoke known seq o tag)
       → limit server known o ≡ None → IsOrderedBy server me seq o tag (serve server me payload)
+  -- a sync is answered with what the client lacks
+  pub synced : (known : ℕ) → read_request payload ≡ Some (ask.Sync known) → IsSyncedSo server known (serve server me payload).answer
+  -- a commit, a poll and a seal are answered by the turn, as the server then stands
+  pub turned : (r : ToServer) → read_request payload ≡ Some r → AsksTurn r → IsTurnedSo (serve server me payload).next me (serve server me payload).answer
 
 -- what holds of the history and the requests that wait, where these honest events leave them with this server
 pub record HoldsHonestly (g : Group) (h : List TraceStep) (up : List Queue) (events : List Event) (server : Server) : Type 0 where
