@@ -1,5 +1,5 @@
 -- The index of contents, as one content more is kept.
-use Rattle.std.specs.Prelude.{if◌then◌else◌, ◌≡◌, ℕ, zero, suc, ◌+◌, ◌<◌, Bool, true, false, cond, List, [], ◌∷◌, ◌++◌, length, reverse, Option, Some, None, slice_get}
+use Rattle.std.specs.Prelude.{if◌then◌else◌, ◌≡◌, ℕ, zero, suc, ◌+◌, ◌<◌, ◌≤◌, Bool, true, false, cond, List, [], ◌∷◌, ◌++◌, length, reverse, Option, Some, None, slice_get}
 use Rattle.std.specs.List.{find, sum_by}
 use Rattle.std.specs.Str.{bytes_eq}
 use Rattle.std.specs.Ordering.{is_eq, nat_cmp}
@@ -70,11 +70,22 @@ counted_more rows c n e =
     let s : sum_by length (reverse (rows ++ c ∷ [])) ≡ length c + sum_by length (reverse rows) = ap (sum_by length) (reverse-append rows (c ∷ [])) ∙ sum_by-cons length c (reverse rows) in
     omega arith
 
+-- each content is within the limit
+small_more : (rows : List (List ℕ)) (c : List ℕ) → length c ≤ 8388608 → ((h x : List ℕ) → kept_under (reverse rows) h ≡ Some x → length x ≤ 8388608)
+    → (h x : List ℕ) → kept_under (reverse (rows ++ c ∷ [])) h ≡ Some x → length x ≤ 8388608
+small_more rows c fits each h x e =
+    let back : kept_under (reverse (rows ++ c ∷ [])) h ≡ kept_under (c ∷ reverse rows) h = ap (λ xs. kept_under xs h) (reverse-append rows (c ∷ [])) in
+    now (has_hash h c) (sym back ∙ e)
+  where
+    now : (b : Bool) → (if b then Some c else find (has_hash h) (reverse rows)) ≡ Some x → length x ≤ 8388608
+    now true k = let same : c ≡ x = cc in let l : length c ≡ length x = ap length same in omega (arith, fits, l)
+    now false k = each h x k
+
 -- the invariant with one content more
-pub sound_more : (rows : List (List ℕ)) (c : List ℕ) (places after : BTreeMap (List ℕ) ℕ) (counted : ℕ) → IsSound rows places counted → IsRoom (reverse rows) c
+pub sound_more : (rows : List (List ℕ)) (c : List ℕ) (places after : BTreeMap (List ℕ) ℕ) (counted : ℕ) → IsSound rows places counted → IsRoom (reverse rows) c → length c ≤ 8388608
     → ((q : List ℕ) → get (slice_cmp nat_cmp) after q ≡ cond (is_eq (slice_cmp nat_cmp (hash (content_text c)) q)) (Some (length rows)) (get (slice_cmp nat_cmp) places q))
     → IsSound (rows ++ c ∷ []) after (counted + length c)
-sound_more rows c places after counted sound room more =
+sound_more rows c places after counted sound room fits more =
     let longer : length (rows ++ c ∷ []) ≡ length rows + 1 = length-append rows (c ∷ []) in
     let same : length (reverse rows) ≡ length rows = length-reverse rows in
     let first = room.0 in
@@ -86,6 +97,7 @@ sound_more rows c places after counted sound room more =
       within = within_more rows c (hash (content_text c)) (length rows) (place_of places) (place_of after) refl sound.within more;
       counts = counts;
       light = let w = sound.counts in omega (arith, w);
+      small = small_more rows c fits sound.small;
     }
 
 -- and with the same entries
@@ -97,6 +109,7 @@ sound_same rows places after counted sound same = record {
   within = λ q p e. sound.within q p (sym (same q) ∙ e);
   counts = sound.counts;
   light = sound.light;
+  small = sound.small;
 }
 
 same_end : (xs ys : List (List ℕ)) (c d : List ℕ) → xs ++ c ∷ [] ≡ ys ++ d ∷ [] → ys ≡ xs

@@ -34,3 +34,4 @@ pub record IsSound (rows : List (List ℕ)) (places : BTreeMap (List ℕ) ℕ) (
   pub within : (h : List ℕ) (place : ℕ) → place_of places h ≡ Some place → place < length rows
   pub counts : counted ≡ sum_by length (reverse rows)
   pub light : counted ≤ 1073741824
+  pub small : (h c : List ℕ) → kept_under (reverse rows) h ≡ Some c → length c ≤ 8388608

@@ -17,6 +17,9 @@ use std::marker::Model;
 use vic_dict::{Bytes, NoMemory};
 use vic_wire::Digest32;
 
+#[cfg(test)]
+mod tests;
+
 /// What keeping a content came to.
 #[derive(Clone, Copy, Debug, PartialEq, Eq)]
 pub enum Kept {
@@ -31,6 +34,23 @@ pub enum BlobFault {
     /// There are 1,048,576 contents, or they would have more than 1,073,741,824 bytes with it.
     Full,
     NoMemory,
+}
+
+fn copied(alloc: Global, contents: &[Bytes]) -> Result<Vec<Bytes>, NoMemory>
+    ensures { IfOk result (λ made. made.items ≡ contents.now) }
+{
+    let mut made = Vec::new(alloc);
+    for content in contents {
+        made.push(content.copy(alloc)?)?;
+    }
+    Ok(made)
+}
+
+// A copy of an index. It costs the index.
+fn copied_places(places: &BTreeMap<[u8; 32], u32>) -> Result<BTreeMap<[u8; 32], u32>, NoMemory>
+    ensures { IfOk result (λ made. made.entries ≡ places.now.entries) }
+{
+    Ok(places.clone()?)
 }
 
 /// Contents, the oldest first, and where each stands by its hash.
@@ -66,7 +86,8 @@ impl Blobs {
 
     /// The content that is kept under a hash, if one is. It costs the logarithm of their number.
     pub fn fetch(&self, hash: &Digest32) -> Option<&Bytes>
-        ensures { option_copied result ≡ kept_under self.now hash.now.bytes }
+        ensures is { option_copied result ≡ kept_under self.now hash.now.bytes }
+        ensures small { (c : List ℕ) → kept_under self.now hash.now.bytes ≡ Some c → length c ≤ 8388608 }
     {
         match self.places.get(&hash.bytes) {
             Some(place) => self.contents.get(*place as usize),
@@ -82,17 +103,19 @@ impl Blobs {
     }
 
     /// Whether there is room for so many bytes more.
-    fn has_room(&self, len: usize) -> bool
+    pub fn has_room(&self, len: usize) -> bool
         requires { len ≤ 8388608 }
         ensures { (content : List ℕ) → length content ≡ len → IsTrue result ↔ IsRoom self.now content }
     {
         self.contents.len() < 1_048_576 && self.bytes + len as u64 <= 1_073_741_824
     }
 
-    /// Keeps a content that isn't kept and for which there is room, under its hash.
-    fn add(&mut self, hash: &Digest32, content: Bytes) -> Result<(), NoMemory>
+    /// Keeps a content that isn't kept and for which there is room, under its hash. It hashes and copies nothing; where memory runs out
+    /// nothing has changed.
+    pub fn add(&mut self, hash: &Digest32, content: Bytes) -> Result<(), NoMemory>
         requires hash { hash.now.bytes ≡ content_hash content }
         requires new { kept_under self.old hash.now.bytes ≡ None }
+        requires small { length content ≤ 8388608 }
         requires room { IsRoom self.old content }
         ensures ok { OnOk result (self.new ≡ content ∷ self.old) }
         ensures err { OnErr result (self.new ≡ self.old) }
@@ -135,5 +158,18 @@ impl Blobs {
             Ok(()) => Ok(Kept::New),
             Err(_) => Err(BlobFault::NoMemory),
         }
+    }
+
+    /// A copy of all contents. It costs them, and hashes none again.
+    pub fn copy(&self, alloc: Global) -> Result<Blobs, NoMemory>
+        ensures { IfOk result (λ made. made ≡ self.now) }
+    {
+        let contents = copied(alloc, &self.contents)?;
+        let places = copied_places(&self.places)?;
+        Ok(Blobs {
+            contents,
+            places,
+            bytes: self.bytes,
+        })
     }
 }

@@ -9,7 +9,7 @@ ghost use Rattle.std.specs.Int.{w32, from_be_bytes};
 ghost use Rattle.vic_dict.specs.declared.op.Answer.TheVariants as answer;
 ghost use Rattle.vic_dict.specs.declared.op.Outcome.{Outcome as AnOutcome};
 ghost use Rattle.vic_dict.specs.declared.op.Outcome.TheVariants as outcome;
-ghost use Rattle.vic_rules.specs.Objects.{FitsObject, begun, kept_at, decided_as, answered, fetched, is_content_of, is_reference, reference_text, hash_in, length_in, content_hash};
+ghost use Rattle.vic_rules.specs.Objects.{FitsObject, begun, kept_at, decided_as, decided_at, refused_at, answered, fetched, is_content_of, is_reference, reference_text, hash_in, length_in, content_hash};
 
 use std::alloc::Global;
 use std::marker::Model;
@@ -17,6 +17,9 @@ use vic_dict::{Answer, Bytes, NoMemory, Op, Outcome};
 use vic_rules::Phase;
 pub use vic_rules::{Next, ObjectCall, ObjectOutcome};
 use vic_wire::Digest32;
+
+#[cfg(test)]
+mod tests;
 
 /// A call on objects that is open: how far it has come.
 #[derive(Debug, Drop)]
@@ -97,25 +100,36 @@ impl Proxy {
         Ok(Next::Call(op))
     }
 
-    /// The operation that was called is decided. After want of memory the call is as before.
+    /// The operation that was called is decided. Where none was, the answer is Bad and the call stands where it stood. After want
+    /// of memory the call is as before.
     pub fn outcome(&mut self, alloc: Global, outcome: &Outcome) -> Result<Next, NoMemory>
-        ensures ok { IfOk result (λ n. (self.new, n) ≡ decided_as outcome.now) }
+        ensures ok { IfOk result (λ n. (self.new, n) ≡ decided_at self.old outcome.now) }
         ensures err { OnErr result (self.new ≡ self.old) }
     {
+        if !matches!(self.phase, Phase::Calling) {
+            return Ok(Next::Bad);
+        }
         let next = next_of(alloc, outcome)?;
         self.phase = phase_behind(&next);
         Ok(next)
     }
 
-    /// The content that is to be kept, or the operation that was called, is refused.
+    /// The content that is to be kept, or the operation that was called, is refused. Where neither was asked for, the answer is Bad and
+    /// the call stands where it stood. It takes no memory.
     pub fn refused(&mut self, reason: u8) -> Next
-        ensures { (self.new, result) ≡ decided_as (outcome.Refused reason) }
+        ensures { (self.new, result) ≡ refused_at self.old reason }
     {
-        self.phase = Phase::Closed;
-        Next::Return(ObjectOutcome::Refused(reason))
+        match &self.phase {
+            Phase::Keeping(_, _, _) | Phase::Calling => {
+                self.phase = Phase::Closed;
+                Next::Return(ObjectOutcome::Refused(reason))
+            }
+            Phase::Closed | Phase::Fetching(_, _) => Next::Bad,
+        }
     }
 
-    /// The content that was to be fetched came, or there is none. It costs its hash, where its length is right, and a copy.
+    /// The content that was to be fetched came, or there is none. Where none was to be fetched, the answer is Bad and the call stands
+    /// where it stood. It costs the content's hash, where its length is right, and a copy.
     pub fn content(&mut self, alloc: Global, found: Option<&[u8]>) -> Result<Next, NoMemory>
         ensures ok { IfOk result (λ n. (self.new, n) ≡ fetched self.old (option_map (λ c. c.now) found.entry)) }
         ensures err { OnErr result (self.new ≡ self.old) }
@@ -124,7 +138,8 @@ impl Proxy {
             (Phase::Fetching(hash, len), Some(content)) if is_content(hash, *len, content) => {
                 Next::Return(ObjectOutcome::Content(Bytes::of(alloc, content)?))
             }
-            _ => Next::Bad,
+            (Phase::Fetching(_, _), _) => Next::Bad,
+            _ => return Ok(Next::Bad),
         };
         self.phase = Phase::Closed;
         Ok(next)

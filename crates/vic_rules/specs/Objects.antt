@@ -103,10 +103,27 @@ decided_as (outcome.Aborted u) = (phase.Closed, next.Return (ended.Aborted u))
 decided_as (outcome.Refused r) = (phase.Closed, next.Return (ended.Refused r))
 decided_as (outcome.Halted k) = (phase.Closed, next.Bad)
 
+-- the operation that was called is decided; out of turn that is bad, and the call stands where it stood
+abbrev pub decided_at : Phase → Outcome → Stepped
+decided_at phase.Closed o = (phase.Closed, next.Bad)
+decided_at (phase.Keeping k h len) o = (phase.Keeping k h len, next.Bad)
+decided_at phase.Calling o = decided_as o
+decided_at (phase.Fetching h len) o = (phase.Fetching h len, next.Bad)
+
+-- a content that was to be kept, or an operation that was called, is refused
+abbrev pub refused_at : Phase → ℕ → Stepped
+refused_at phase.Closed r = (phase.Closed, next.Bad)
+refused_at (phase.Keeping k h len) r = decided_as (outcome.Refused r)
+refused_at phase.Calling r = decided_as (outcome.Refused r)
+refused_at (phase.Fetching h len) r = (phase.Fetching h len, next.Bad)
+
 -- the answer to a Fetch: the content with the hash and the length of the reference, or it is bad
 abbrev pub fetched : Phase → Option (List ℕ) → Stepped
+fetched phase.Closed c = (phase.Closed, next.Bad)
+fetched (phase.Keeping k h len) c = (phase.Keeping k h len, next.Bad)
+fetched phase.Calling c = (phase.Calling, next.Bad)
+fetched (phase.Fetching h len) None = (phase.Closed, next.Bad)
 fetched (phase.Fetching h len) (Some c) = if is_content_of h.bytes len c then (phase.Closed, next.Return (ended.Content c)) else (phase.Closed, next.Bad)
-fetched p c = (phase.Closed, next.Bad)
 
 -- the outcome with which a call is over, if it is
 abbrev pub over_with : Next → Option ObjectOutcome

@@ -24,7 +24,7 @@ invariant_of-self-in-Ok c =
     subst (λ xs. IsSound xs c.insert.new.self (c.self.inside.bytes + c.len-len.result)) (sym items)
     (subst (λ n. IsSound (c.self.inside.contents.items ++ c.args.content ∷ []) c.insert.new.self (c.self.inside.bytes + n)) (sym len)
     (sound_more c.self.inside.contents.items c.args.content c.self.inside.places c.insert.new.self c.self.inside.bytes c.self.invariant
-    (subst (λ xs. IsRoom xs c.args.content) (sym view) room)
+    (subst (λ xs. IsRoom xs c.args.content) (sym view) room) c.requires.small
     (λ q. updates.0 q ∙ (ap (λ h. cond (is_eq (slice_cmp nat_cmp h q)) (Some c.len-place.result) (get (slice_cmp nat_cmp) c.self.inside.places q)) hash
     ∙ ap (λ n. cond (is_eq (slice_cmp nat_cmp (content_hash c.args.content) q)) (Some n) (get (slice_cmp nat_cmp) c.self.inside.places q)) place))))
 
