@@ -1,5 +1,5 @@
 -- A step that a client is about to make: what becomes of the client when the step is kept, and when it is forgotten.
-use Rattle.std.specs.Prelude.{◌≡◌, ℕ, ◌-◌, ◌≤◌, List, length, take, drop, Some}
+use Rattle.std.specs.Prelude.{◌≡◌, ℕ, ◌-◌, ◌<◌, ◌≤◌, List, length, take, drop, Some}
 use Rattle.vic_rules.specs.declared.state.Own.{Own}
 use Rattle.vic_rules.specs.declared.state.Awaiting.TheVariants as awaits
 use Rattle.vic_rules.specs.declared.trace.Input.{Input}
@@ -66,3 +66,7 @@ pub record IsPendingOf (old : Kept) (p : Pending) (new : Kept) (given : Input) :
   pub back : forgotten p.effect new ≡ old
   pub same : IsSame old (kept p.effect new)
   pub shows : (s : Standing) → StandsFor old s → Shows old p.step (kept p.effect new) (move_of old s given)
+
+-- a payload fits a frame, and an envelope in a frame: it isn't empty, and it is no longer than this
+abbrev pub FitsFrame : List ℕ → Type 0
+FitsFrame payload = (0 < length payload) × (length payload ≤ 16777210)

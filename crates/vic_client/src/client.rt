@@ -1,24 +1,23 @@
 //! The client.
 
-ghost use Rattle.std.specs.Prelude.{◌≡◌, ◌<◌, ◌≤◌, ◌+◌, ◌^◌, ℕ, IsTrue, IsSome, IfOk, OnOk, OnErr, Ok, Some, None, length};
+ghost use Rattle.std.specs.Prelude.{◌≡◌, ◌<◌, ◌≤◌, ◌+◌, ◌^◌, ℕ, IsTrue, IsSome, IfSome, IfOk, OnOk, OnErr, Ok, Some, None, length};
 ghost use Rattle.vic_dict.specs.Dictionary.{Fits};
 ghost use Rattle.vic_chain.specs.Held.{held_length, advanced};
 ghost use Rattle.vic_rules.specs.Client.{Standing, at_start};
 ghost use Rattle.vic_rules.specs.declared.trace.Input.TheVariants as input;
 ghost use Rattle.vic_client.specs.Kept.{StandsFor, IsSame, is_idle, group_of, move_of, sent_at};
 ghost use Rattle.vic_client.specs.Shows.{Shows};
-ghost use Rattle.vic_client.specs.Pending.{CanKeep, CanSeal, IsPendingOf, kept, forgotten};
+ghost use Rattle.vic_client.specs.Pending.{CanKeep, CanSeal, FitsFrame, IsPendingOf, kept, forgotten};
 
 use crate::hearing::hear;
 use crate::pending::{Effect, Pending};
-use crate::sending::{invoke_payload, sync_payload};
+use crate::sending::{invoke_payload, request_payload, sync_payload};
 use crate::step::Step;
 use std::alloc::Global;
 use std::marker::Model;
 use vic_chain::Window;
 use vic_checks::{OwnList, State};
 use vic_dict::{Bytes, Mode, NoMemory, Op, Outcome};
-use vic_frames::encode_request;
 use vic_rules::Awaiting;
 use vic_tag::GroupKey;
 use vic_wire::{Digest32, ToServer};
@@ -77,6 +76,7 @@ impl Client {
         requires few { self.now.calls + 1 < 2 ^ 32 }
         ensures planned { IfOk result (λ p. IsPendingOf self.now p self.now (input.Call op.now)) }
         ensures sends { IfOk result (λ p. IsSome p.step.send) }
+        ensures fits { IfOk result (λ p. IfSome p.step.send FitsFrame) }
     {
         let seq = self.calls + 1;
         let sent = invoke_payload(alloc, &self.state, seq, op)?;
@@ -90,8 +90,9 @@ impl Client {
         requires { IsTrue (is_idle self.now) }
         ensures planned { IfOk result (λ p. IsPendingOf self.now p self.now input.Poll) }
         ensures sends { IfOk result (λ p. IsSome p.step.send) }
+        ensures fits { IfOk result (λ p. IfSome p.step.send FitsFrame) }
     {
-        let sent = encode_request(alloc, &ToServer::Poll)?;
+        let sent = request_payload(alloc, &ToServer::Poll)?;
         Ok(Pending::asks(sent, Awaiting::Turn, self.calls))
     }
 
@@ -101,6 +102,7 @@ impl Client {
         requires { IsTrue (is_idle self.now) }
         ensures planned { IfOk result (λ p. IsPendingOf self.now p self.now input.Sync) }
         ensures sends { IfOk result (λ p. IsSome p.step.send) }
+        ensures fits { IfOk result (λ p. IfSome p.step.send FitsFrame) }
     {
         let sent = sync_payload(alloc, &self.state)?;
         Ok(Pending::asks(sent, Awaiting::Entries, self.calls))
@@ -111,6 +113,7 @@ impl Client {
     /// may be given again.
     pub fn hear(&mut self, alloc: Global, payload: &[u8]) -> Result<Pending, NoMemory>
         ensures heard { IfOk result (λ p. IsPendingOf self.old p self.new (input.Payload payload.now)) }
+        ensures fits { IfOk result (λ p. IfSome p.step.send FitsFrame) }
         ensures halted { (k : ℕ) → self.old.halted ≡ Some k
             → (result ≡ Ok (record { step = record { send = None; returned = Some (Outcome.Halted k) }; effect = Effect.Stays })) × (self.new ≡ self.old) }
         ensures err { OnErr result (self.new ≡ self.old) }
@@ -194,6 +197,7 @@ impl Client {
         ensures same { IsSame self.old self.new }
         ensures err { OnErr result (self.new ≡ self.old) }
         ensures sent { (s : Standing) → StandsFor self.old s → IfOk result (λ b. Some b ≡ sent_at self.old (move_of self.old s (input.Call op.now))) }
+        ensures fits { IfOk result FitsFrame }
         ensures stands { (s : Standing) → StandsFor self.old s → OnOk result (StandsFor self.new (move_of self.old s (input.Call op.now)).next) }
     {
         let pending = self.plan_call(alloc, op)?;
@@ -207,6 +211,7 @@ impl Client {
         ensures same { IsSame self.old self.new }
         ensures err { OnErr result (self.new ≡ self.old) }
         ensures sent { (s : Standing) → StandsFor self.old s → IfOk result (λ b. Some b ≡ sent_at self.old (move_of self.old s input.Poll)) }
+        ensures fits { IfOk result FitsFrame }
         ensures stands { (s : Standing) → StandsFor self.old s → OnOk result (StandsFor self.new (move_of self.old s input.Poll).next) }
     {
         let pending = self.plan_poll(alloc)?;
@@ -220,6 +225,7 @@ impl Client {
         ensures same { IsSame self.old self.new }
         ensures err { OnErr result (self.new ≡ self.old) }
         ensures sent { (s : Standing) → StandsFor self.old s → IfOk result (λ b. Some b ≡ sent_at self.old (move_of self.old s input.Sync)) }
+        ensures fits { IfOk result FitsFrame }
         ensures stands { (s : Standing) → StandsFor self.old s → OnOk result (StandsFor self.new (move_of self.old s input.Sync).next) }
     {
         let pending = self.plan_sync(alloc)?;
@@ -231,6 +237,7 @@ impl Client {
     pub fn take(&mut self, alloc: Global, payload: &[u8]) -> Result<Step, NoMemory>
         ensures same { IsSame self.old self.new }
         ensures taken { (s : Standing) → StandsFor self.old s → IfOk result (λ r. Shows self.old r self.new (move_of self.old s (input.Payload payload.now))) }
+        ensures fits { IfOk result (λ r. IfSome r.send FitsFrame) }
         ensures halted { (k : ℕ) → self.old.halted ≡ Some k → (result ≡ Ok (record { send = None; returned = Some (Outcome.Halted k) })) × (self.new ≡ self.old) }
         ensures err { OnErr result (self.new ≡ self.old) }
     {

@@ -9,6 +9,7 @@ ghost use Rattle.vic_checks.specs.State.{group_of, StandsForState};
 ghost use Rattle.vic_checks.specs.Parted.{part_of as part_by, part_in, seen, IsGrammar, IsAbove};
 ghost use Rattle.vic_checks.specs.Passing.{IsFormed, IsTurn, IsShownTo};
 ghost use Rattle.vic_client.specs.Hearing.{IsSoundState, IsPendingIn, Hears, op_in, judged_move, heard_move};
+ghost use Rattle.vic_client.specs.Pending.{FitsFrame};
 
 use crate::pending::Pending;
 use crate::taking::{take_entries, take_reply, take_update};
@@ -75,6 +76,7 @@ fn hear_reply(
     requires shown { shows_open (seen part) state.old.awaiting ≡ true }
     ensures sound { IsSoundState state.new }
     ensures pending { IfOk result (λ p. IsPendingIn state.old p.effect state.new) }
+    ensures fits { IfOk result (λ p. IfSome p.step.send FitsFrame) }
     ensures taken { (s : Standing) → StandsForState state.old s → IfOk result (λ p. Hears state.old p state.new s (replied state.old.id s seal.now (grown s entries.now) (seen part) s.awaiting)) }
     ensures err { OnErr result (state.new ≡ state.old) }
 {
@@ -96,6 +98,7 @@ fn hear_update(
     requires grammar { IfSome part IsGrammar }
     requires shown { shows_own (seen part) state.now.own ≡ true }
     ensures pending { IfOk result (λ p. IsPendingIn state.now p.effect state.now) }
+    ensures fits { IfOk result (λ p. IfSome p.step.send FitsFrame) }
     ensures taken { (s : Standing) → StandsForState state.now s → IfOk result (λ p. Hears state.now p state.now s (updated s seal.now (seen part) s.own)) }
 {
     match part {
@@ -121,6 +124,7 @@ fn hear_message(
     requires turn { IsTurn state.old message.now }
     ensures sound { IsSoundState state.new }
     ensures pending { IfOk result (λ p. IsPendingIn state.old p.effect state.new) }
+    ensures fits { IfOk result (λ p. IfSome p.step.send FitsFrame) }
     ensures taken { (s : Standing) → StandsForState state.old s → IfOk result (λ p. Hears state.old p state.new s (taken state.old.id s message.now)) }
     ensures err { OnErr result (state.new ≡ state.old) }
 {
@@ -151,6 +155,7 @@ fn hear_passed(
     requires turn { IfSome (option_copied message) (IsTurn state.old) }
     ensures sound { IsSoundState state.new }
     ensures pending { IfOk result (λ p. IsPendingIn state.old p.effect state.new) }
+    ensures fits { IfOk result (λ p. IfSome p.step.send FitsFrame) }
     ensures taken { (s : Standing) → StandsForState state.old s
         → IfOk result (λ p. Hears state.old p state.new s (taken_or_halts state.old.id s (option_copied message.entry) None)) }
     ensures err { OnErr result (state.new ≡ state.old) }
@@ -174,6 +179,7 @@ fn hear_read(
     requires grammar { IfSome part IsGrammar }
     ensures sound { IsSoundState state.new }
     ensures pending { IfOk result (λ p. IsPendingIn state.old p.effect state.new) }
+    ensures fits { IfOk result (λ p. IfSome p.step.send FitsFrame) }
     ensures taken { (s : Standing) → StandsForState state.old s
         → IfOk result (λ p. Hears state.old p state.new s (judged_move (group_of state.old) state.old.id s (option_copied message.entry))) }
     ensures err { OnErr result (state.new ≡ state.old) }
@@ -190,6 +196,7 @@ pub(crate) fn hear(alloc: Global, state: &mut State, payload: &[u8]) -> Result<P
     requires { IsSoundState state.old }
     ensures sound { IsSoundState state.new }
     ensures pending { IfOk result (λ p. IsPendingIn state.old p.effect state.new) }
+    ensures fits { IfOk result (λ p. IfSome p.step.send FitsFrame) }
     ensures taken { (s : Standing) → StandsForState state.old s
         → IfOk result (λ p. Hears state.old p state.new s (heard_move (group_of state.old) state.old.id s payload.now)) }
     ensures err { OnErr result (state.new ≡ state.old) }

@@ -17,6 +17,7 @@ mod taking;
 
 pub use client::Client;
 pub use pending::Pending;
+pub use sending::request_payload;
 pub use step::Step;
 
 #[cfg(test)]

@@ -2,10 +2,11 @@
 
 ghost use Rattle.std.specs.Prelude.{◌≡◌, ◌≤◌, ◌<◌, IfOk};
 ghost use Rattle.vic_dict.specs.Dictionary.{Fits};
-ghost use Rattle.vic_wire.specs.Messages.{request_text};
+ghost use Rattle.vic_wire.specs.Messages.{HasRequestSpelling, request_text};
 ghost use Rattle.vic_chain.specs.Held.{ShowsPath, held_length};
 ghost use Rattle.vic_rules.specs.Client.{Standing, request_of, Invokes, Commits, Seals, Syncs};
 ghost use Rattle.vic_checks.specs.State.{group_of};
+ghost use Rattle.vic_client.specs.Pending.{FitsFrame};
 
 use std::alloc::Global;
 use vic_checks::State;
@@ -13,6 +14,16 @@ use vic_checks::tags::{commit_tag, invoke_tag, seal_tag};
 use vic_dict::{Bytes, Entry, NoMemory, Op};
 use vic_frames::encode_request;
 use vic_wire::{Digest32, ToServer};
+
+/// The payload of a request; it fits a frame.
+#[tactic(auto, using(vic_bounds::proofs::Lengths::request_short, vic_bounds::proofs::Lengths::request_some))]
+pub fn request_payload(alloc: Global, request: &ToServer) -> Result<Bytes, NoMemory>
+    requires { HasRequestSpelling request.now }
+    ensures text { IfOk result (λ b. b ≡ request_text request.now) }
+    ensures fits { IfOk result FitsFrame }
+{
+    encode_request(alloc, request)
+}
 
 /// The Invoke of a call.
 pub(crate) fn invoke_payload(
@@ -23,8 +34,9 @@ pub(crate) fn invoke_payload(
 ) -> Result<Bytes, NoMemory>
     requires fits { Fits op.now }
     requires number { 0 < seq }
-    ensures { (s : Standing) → ShowsPath (group_of state.now) s.path state.now.window
+    ensures sent { (s : Standing) → ShowsPath (group_of state.now) s.path state.now.window
         → IfOk result (λ b. b ≡ request_text (request_of (group_of state.now) state.now.id s (Invokes seq op.now))) }
+    ensures fits { IfOk result FitsFrame }
 {
     op.are_bytes();
     let entry = Entry {
@@ -39,19 +51,20 @@ pub(crate) fn invoke_payload(
         op: entry.op,
         tag,
     };
-    encode_request(alloc, &request)
+    request_payload(alloc, &request)
 }
 
 /// The Commit of the call at the end of the path.
 pub(crate) fn commit_payload(alloc: Global, state: &State, done: bool) -> Result<Bytes, NoMemory>
     requires { 0 < held_length state.now.window }
-    ensures { (s : Standing) → ShowsPath (group_of state.now) s.path state.now.window
+    ensures sent { (s : Standing) → ShowsPath (group_of state.now) s.path state.now.window
         → IfOk result (λ b. b ≡ request_text (request_of (group_of state.now) state.now.id s (Commits done))) }
+    ensures fits { IfOk result FitsFrame }
 {
     let position = state.window.length();
     let chained = state.window.hash_at(position);
     let tag = commit_tag(&state.key, position, &chained, done);
-    encode_request(
+    request_payload(
         alloc,
         &ToServer::Commit {
             position,
@@ -71,12 +84,13 @@ pub(crate) fn seal_payload(
     requires some { 0 < position }
     requires above { state.now.window.sealed ≤ position }
     requires within { position ≤ held_length state.now.window }
-    ensures { (s : Standing) → ShowsPath (group_of state.now) s.path state.now.window → s.sealed ≡ position → s.root ≡ root.bytes
+    ensures sent { (s : Standing) → ShowsPath (group_of state.now) s.path state.now.window → s.sealed ≡ position → s.root ≡ root.bytes
         → IfOk result (λ b. b ≡ request_text (request_of (group_of state.now) state.now.id s Seals)) }
+    ensures fits { IfOk result FitsFrame }
 {
     let chained = state.window.hash_at(position);
     let tag = seal_tag(&state.key, position, &chained, &root);
-    encode_request(
+    request_payload(
         alloc,
         &ToServer::Seal {
             position,
@@ -88,9 +102,10 @@ pub(crate) fn seal_payload(
 
 /// The Sync from the length of the path on.
 pub(crate) fn sync_payload(alloc: Global, state: &State) -> Result<Bytes, NoMemory>
-    ensures { (s : Standing) → ShowsPath (group_of state.now) s.path state.now.window
+    ensures sent { (s : Standing) → ShowsPath (group_of state.now) s.path state.now.window
         → IfOk result (λ b. b ≡ request_text (request_of (group_of state.now) state.now.id s Syncs)) }
+    ensures fits { IfOk result FitsFrame }
 {
     let known = state.window.length();
-    encode_request(alloc, &ToServer::Sync(known))
+    request_payload(alloc, &ToServer::Sync(known))
 }

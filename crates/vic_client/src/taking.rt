@@ -1,6 +1,6 @@
 //! What a client makes of an answer that passed the checks.
 
-ghost use Rattle.std.specs.Prelude.{◌≡◌, ◌+◌, ◌≤◌, ◌<◌, ◌∷◌, [], ◌++◌, List, length, not, ◌&&◌, ◌||◌, true, Some, IfOk, OnOk, OnErr};
+ghost use Rattle.std.specs.Prelude.{◌≡◌, ◌+◌, ◌≤◌, ◌<◌, ◌∷◌, [], ◌++◌, List, length, not, ◌&&◌, ◌||◌, true, Some, IfOk, IfSome, OnOk, OnErr};
 ghost use Rattle.std.specs.List.{AllByRecursion};
 ghost use Rattle.vic_dict.specs.Dictionary.{Fits};
 ghost use Rattle.vic_wire.specs.Hashes.{Group};
@@ -13,6 +13,7 @@ ghost use Rattle.vic_rules.specs.Client.{Standing, onto, grown, request_of, Comm
 ghost use Rattle.vic_rules.specs.declared.state.Own.{Own as AnOwn};
 ghost use Rattle.vic_checks.specs.State.{group_of, StandsForState};
 ghost use Rattle.vic_client.specs.Hearing.{IsSoundState, IsPendingIn, Hears, reply_move};
+ghost use Rattle.vic_client.specs.Pending.{FitsFrame};
 
 use crate::pending::{Effect, Pending};
 use crate::sending::{commit_payload, seal_payload};
@@ -59,6 +60,7 @@ fn own_call(alloc: Global, state: &mut State, op: Op, done: bool) -> Result<Byte
     ensures err { OnErr result (state.new ≡ state.old) }
     ensures sent { (s : Standing) → ShowsPath (group_of state.old) s.path state.old.window
         → IfOk result (λ b. b ≡ request_text (request_of (group_of state.old) state.old.id s (Commits done))) }
+    ensures fits { IfOk result FitsFrame }
 {
     let sent = commit_payload(alloc, state, done)?;
     let position = state.window.length();
@@ -94,6 +96,7 @@ pub(crate) fn take_reply(
     requires room { held_length state.old.window + length entries.now ≤ 1048576 }
     ensures sound { IsSoundState state.new }
     ensures pending { IfOk result (λ p. IsPendingIn state.old p.effect state.new) }
+    ensures fits { IfOk result (λ p. IfSome p.step.send FitsFrame) }
     ensures taken { (s : Standing) → StandsForState state.old s → IfOk result (λ p. Hears state.old p state.new s (reply_move state.old.id s seal.now entries.now (shown part.now) op)) }
     ensures err { OnErr result (state.new ≡ state.old) }
 {
@@ -150,6 +153,7 @@ pub(crate) fn take_update(
     requires above { state.now.window.sealed ≤ seal.now.position }
     requires within { seal.now.position + 1 ≤ held_length state.now.window }
     ensures pending { IfOk result (λ p. IsPendingIn state.now p.effect state.now) }
+    ensures fits { IfOk result (λ p. IfSome p.step.send FitsFrame) }
     ensures taken { (s : Standing) (o : AnOwn) (others : List AnOwn) → StandsForState state.now s → s.own ≡ o ∷ others
         → IfOk result (λ p. Hears state.now p state.now s (sealed_to s (seal.now.position + 1) (new_root o (shown part.now) seal.now.root.bytes) others)) }
 {
@@ -182,6 +186,7 @@ pub(crate) fn take_entries(
     requires room { held_length state.old.window + length entries.now ≤ 1048576 }
     ensures sound { IsSoundState state.new }
     ensures pending { IfOk result (λ p. IsPendingIn state.old p.effect state.new) }
+    ensures fits { IfOk result (λ p. IfSome p.step.send FitsFrame) }
     ensures taken { (s : Standing) → StandsForState state.old s
         → IfOk result (λ p. Hears state.old p state.new s (listed_to s (grown s entries.now) seal.now.position seal.now.root.bytes)) }
     ensures err { OnErr result (state.new ≡ state.old) }

@@ -1,37 +1,83 @@
--- The calls that texts spell are within the limits.
-use Rattle.std.proofs.Common.{◌≡◌, ℕ, ◌≤◌, Bool, true, false, ◌&&◌, List, [], ◌∷◌, length, Option, Some, None, refl, subst, arith}
-use Rattle.std.specs.Prelude.{if◌then◌else◌, nat_le, option_map, codes}
+-- The calls that texts spell are within the limits and hold bytes, and a script has few lines.
+use Rattle.std.proofs.Common.{◌≡◌, ℕ, suc, ◌<◌, ◌≤◌, Bool, true, false, ◌&&◌, List, [], ◌∷◌, length, Option, Some, None, Result, Ok, Err, refl, subst, arith}
+use Rattle.std.specs.Prelude.{if◌then◌else◌, nat_eq, nat_le, option_map, codes}
 use Rattle.std.specs.Str.{bytes_eq}
+use Rattle.std.specs.List.{list_all}
+use Rattle.std.specs.Result.{result_ok}
 use Rattle.std.proofs.lemmas.Bool.{and_parts, leb-true}
+use Rattle.std.proofs.lemmas.Bool.Decides.{nat_tests}
+use Rattle.hex.specs.Hex.{decode_of}
+use Rattle.hex.specs.declared.error.FromHexError.{FromHexError}
+use Rattle.hex.proofs.HexLemmas.{decode_of-ok}
 use Rattle.vic_dict.specs.declared.op.Op.{Op}
 use Rattle.vic_dict.specs.declared.op.Op.TheVariants as op
 use Rattle.vic_dict.specs.declared.op.Mode.{Mode}
 use Rattle.vic_dict.specs.declared.op.Mode.TheVariants as mode
-use Rattle.vic_dict.specs.Dictionary.{Fits}
-use Rattle.vic_script.specs.Words.{word_bytes, word_number}
-use Rattle.vic_script.specs.Lines.{words_of, within, key_of, value_of, prefix_of, put_of, op_of}
+use Rattle.vic_dict.specs.Lists.{AreBytes}
+use Rattle.vic_dict.specs.Dictionary.{Fits, AreBytesIn}
+use Rattle.vic_spellings.proofs.Steps.{bytes-nil}
+use Rattle.vic_spellings.proofs.Bytes.{bytes-cons}
+use Rattle.vic_script.specs.Words.{is_plain, is_lower_hex, is_percent, hex_word, word_bytes, word_number}
+use Rattle.vic_script.specs.Lines.{put_first, lines_of, words_of, within, key_of, value_of, prefix_of, put_of, op_of}
 use Rattle.vic_text.specs.declared.client_line.ClientLine.{ClientLine}
 use Rattle.vic_text.specs.declared.client_line.ClientLine.TheVariants as line
 use Rattle.vic_text.specs.ClientLines.{client_line_of, plain_line, call_line, or_line, settle_of}
 use Rattle.vic_session.specs.Talking.{CanBegin}
 
+-- ---- byte words
+
+abbrev BytesIn : Option (List ℕ) → Type 0
+BytesIn None = Unit {0}
+BytesIn (Some bytes) = AreBytes bytes
+
+bytes_in-either : (b : Bool) (x y : Option (List ℕ)) → BytesIn x → BytesIn y → BytesIn (if b then x else y)
+bytes_in-either true x y h k = h
+bytes_in-either false x y h k = k
+
+decoded-bytes : (r : Result (List ℕ) FromHexError) → ((bytes : List ℕ) → r ≡ Ok bytes → AreBytes bytes) → BytesIn (result_ok r)
+decoded-bytes (Ok bytes) h = h bytes refl
+decoded-bytes (Err e) h = tt
+
+-- plain characters are bytes
+plain-few : (c : ℕ) → is_plain c ≡ true → c < 256
+plain-few c e = grind (arith, nat_tests)
+
+plain-bytes : (word : List ℕ) → list_all is_plain word ≡ true → AreBytes word
+plain-bytes [] e = bytes-nil
+plain-bytes (c ∷ cs) e = let p = and_parts _ _ e in bytes-cons c cs (plain-few c p.0) (plain-bytes cs p.1)
+
+plain-word : (word : List ℕ) (b : Bool) → (b ≡ true → AreBytes word) → BytesIn (if b then Some word else None)
+plain-word word true h = h refl
+plain-word word false h = tt
+
+-- what a byte word spells is bytes
+word-bytes : (word : List ℕ) → BytesIn (word_bytes word)
+word-bytes [] = tt
+word-bytes (c ∷ cs) =
+    bytes_in-either (is_percent c) (hex_word cs) (if list_all is_plain (c ∷ cs) then Some (c ∷ cs) else None)
+    (bytes_in-either (list_all is_lower_hex cs) (result_ok (decode_of cs)) None (decoded-bytes (decode_of cs) (λ bytes e. (decode_of-ok cs bytes e).3)) tt)
+    (plain-word (c ∷ cs) (list_all is_plain (c ∷ cs)) (plain-bytes (c ∷ cs)))
+
+-- bytes of a word, of which there are few enough
 abbrev FewIn : ℕ → ℕ → Option (List ℕ) → Type 0
 FewIn least most None = Unit {0}
-FewIn least most (Some bytes) = (least ≤ length bytes) × (length bytes ≤ most)
+FewIn least most (Some bytes) = AreBytes bytes × ((least ≤ length bytes) × (length bytes ≤ most))
 
-few-in : (least most : ℕ) (bytes : List ℕ) → (b : Bool) → (b ≡ true → (least ≤ length bytes) × (length bytes ≤ most)) → FewIn least most (if b then Some bytes else None)
-few-in least most bytes true few = few refl
-few-in least most bytes false few = tt
+few-in : (least most : ℕ) (bytes : List ℕ) → AreBytes bytes → (b : Bool) → (b ≡ true → (least ≤ length bytes) × (length bytes ≤ most)) → FewIn least most (if b then Some bytes else None)
+few-in least most bytes h true few = (h, few refl)
+few-in least most bytes h false few = tt
 
-within-few : (least most : ℕ) (o : Option (List ℕ)) → FewIn least most (within least most o)
-within-few least most None = tt
-within-few least most (Some bytes) =
-    few-in least most bytes (nat_le least (length bytes) && nat_le (length bytes) most)
+within-few : (least most : ℕ) (o : Option (List ℕ)) → BytesIn o → FewIn least most (within least most o)
+within-few least most None h = tt
+within-few least most (Some bytes) h =
+    few-in least most bytes h (nat_le least (length bytes) && nat_le (length bytes) most)
     (λ e. let p = and_parts _ _ e in (leb-true _ _ p.0, leb-true _ _ p.1))
+
+-- ---- operations
 
 abbrev FitsOp : Option Op → Type 0
 FitsOp None = Unit {0}
-FitsOp (Some o) = Fits o
+FitsOp (Some o) = Fits o × AreBytesIn o
 
 op-either : (b : Bool) (x y : Option Op) → FitsOp x → FitsOp y → FitsOp (if b then x else y)
 op-either true x y h k = h
@@ -39,18 +85,18 @@ op-either false x y h k = k
 
 get-fits : (k : Option (List ℕ)) → FewIn 1 255 k → FitsOp (option_map op.Get k)
 get-fits None h = tt
-get-fits (Some k) h = (omega (arith, h.0), omega (arith, h.1))
+get-fits (Some k) h = ((omega (arith, h.1.0), omega (arith, h.1.1)), h.0)
 
 del-fits : (k : Option (List ℕ)) → FewIn 1 255 k → FitsOp (option_map op.Del k)
 del-fits None h = tt
-del-fits (Some k) h = (omega (arith, h.0), omega (arith, h.1))
+del-fits (Some k) h = ((omega (arith, h.1.0), omega (arith, h.1.1)), h.0)
 
 list-fits : (p : Option (List ℕ)) → FewIn 0 255 p → FitsOp (option_map op.List p)
 list-fits None h = tt
-list-fits (Some p) h = omega (arith, h.1)
+list-fits (Some p) h = (omega (arith, h.1.1), h.0)
 
 put-fits : (k v : Option (List ℕ)) → FewIn 1 255 k → FewIn 0 64 v → FitsOp (put_of k v)
-put-fits (Some k) (Some v) h l = ((omega (arith, h.0), omega (arith, h.1)), omega (arith, l.1))
+put-fits (Some k) (Some v) h l = (((omega (arith, h.1.0), omega (arith, h.1.1)), omega (arith, l.1.1)), (h.0, l.0))
 put-fits (Some k) None h l = tt
 put-fits None v h l = tt
 
@@ -58,8 +104,8 @@ op-fits : (words : List (List ℕ)) → FitsOp (op_of words)
 op-fits [] = tt
 op-fits (name ∷ []) = tt
 op-fits (name ∷ a ∷ []) =
-    let key = within-few 1 255 (word_bytes a) in
-    let prefix = within-few 0 255 (word_bytes a) in
+    let key = within-few 1 255 (word_bytes a) (word-bytes a) in
+    let prefix = within-few 0 255 (word_bytes a) (word-bytes a) in
     let lists : Option Op = if bytes_eq name (codes "list") then option_map op.List (prefix_of a) else None in
     let dels : Option Op = if bytes_eq name (codes "del") then option_map op.Del (key_of a) else lists in
     op-either (bytes_eq name (codes "get")) (option_map op.Get (key_of a)) dels (get-fits (key_of a) key)
@@ -67,14 +113,22 @@ op-fits (name ∷ a ∷ []) =
     (op-either (bytes_eq name (codes "list")) (option_map op.List (prefix_of a)) None (list-fits (prefix_of a) prefix) tt))
 op-fits (name ∷ a ∷ b ∷ []) =
     op-either (bytes_eq name (codes "put")) (put_of (key_of a) (value_of b)) None
-    (put-fits (key_of a) (value_of b) (within-few 1 255 (word_bytes a)) (within-few 0 64 (word_bytes b))) tt
+    (put-fits (key_of a) (value_of b) (within-few 1 255 (word_bytes a) (word-bytes a)) (within-few 0 64 (word_bytes b) (word-bytes b))) tt
 op-fits (name ∷ a ∷ b ∷ c ∷ others) = tt
 
 -- ---- lines
 
-abbrev CanIn : Option ClientLine → Mode → Type 0
+-- a line may be begun in a group of this mode, and its call holds bytes
+abbrev pub MayCall : ClientLine → Mode → Type 0
+MayCall (line.Call o) kind = (kind ≡ mode.Plain) × (Fits o × AreBytesIn o)
+MayCall line.Poll kind = Unit {0}
+MayCall line.Sync kind = Unit {0}
+MayCall (line.Settle n) kind = Unit {0}
+MayCall line.Skip kind = Unit {0}
+
+abbrev pub CanIn : Option ClientLine → Mode → Type 0
 CanIn None kind = Unit {0}
-CanIn (Some l) kind = CanBegin l kind
+CanIn (Some l) kind = MayCall l kind
 
 can-either : (kind : Mode) (b : Bool) (x y : Option ClientLine) → CanIn x kind → CanIn y kind → CanIn (if b then x else y) kind
 can-either kind true x y h k = h
@@ -104,10 +158,35 @@ or-can : (kind : Mode) (x y : Option ClientLine) → CanIn x kind → CanIn y ki
 or-can kind (Some l) y h k = h
 or-can kind None y h k = k
 
-spelled-can : (kind : Mode) (text : List ℕ) → CanIn (client_line_of kind text) kind
+pub spelled-can : (kind : Mode) (text : List ℕ) → CanIn (client_line_of kind text) kind
 unfolding client_line_of
 spelled-can kind text = or-can kind (plain_line (words_of text)) (call_line kind (words_of text)) (plain-can kind (words_of text)) (call-can kind (words_of text))
 
+can-begin : (l : ClientLine) (kind : Mode) → MayCall l kind → CanBegin l kind
+can-begin (line.Call o) kind h = (h.0, h.1.0)
+can-begin line.Poll kind h = tt
+can-begin line.Sync kind h = tt
+can-begin (line.Settle n) kind h = tt
+can-begin line.Skip kind h = tt
+
 -- a line that a text spells may be begun
 pub line_can : (kind : Mode) (text : List ℕ) (l : ClientLine) → client_line_of kind text ≡ Some l → CanBegin l kind
-line_can kind text l is = subst (λ (o : Option ClientLine). CanIn o kind) is (spelled-can kind text)
+line_can kind text l is = can-begin l kind (subst (λ (o : Option ClientLine). CanIn o kind) is (spelled-can kind text))
+
+-- ---- the lines of a script
+
+length-put_first : (b n : ℕ) (pieces : List (List ℕ)) → length pieces ≤ n → length (put_first b pieces) ≤ suc n
+length-put_first b n [] h = omega arith
+length-put_first b n (piece ∷ pieces) h = omega (arith, h)
+
+few-either : (b : Bool) (n : ℕ) (x y : List (List ℕ)) → length x ≤ n → length y ≤ n → length (if b then x else y) ≤ n
+few-either true n x y h k = h
+few-either false n x y h k = k
+
+-- a script has at most as many lines as bytes
+pub length-lines_of : (bs : List ℕ) → length (lines_of bs) ≤ length bs
+unfolding lines_of
+length-lines_of [] = omega arith
+length-lines_of (b ∷ bs) =
+    let rest = length-lines_of bs in
+    few-either (nat_eq b 10) (suc (length bs)) ([] ∷ lines_of bs) (put_first b (lines_of bs)) (omega (arith, rest)) (length-put_first b (length bs) (lines_of bs) rest)

@@ -10,8 +10,8 @@ use Rattle.vic_client.specs.Kept.{Kept, IsSame, move_of, is_idle}
 use Rattle.vic_client.specs.Shows.{Shows}
 use Rattle.vic_session.specs.declared.place.At.TheVariants as at
 use Rattle.vic_session.specs.declared.place.Place.{Place}
-use Rattle.vic_session.specs.Talks.{Talk, Talker, stands, steps, one_of, sent_in, hears, goes_from, ends_line, outcome_line, returned_in, is_idle as rests}
-use Rattle.vic_session.specs.Talking.{On, Went, GoesTo, IsDoing, Heard, Stands, digest_of, PrintsFront}
+use Rattle.vic_session.specs.Talks.{Talk, Talker, steps, one_of, sent_in, hears, goes_from, ends_line, outcome_line, returned_in, digest_of, is_idle as rests}
+use Rattle.vic_session.specs.Talking.{On, Went, GoesTo, IsDoing, Heard, Stands, PrintsFront}
 use Rattle.vic_session.proofs.Steps.{moved, standing_step, sent_step, heard, halted_none, sends_busy}
 use Rattle.vic_session.proofs.Begins.{move_is, sent_is, stands_on}
 use Rattle.vic_session.proofs.Extends.{after_step, hears_is, extends_hears}
@@ -19,7 +19,7 @@ use Rattle.vic_session.proofs.Lined.{front_of_on}
 
 -- the client took the payload
 pub heard_of : (w : Talker) (t : Talk) (start : List ℕ) (c new : Kept) (p : Place) (out payload : List ℕ) (r : Step) → On w t start c p out → IsDoing p.doing t.doing → IsSame c new
-    → Shows c r new (move_of c (stands w t) (input.Payload payload)) → Heard w t start payload r new p out
+    → Shows c r new (move_of c t.now (input.Payload payload)) → Heard w t start payload r new p out
 heard_of w t start c new p out payload r on at same shows = record {
   me = same.id ∙ on.me;
   group = same.group ∙ on.group;
@@ -45,12 +45,12 @@ module _ (w : Talker) (t : Talk) (start payload : List ℕ) (r : Step) (c : Kept
   u : Talk
   u = steps w t (input.Payload payload)
 
-  halted_is : c.halted ≡ (stands w (steps w t (input.Payload payload))).halted
+  halted_is : c.halted ≡ (steps w t (input.Payload payload)).now.halted
   halted_is = sym h.stands_so.halted
 
-  few_u : (stands w (steps w t (input.Payload payload))).calls ≤ p.number
+  few_u : (steps w t (input.Payload payload)).now.calls ≤ p.number
   few_u =
-      let same = (heard w.group w.me (stands w t) payload).calls in
+      let same = (heard w.group w.me t.now payload).calls in
       let is = ap (λ (s : Standing). s.calls) (standing_step w t (input.Payload payload)) in
       omega (arith, h.few, same, is)
 
@@ -78,14 +78,14 @@ module _ (w : Talker) (t : Talk) (start payload : List ℕ) (r : Step) (c : Kept
     behind = h.behind;
     lines = h.lines;
     text = is ∙ ap (λ (l : List ℕ). l ++ outcome_line k r.returned) h.text ∙ append_assoc start t.text (outcome_line k r.returned)
-        ∙ ap (λ (l : List ℕ). start ++ (t.text ++ l)) (ap (λ (j : Option ℕ). outcome_line j r.returned) (sym e ∙ halted_is) ∙ ap (outcome_line (stands w (steps w t (input.Payload payload))).halted) (sym returned_u));
+        ∙ ap (λ (l : List ℕ). start ++ (t.text ++ l)) (ap (λ (j : Option ℕ). outcome_line j r.returned) (sym e ∙ halted_is) ∙ ap (outcome_line (steps w t (input.Payload payload)).now.halted) (sym returned_u));
   }
 
   -- it has halted
   pub went_halted : (k : ℕ) (d : Digest32) → c.halted ≡ Some k → d.bytes ≡ digest_of payload → Went w t (hears w t payload) start c (record p { doing = at.Halts k d }) out None
   went_halted k d e hash =
       let on = on_after (Some k) e out (sym (append-nil out)) in
-      let stops = halted_none w.group w.me (stands w t) payload k (sym (ap (λ (s : Standing). s.halted) (standing_step w t (input.Payload payload))) ∙ (sym halted_is ∙ e)) in
+      let stops = halted_none w.group w.me t.now payload k (sym (ap (λ (s : Standing). s.halted) (standing_step w t (input.Payload payload))) ∙ (sym halted_is ∙ e)) in
       subst (λ (v : Talk). Went w t v start c (record p { doing = at.Halts k d }) out None) (sym (hears_by (Some k) e))
       (record {
         on = record { me = on.me; group = on.group; stands_so = on.stands_so; few = on.few; total = on.total; number = on.number; behind = on.behind; lines = on.lines; text = on.text };
@@ -100,12 +100,12 @@ module _ (w : Talker) (t : Talk) (start payload : List ℕ) (r : Step) (c : Kept
   unfolding steps
   doing_u = h.doing
 
-  not_idle : rests (stands w (steps w t (input.Payload payload))) ≡ false → c.halted ≡ None → hears w t payload ≡ after_step w t payload
+  not_idle : rests (steps w t (input.Payload payload)).now ≡ false → c.halted ≡ None → hears w t payload ≡ after_step w t payload
   not_idle busy e =
       hears_by None e ∙ ap (λ (b : Bool). if b then ends_line w (after_step w t payload) (after_step w t payload).doing else after_step w t payload) busy
 
   -- it is not idle
-  pub went_on : (new : List ℕ) → c.halted ≡ None → new ≡ out ++ outcome_line None r.returned → rests (stands w (steps w t (input.Payload payload))) ≡ false → Went w t (hears w t payload) start c p new r.send
+  pub went_on : (new : List ℕ) → c.halted ≡ None → new ≡ out ++ outcome_line None r.returned → rests (steps w t (input.Payload payload)).now ≡ false → Went w t (hears w t payload) start c p new r.send
   went_on new e is busy =
       subst (λ (v : Talk). Went w t v start c p new r.send) (sym (not_idle busy e))
       (record { on = on_after None e new is; doing = doing_u; sends = sent_u })
@@ -113,14 +113,14 @@ module _ (w : Talker) (t : Talk) (start payload : List ℕ) (r : Step) (c : Kept
   -- since it sends something
   pub went_sends : (new sent : List ℕ) → c.halted ≡ None → new ≡ out ++ outcome_line None r.returned → r.send ≡ Some sent → Went w t (hears w t payload) start c p new (Some sent)
   went_sends new sent e is sends =
-      let waits = sends_busy w.group w.me (stands w t) payload sent (sym sends ∙ h.send) in
-      let busy : awaits_nothing (stands w (steps w t (input.Payload payload))).awaiting ≡ false = ap (λ (s : Standing). awaits_nothing s.awaiting) (standing_step w t (input.Payload payload)) ∙ waits in
+      let waits = sends_busy w.group w.me t.now payload sent (sym sends ∙ h.send) in
+      let busy : awaits_nothing (steps w t (input.Payload payload)).now.awaiting ≡ false = ap (λ (s : Standing). awaits_nothing s.awaiting) (standing_step w t (input.Payload payload)) ∙ waits in
       subst (λ (o : Option (List ℕ)). Went w t (hears w t payload) start c p new o) sends
-      (went_on new e is (ap (λ (b : Bool). b && is_none (stands w (steps w t (input.Payload payload))).halted) busy))
+      (went_on new e is (ap (λ (b : Bool). b && is_none (steps w t (input.Payload payload)).now.halted) busy))
 
-  idle_is : rests (stands w (steps w t (input.Payload payload))) ≡ is_idle c
+  idle_is : rests (steps w t (input.Payload payload)).now ≡ is_idle c
   idle_is =
-      ap (λ (a : Awaiting). awaits_nothing a && is_none (stands w (steps w t (input.Payload payload))).halted) h.stands_so.awaiting
+      ap (λ (a : Awaiting). awaits_nothing a && is_none (steps w t (input.Payload payload)).now.halted) h.stands_so.awaiting
       ∙ ap (λ (k : Option ℕ). awaits_nothing c.awaiting && is_none k) h.stands_so.halted
 
   -- or awaits another answer

@@ -1,7 +1,9 @@
 pub mod Begins
+pub mod Complete
 pub mod Extends
 pub mod Fitting
 pub mod Hears
+pub mod Lawful
 pub mod Lined
 pub mod Sessions
 pub mod Steps

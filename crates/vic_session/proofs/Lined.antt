@@ -12,7 +12,7 @@ use Rattle.vic_session.specs.declared.place.Place.{Place}
 use Rattle.vic_session.specs.declared.lines.Begun.TheVariants as begun
 use Rattle.vic_session.specs.Talks.{Talk, Talker, Doing, Bad, Leaves, asks, begins, goes_on, one_of, sent_in, tells_state}
 use Rattle.vic_dict.specs.declared.bytes.NoMemory.{NoMemory}
-use Rattle.vic_session.specs.Talking.{On, GoesTo, Went, Began, Lined, IsDoing, PrintsFront, IsBusy, IsWithin, IsFine, MaySend}
+use Rattle.vic_session.specs.Talking.{On, GoesTo, Went, Began, Lined, IsDoing, PrintsFront}
 use Rattle.vic_session.proofs.Extends.{here, Extends}
 
 pub goes_long : (w : Talker) (t : Talk) (text : List ℕ) (texts : List (List ℕ)) → limit < place_behind w.total t.behind text → goes_on w t (text ∷ texts) ≡ record (here w t text texts) { doing = Bad 7 }
@@ -93,30 +93,6 @@ module _ (w : Talker) (t : Talk) (start : List ℕ) (c : Kept) (p q : Place) (ou
 pub front_of_on : (w : Talker) (t v : Talk) (start : List ℕ) (out : List ℕ) → Extends t v → out ≡ start ++ t.text → PrintsFront start v out
 front_of_on w t v start out e is = (t.text, e.text.0, (e.text.1, is))
 
-pub fine_within : (a : At) (p : Place) → IsWithin p → IsFine a p
-fine_within at.Calls p h = h
-fine_within at.Tells p h = h
-fine_within (at.Settles n) p h = h
-fine_within at.Leaves p h = tt
-fine_within (at.Bad k) p h = tt
-fine_within (at.Halts k h') p h = tt
-
-pub within_fine : (a : At) (p : Place) → IsBusy a → IsFine a p → IsWithin p
-within_fine at.Calls p b h = h
-within_fine at.Tells p b h = h
-within_fine (at.Settles n) p b h = h
-within_fine at.Leaves p b h = absurd b
-within_fine (at.Bad k) p b h = absurd b
-within_fine (at.Halts k h') p b h = absurd b
-
-pub busy_sends : (a : At) (sent : Option (List ℕ)) → IsBusy a → MaySend a sent
-busy_sends at.Calls sent b = tt
-busy_sends at.Tells sent b = tt
-busy_sends (at.Settles n) sent b = tt
-busy_sends at.Leaves sent b = absurd b
-busy_sends (at.Bad k) sent b = absurd b
-busy_sends (at.Halts k h') sent b = absurd b
-
 -- what was led to, led on
 pub led_went : (w : Talker) (t u : Talk) (start : List ℕ) (c : Kept) (p : Place) (out : List ℕ) (sent : Option (List ℕ)) → goes_on w t t.lines ≡ goes_on w u u.lines → u.history ≡ t.history
     → Went w u (goes_on w u u.lines) start c p out sent → Went w t (goes_on w t t.lines) start c p out sent
@@ -142,7 +118,7 @@ led_leaves w t u start c p out same past on none =
     }))
 
 -- the state was told, and the talk went on
-pub told_went : (w : Talker) (t : Talk) (start : List ℕ) (c : Kept) (p : Place) (out : List ℕ) (r : Result (Option (List ℕ)) NoMemory) → GoesTo w (tells_state w t) (goes_on w (tells_state w t) t.lines) start c p out r
-    → GoesTo w t (goes_on w (tells_state w t) t.lines) start c p out r
+pub told_went : (w : Talker) (t : Talk) (start : List ℕ) (c : Kept) (p : Place) (out : List ℕ) (r : Result (Option (List ℕ)) NoMemory) → GoesTo w (tells_state t) (goes_on w (tells_state t) t.lines) start c p out r
+    → GoesTo w t (goes_on w (tells_state t) t.lines) start c p out r
 told_went w t start c p out (Ok sent) g = record { on = g.on; doing = g.doing; sends = g.sends }
 told_went w t start c p out (Err e) g = g

@@ -5,7 +5,6 @@ use Rattle.vic_wire.specs.Hashes.{Group}
 use Rattle.vic_wire.specs.declared.message.ToClient.TheVariants as say
 use Rattle.vic_wire.specs.Reading.{read_answer}
 use Rattle.vic_rules.specs.Client.{at_start}
-use Rattle.vic_rules.specs.History.{standing}
 use Rattle.vic_client.specs.Kept.{Kept, StandsFor, group_of}
 use Rattle.vic_conn.specs.Frames.{frames_of}
 use Rattle.vic_ports.specs.Written.{AppendedAll, AppendedFront}
@@ -19,10 +18,10 @@ use Rattle.vic_session.specs.declared.end.SessionEnd.TheVariants as ends
 use Rattle.vic_session.specs.declared.place.At.{At}
 use Rattle.vic_session.specs.declared.place.At.TheVariants as at
 use Rattle.vic_session.specs.declared.place.Place.{Place}
-use Rattle.vic_session.specs.Talks.{Talk, Talker, Doing, goes_on, hears, fresh, opening, talk, talker, one_of, sent_in}
+use Rattle.vic_session.specs.Talks.{Talk, Talker, Doing, Leaves, goes_on, hears, fresh, opening, talk, talker, one_of, sent_in}
 use Rattle.vic_session.specs.Talking.{On, Went, GoesTo, IsDoing, IsBusy, PrintsFront}
 use Rattle.vic_session.specs.Wires.{frames, Asks}
-use Rattle.vic_session.specs.Sessions.{Stage, Greets, Talks, Goes_away, hello, bye, requests, Read, IsOver, IsOwed, EndsBy, Sent, Prints, printed_at, IsSession}
+use Rattle.vic_session.specs.Sessions.{Stage, Greets, Talks, Goes_away, hello, bye, requests, Read, IsOver, IsOwed, IsAt, AllAwaited, EndsBy, Sent, Prints, printed_at, IsSession}
 use Rattle.vic_session.specs.Running.{Greeted, JudgedHello, JudgedBye, Unanswered, PrintsBye, Parted, Left}
 use Rattle.vic_session.proofs.Told.{all_front, all_is_front, none_sent}
 use Rattle.vic_session.proofs.Extends.{extends_hears}
@@ -40,6 +39,11 @@ fold_more f z (x ∷ xs) y = fold_more f (f z x) xs y
 talk_more : (w : Talker) (script : List ℕ) (taken : List (List ℕ)) (p : List ℕ) → talk w script (taken ++ p ∷ []) ≡ hears w (talk w script taken) p
 unfolding talk
 talk_more w script taken p = fold_more (hears w) (opening w script) taken p
+
+-- one more payload was awaited
+awaited_more : (w : Talker) (t : Talk) (taken : List (List ℕ)) (p : List ℕ) → AllAwaited w t taken → (IsOver (fold (hears w) t taken).doing → ⊥) → AllAwaited w t (taken ++ p ∷ [])
+awaited_more w t [] p all more = (more, tt)
+awaited_more w t (x ∷ taken) p all more = (all.0, awaited_more w (hears w t x) taken p all.1 more)
 
 -- where all of a text was written, a front of one that goes on was
 front_more : (a b : List (List ℕ)) (old new : Option (List ℕ)) → AppendedAll (frames a) old new → AppendedFront (frames (a ++ b)) old new
@@ -59,34 +63,39 @@ module _ (g : Group) (me : ℕ) (script : List ℕ) (old : Told) (start : List �
 
   -- an exchange failed
   failed : (f : WireFault) (new : Told) (stage : Stage) (ps taken : List (List ℕ)) (left printed : List ℕ) → Failed f old new ps left (requests (talker g me script) (talk (talker g me script) script taken) stage)
-      → ((more : List (List ℕ)) → Read stage (ps ++ more) taken more) → IsOwed stage (talk (talker g me script) script taken).doing → (stage ≡ Greets → left ≡ []) → printed ≡ start ++ printed_at stage (talk (talker g me script) script taken)
+      → ((more : List (List ℕ)) → Read stage (ps ++ more) taken more) → AllAwaited (talker g me script) (opening (talker g me script) script) taken → IsAt stage (talk (talker g me script) script taken).doing
+      → IsOwed stage (talk (talker g me script) script taken).doing → (stage ≡ Greets → left ≡ []) → printed ≡ start ++ printed_at stage (talk (talker g me script) script taken)
       → IsSession g me script old start (end_for f) new printed
-  failed fault.Link new stage ps taken left printed x form owed none is = by_cause x.cause
+  failed fault.Link new stage ps taken left printed x form awaited at owed none is = by_cause x.cause
     where
       reads : Read stage (frames_of x.read).0 taken x.more
       reads = subst (λ (l : List (List ℕ)). Read stage l taken x.more) (sym x.in_order) (form x.more)
 
       by_cause : Cause fault.Link old new left (requests (talker g me script) (talk (talker g me script) script taken) stage) x.more (frames_of x.read).1 → IsSession g me script old start ends.LinkFault new printed
-      by_cause (inl c) = record { read = x.read; took = x.took; taken = taken; more = x.more; stage = stage; reads = reads; sent = inl (c.0, c.1.0); prints = is; ends_so = inl (c.0, λ e. c.1.1 (none e)) }
-      by_cause (inr c) = record { read = x.read; took = x.took; taken = taken; more = x.more; stage = stage; reads = reads; sent = inr c.1.0; prints = is; ends_so = inr (c.0, (owed, c.1.1)) }
-  failed fault.Length new stage ps taken left printed x form owed none is = record {
+      by_cause (inl c) = record { read = x.read; took = x.took; taken = taken; more = x.more; stage = stage; reads = reads; awaited = awaited; at = at; sent = inl (c.0, c.1.0); prints = is; ends_so = inl (c.0, λ e. c.1.1 (none e)) }
+      by_cause (inr c) = record { read = x.read; took = x.took; taken = taken; more = x.more; stage = stage; reads = reads; awaited = awaited; at = at; sent = inr c.1.0; prints = is; ends_so = inr (c.0, (owed, c.1.1)) }
+  failed fault.Length new stage ps taken left printed x form awaited at owed none is = record {
     read = x.read;
     took = x.took;
     taken = taken;
     more = x.more;
     stage = stage;
     reads = subst (λ (l : List (List ℕ)). Read stage l taken x.more) (sym x.in_order) (form x.more);
+    awaited = awaited;
+    at = at;
     sent = x.cause.1.0;
     prints = is;
     ends_so = (x.cause.1.1.0, (x.cause.1.1.1, x.cause.0));
   }
-  failed fault.NoMemory new stage ps taken left printed x form owed none is = record {
+  failed fault.NoMemory new stage ps taken left printed x form awaited at owed none is = record {
     read = x.read;
     took = x.took;
     taken = taken;
     more = x.more;
     stage = stage;
     reads = subst (λ (l : List (List ℕ)). Read stage l taken x.more) (sym x.in_order) (form x.more);
+    awaited = awaited;
+    at = at;
     sent = x.cause.1;
     prints = (printed_at stage (talk (talker g me script) script taken), [], (sym (append-nil (printed_at stage (talk (talker g me script) script taken))), is));
     ends_so = x.cause.0;
@@ -94,16 +103,19 @@ module _ (g : Group) (me : ℕ) (script : List ℕ) (old : Told) (start : List �
 
   -- no exchange failed
   ended : (end : SessionEnd) (new : Told) (stage : Stage) (ps taken more sent : List (List ℕ)) (left printed : List ℕ) → Wire old new ps left sent → Read stage (ps ++ (frames_of left).0) taken more
+      → AllAwaited (talker g me script) (opening (talker g me script) script) taken → IsAt stage (talk (talker g me script) script taken).doing
       → (AppendedAll (frames sent) old.written new.written → Sent end (frames (requests (talker g me script) (talk (talker g me script) script taken) stage)) old new)
       → Prints end (printed_at stage (talk (talker g me script) script taken)) start printed
       → ((rest : List ℕ) → new.faults ≡ old.faults → EndsBy end stage (talk (talker g me script) script taken) old new more rest) → IsSession g me script old start end new printed
-  ended end new stage ps taken more sent left printed i reads sends prints so = record {
+  ended end new stage ps taken more sent left printed i reads awaited at sends prints so = record {
     read = i.read;
     took = i.took;
     taken = taken;
     more = more;
     stage = stage;
     reads = subst (λ (l : List (List ℕ)). Read stage l taken more) (sym (ap (λ (x : List (List ℕ) × List ℕ). x.0) (splits_any i.read ps left i.splits))) reads;
+    awaited = awaited;
+    at = at;
     sent = sends i.sends;
     prints = prints;
     ends_so = so (frames_of i.read).1 i.quiet;
@@ -115,13 +127,13 @@ module _ (g : Group) (me : ℕ) (script : List ℕ) (old : Told) (start : List �
   greets_form more = (refl, refl)
 
   unanswered_hello : (end : SessionEnd) (after : List ℕ) (new : Told) → Unanswered (Some (hello (talker g me []))) [] after old new end → IsSession g me script old start end new start
-  unanswered_hello ends.LinkFault after new a = failed fault.Link new Greets [] [] [] start (wire_failed old old [] [] [] (wire_start old) (Some (hello (talker g me []))) fault.Link after new a) greets_form tt (λ e. refl) (sym (append-nil start))
-  unanswered_hello ends.BadFrame after new a = failed fault.Length new Greets [] [] [] start (wire_failed old old [] [] [] (wire_start old) (Some (hello (talker g me []))) fault.Length after new a) greets_form tt (λ e. refl) (sym (append-nil start))
+  unanswered_hello ends.LinkFault after new a = failed fault.Link new Greets [] [] [] start (wire_failed old old [] [] [] (wire_start old) (Some (hello (talker g me []))) fault.Link after new a) greets_form tt tt tt (λ e. refl) (sym (append-nil start))
+  unanswered_hello ends.BadFrame after new a = failed fault.Length new Greets [] [] [] start (wire_failed old old [] [] [] (wire_start old) (Some (hello (talker g me []))) fault.Length after new a) greets_form tt tt tt (λ e. refl) (sym (append-nil start))
   unanswered_hello ends.NoMemory after new (inl same) =
       subst (λ (n : Told). IsSession g me script old start ends.NoMemory n start) (sym same.0)
-      (ended ends.NoMemory old Greets [] [] (frames_of []).0 [] [] start (wire_start old) (greets_form (frames_of []).0) (λ all. front_more [] (hello (talker g me []) ∷ []) old.written old.written all)
+      (ended ends.NoMemory old Greets [] [] (frames_of []).0 [] [] start (wire_start old) (greets_form (frames_of []).0) tt tt (λ all. front_more [] (hello (talker g me []) ∷ []) old.written old.written all)
       ([], [], (refl, sym (append-nil start))) (λ rest quiet. quiet))
-  unanswered_hello ends.NoMemory after new (inr a) = failed fault.NoMemory new Greets [] [] [] start (wire_failed old old [] [] [] (wire_start old) (Some (hello (talker g me []))) fault.NoMemory after new a) greets_form tt (λ e. refl) (sym (append-nil start))
+  unanswered_hello ends.NoMemory after new (inr a) = failed fault.NoMemory new Greets [] [] [] start (wire_failed old old [] [] [] (wire_start old) (Some (hello (talker g me []))) fault.NoMemory after new a) greets_form tt tt tt (λ e. refl) (sym (append-nil start))
   unanswered_hello ends.Ok after new a = absurd a
   unanswered_hello (ends.BadLine n k) after new a = absurd a
   unanswered_hello (ends.Halted k h) after new a = absurd a
@@ -135,12 +147,12 @@ module _ (g : Group) (me : ℕ) (script : List ℕ) (old : Told) (start : List �
 
       by_end : (end : SessionEnd) → JudgedHello p (Err end) → IsSession g me script old start end new start
       by_end (ends.GreetingRefused r) j =
-          ended (ends.GreetingRefused r) new Greets (p ∷ []) [] (p ∷ (frames_of after).0) (hello (talker g me []) ∷ []) after start wire (refl, refl) (λ all. all) (sym (append-nil start)) (λ rest quiet. (refl, ((p, (refl, j)), quiet)))
+          ended (ends.GreetingRefused r) new Greets (p ∷ []) [] (p ∷ (frames_of after).0) (hello (talker g me []) ∷ []) after start wire (refl, refl) tt tt (λ all. all) (sym (append-nil start)) (λ rest quiet. (refl, ((p, (refl, j)), quiet)))
       by_end (ends.Halted k h) j =
-          ended (ends.Halted k h) new Greets (p ∷ []) [] (p ∷ (frames_of after).0) (hello (talker g me []) ∷ []) after start wire (refl, refl) (λ all. all) (sym (append-nil start))
+          ended (ends.Halted k h) new Greets (p ∷ []) [] (p ∷ (frames_of after).0) (hello (talker g me []) ∷ []) after start wire (refl, refl) tt tt (λ all. all) (sym (append-nil start))
           (λ rest quiet. (inr (j.0, (p, (refl, (j.1.0, j.1.1)))), quiet))
       by_end ends.NoMemory j =
-          ended ends.NoMemory new Greets (p ∷ []) [] (p ∷ (frames_of after).0) (hello (talker g me []) ∷ []) after start wire (refl, refl)
+          ended ends.NoMemory new Greets (p ∷ []) [] (p ∷ (frames_of after).0) (hello (talker g me []) ∷ []) after start wire (refl, refl) tt tt
           (λ all. all_is_front (frames (hello (talker g me []) ∷ [])) old.written new.written all) ([], [], (refl, sym (append-nil start))) (λ rest quiet. quiet)
       by_end ends.Ok j = absurd j
       by_end (ends.BadLine n k) j = absurd j
@@ -163,24 +175,24 @@ module _ (g : Group) (me : ℕ) (script : List ℕ) (old : Told) (start : List �
     pub wire : Wire old now (hi ∷ taken) left before
     pub on : On (talker g me script) (talk (talker g me script) script taken) start c p out
     pub doing : IsDoing p.doing (talk (talker g me script) script taken).doing
+    pub awaited : AllAwaited (talker g me script) (opening (talker g me script) script) taken
     pub all : requests (talker g me script) (talk (talker g me script) script taken) Talks ≡ before ++ one_of pending
 
   begin : Talk
-  begin = record fresh { lines = lines_of script }
+  begin = record (fresh at_start) { lines = lines_of script }
 
-  open_same : (x ls : List (List ℕ)) → goes_on (talker g me script) (record fresh { lines = x }) ls ≡ goes_on (talker g me script) fresh ls
+  open_same : (x ls : List (List ℕ)) → goes_on (talker g me script) (record (fresh at_start) { lines = x }) ls ≡ goes_on (talker g me script) (fresh at_start) ls
   unfolding goes_on
   open_same x [] = refl
   open_same x (l ∷ ls) = refl
 
-  open_is : goes_on (talker g me script) (record fresh { lines = lines_of script }) (lines_of script) ≡ talk (talker g me script) script []
+  open_is : goes_on (talker g me script) (record (fresh at_start) { lines = lines_of script }) (lines_of script) ≡ talk (talker g me script) script []
   unfolding talk
   open_is = open_same (lines_of script) (lines_of script)
 
   -- the talk begins
   pub on_begin : (c : Kept) (p : Place) → c.id ≡ me → group_of c ≡ g → StandsFor c at_start → length script ≡ p.total → p.behind ≡ 0 → p.number ≡ 0 → p.rest.now ≡ script
-      → On (talker g me script) (record fresh { lines = lines_of script }) start c p start
-  unfolding standing
+      → On (talker g me script) (record (fresh at_start) { lines = lines_of script }) start c p start
   on_begin c p id group so total behind number rest = record {
     me = id;
     group = group;
@@ -201,9 +213,9 @@ module _ (g : Group) (me : ℕ) (script : List ℕ) (old : Told) (start : List �
     wire_hi = wire_asked old old [] [] [] (wire_start old) (Some (hello (talker g me []))) after greeted.0 now greeted.1.0
 
     pub going_start : (c : Kept) (p : Place) (out : List ℕ) (sent : Option (List ℕ))
-        → GoesTo (talker g me script) (record fresh { lines = lines_of script }) (goes_on (talker g me script) (record fresh { lines = lines_of script }) (lines_of script)) start c p out (Ok sent) → Going now after c p out sent
+        → GoesTo (talker g me script) (record (fresh at_start) { lines = lines_of script }) (goes_on (talker g me script) (record (fresh at_start) { lines = lines_of script }) (lines_of script)) start c p out (Ok sent) → Going now after c p out sent
     going_start c p out sent w =
-        let v = subst (λ (v : Talk). Went (talker g me script) (record fresh { lines = lines_of script }) v start c p out sent) open_is w in
+        let v = subst (λ (v : Talk). Went (talker g me script) (record (fresh at_start) { lines = lines_of script }) v start c p out sent) open_is w in
         record {
           hi = greeted.0;
           hi_is = greeted.1.1;
@@ -212,13 +224,14 @@ module _ (g : Group) (me : ℕ) (script : List ℕ) (old : Told) (start : List �
           wire = wire_hi;
           on = v.on;
           doing = v.doing;
+          awaited = tt;
           all = ap (λ (l : List (List ℕ)). hello (talker g me script) ∷ l) v.sends;
         }
 
-    pub no_start : (out : List ℕ) → PrintsFront start (goes_on (talker g me script) (record fresh { lines = lines_of script }) (lines_of script)) out → IsSession g me script old start ends.NoMemory now out
+    pub no_start : (out : List ℕ) → PrintsFront start (goes_on (talker g me script) (record (fresh at_start) { lines = lines_of script }) (lines_of script)) out → IsSession g me script old start ends.NoMemory now out
     no_start out front =
         let f = subst (λ (v : Talk). PrintsFront start v out) open_is front in
-        ended ends.NoMemory now Talks (greeted.0 ∷ []) [] (frames_of after).0 (hello (talker g me script) ∷ []) after out wire_hi (greeted.0, (greeted.1.1, refl))
+        ended ends.NoMemory now Talks (greeted.0 ∷ []) [] (frames_of after).0 (hello (talker g me script) ∷ []) after out wire_hi (greeted.0, (greeted.1.1, refl)) tt tt
         (λ all. front_more (hello (talker g me script) ∷ []) (sent_in (talk (talker g me script) script []).history) old.written now.written all) f (λ rest quiet. quiet)
 
   module _ (now : Told) (left : List ℕ) (c : Kept) (p : Place) (out : List ℕ) (pending : Option (List ℕ)) (i : Going now left c p out pending) where
@@ -232,7 +245,11 @@ module _ (g : Group) (me : ℕ) (script : List ℕ) (old : Told) (start : List �
     away_form taken more = (i.hi, (i.hi_is, refl))
 
     -- the answer was taken
-    module _ (after payload : List ℕ) (new : Told) (a : Asks pending left after now new (Ok payload)) where
+    module _ (after payload : List ℕ) (new : Told) (busy : IsBusy p.doing) (a : Asks pending left after now new (Ok payload)) where
+      awaited_on : AllAwaited (talker g me script) (opening (talker g me script) script) (i.taken ++ payload ∷ [])
+      unfolding talk
+      awaited_on = awaited_more (talker g me script) (opening (talker g me script) script) i.taken payload i.awaited (owed_busy p.doing (talk (talker g me script) script i.taken).doing busy i.doing)
+
       wire_on : Wire old new (i.hi ∷ i.taken ++ payload ∷ []) after (i.before ++ one_of pending)
       wire_on = wire_asked old now (i.hi ∷ i.taken) left i.before i.wire pending after payload new a
 
@@ -248,6 +265,7 @@ module _ (g : Group) (me : ℕ) (script : List ℕ) (old : Told) (start : List �
             wire = wire_on;
             on = v.on;
             doing = v.doing;
+            awaited = awaited_on;
             all = ap (λ (l : List (List ℕ)). hello (talker g me script) ∷ l) v.sends ∙ ap (λ (l : List (List ℕ)). l ++ one_of sent) i.all;
           }
 
@@ -258,7 +276,7 @@ module _ (g : Group) (me : ℕ) (script : List ℕ) (old : Told) (start : List �
           let is = talk_more (talker g me script) script i.taken payload in
           let all_is : requests (talker g me script) (talk (talker g me script) script (i.taken ++ payload ∷ [])) Talks ≡ (i.before ++ one_of pending) ++ e.sent.0
           = ap (λ (v : Talk). hello (talker g me script) ∷ sent_in v.history) is ∙ ap (λ (l : List (List ℕ)). hello (talker g me script) ∷ l) e.sent.1 ∙ ap (λ (l : List (List ℕ)). l ++ e.sent.0) i.all in
-          ended ends.NoMemory new Talks (i.hi ∷ i.taken ++ payload ∷ []) (i.taken ++ payload ∷ []) (frames_of after).0 (i.before ++ one_of pending) after text wire_on (talks_form (i.taken ++ payload ∷ []) (frames_of after).0)
+          ended ends.NoMemory new Talks (i.hi ∷ i.taken ++ payload ∷ []) (i.taken ++ payload ∷ []) (frames_of after).0 (i.before ++ one_of pending) after text wire_on (talks_form (i.taken ++ payload ∷ []) (frames_of after).0) awaited_on tt
           (λ all. subst (λ (l : List (List ℕ)). AppendedFront (frames l) old.written new.written) (sym all_is) (front_more (i.before ++ one_of pending) e.sent.0 old.written new.written all))
           (subst (λ (v : Talk). PrintsFront start v text) (sym is) front) (λ rest quiet. quiet)
 
@@ -267,12 +285,12 @@ module _ (g : Group) (me : ℕ) (script : List ℕ) (old : Told) (start : List �
     unanswered f after new busy a =
         failed f new Talks (i.hi ∷ i.taken) i.taken left out
         (subst (λ (l : List (List ℕ)). Failed f old new (i.hi ∷ i.taken) left l) (sym i.all) (wire_failed old now (i.hi ∷ i.taken) left i.before i.wire pending f after new a))
-        (talks_form i.taken) (owed_busy p.doing (talk (talker g me script) script i.taken).doing busy i.doing) (λ e. absurd cc) i.on.text
+        (talks_form i.taken) i.awaited tt (owed_busy p.doing (talk (talker g me script) script i.taken).doing busy i.doing) (λ e. absurd cc) i.on.text
 
     -- memory ran out, or it would go on for ever
     pub gives_up : IsSession g me script old start ends.NoMemory now out
     gives_up =
-        ended ends.NoMemory now Talks (i.hi ∷ i.taken) i.taken (frames_of left).0 i.before left out i.wire (talks_form i.taken (frames_of left).0)
+        ended ends.NoMemory now Talks (i.hi ∷ i.taken) i.taken (frames_of left).0 i.before left out i.wire (talks_form i.taken (frames_of left).0) i.awaited tt
         (λ all. subst (λ (l : List (List ℕ)). AppendedFront (frames l) old.written now.written) (sym i.all) (front_more i.before (one_of pending) old.written now.written all))
         ((talk (talker g me script) script i.taken).text, [], (sym (append-nil (talk (talker g me script) script i.taken).text), i.on.text)) (λ rest quiet. quiet)
 
@@ -286,12 +304,12 @@ module _ (g : Group) (me : ℕ) (script : List ℕ) (old : Told) (start : List �
 
       pub bad_line : (k : ℕ) → p.doing ≡ at.Bad k → IsSession g me script old start (ends.BadLine p.number k) now out
       bad_line k e =
-          ended (ends.BadLine p.number k) now Talks (i.hi ∷ i.taken) i.taken (frames_of left).0 i.before left out i.wire (talks_form i.taken (frames_of left).0) sent_so i.on.text
+          ended (ends.BadLine p.number k) now Talks (i.hi ∷ i.taken) i.taken (frames_of left).0 i.before left out i.wire (talks_form i.taken (frames_of left).0) i.awaited tt sent_so i.on.text
           (λ rest quiet. (refl, (subst (λ (a : At). IsDoing a (talk (talker g me script) script i.taken).doing) e i.doing, (sym i.on.number, quiet))))
 
       pub halts : (k : ℕ) (h : _) → p.doing ≡ at.Halts k h → IsSession g me script old start (ends.Halted k h) now out
       halts k h e =
-          ended (ends.Halted k h) now Talks (i.hi ∷ i.taken) i.taken (frames_of left).0 i.before left out i.wire (talks_form i.taken (frames_of left).0) sent_so i.on.text
+          ended (ends.Halted k h) now Talks (i.hi ∷ i.taken) i.taken (frames_of left).0 i.before left out i.wire (talks_form i.taken (frames_of left).0) i.awaited tt sent_so i.on.text
           (λ rest quiet. (inl (refl, subst (λ (a : At). IsDoing a (talk (talker g me script) script i.taken).doing) e i.doing), quiet))
 
       -- ---- the leave
@@ -299,22 +317,25 @@ module _ (g : Group) (me : ℕ) (script : List ℕ) (old : Told) (start : List �
       away_is : requests (talker g me script) (talk (talker g me script) script i.taken) Goes_away ≡ i.before ++ bye ∷ []
       away_is = ap (λ (l : List (List ℕ)). l ++ bye ∷ []) sent_is
 
-      away_failed : (f : WireFault) (after : List ℕ) (new : Told) (text : List ℕ) → text ≡ out → Asks (Some bye) left after now new (Err f) → IsSession g me script old start (end_for f) new text
-      away_failed f after new text same a =
+      away_at : p.doing ≡ at.Leaves → (talk (talker g me script) script i.taken).doing ≡ Leaves
+      away_at leaves = subst (λ (a : At). IsDoing a (talk (talker g me script) script i.taken).doing) leaves i.doing
+
+      away_failed : p.doing ≡ at.Leaves → (f : WireFault) (after : List ℕ) (new : Told) (text : List ℕ) → text ≡ out → Asks (Some bye) left after now new (Err f) → IsSession g me script old start (end_for f) new text
+      away_failed leaves f after new text same a =
           failed f new Goes_away (i.hi ∷ i.taken) i.taken left text
           (subst (λ (l : List (List ℕ)). Failed f old new (i.hi ∷ i.taken) left l) (sym away_is) (wire_failed old now (i.hi ∷ i.taken) left i.before i.wire (Some bye) f after new a))
-          (away_form i.taken) tt (λ e. absurd cc) (same ∙ i.on.text)
+          (away_form i.taken) i.awaited (away_at leaves) tt (λ e. absurd cc) (same ∙ i.on.text)
 
-      away_unanswered : (end : SessionEnd) (after : List ℕ) (new : Told) (text : List ℕ) → PrintsBye end out text → Unanswered (Some bye) left after now new end → IsSession g me script old start end new text
-      away_unanswered ends.LinkFault after new text same a = away_failed fault.Link after new text same a
-      away_unanswered ends.BadFrame after new text same a = away_failed fault.Length after new text same a
-      away_unanswered ends.NoMemory after new text same (inl s) =
+      away_unanswered : p.doing ≡ at.Leaves → (end : SessionEnd) (after : List ℕ) (new : Told) (text : List ℕ) → PrintsBye end out text → Unanswered (Some bye) left after now new end → IsSession g me script old start end new text
+      away_unanswered leaves ends.LinkFault after new text same a = away_failed leaves fault.Link after new text same a
+      away_unanswered leaves ends.BadFrame after new text same a = away_failed leaves fault.Length after new text same a
+      away_unanswered leaves ends.NoMemory after new text same (inl s) =
           subst (λ (l : List ℕ). IsSession g me script old start ends.NoMemory new l) (sym same) (subst (λ (n : Told). IsSession g me script old start ends.NoMemory n out) (sym s.0) gives_up)
-      away_unanswered ends.NoMemory after new text same (inr a) = away_failed fault.NoMemory after new text same a
-      away_unanswered ends.Ok after new text same a = absurd a
-      away_unanswered (ends.BadLine n k) after new text same a = absurd a
-      away_unanswered (ends.Halted k h) after new text same a = absurd a
-      away_unanswered (ends.GreetingRefused r) after new text same a = absurd a
+      away_unanswered leaves ends.NoMemory after new text same (inr a) = away_failed leaves fault.NoMemory after new text same a
+      away_unanswered leaves ends.Ok after new text same a = absurd a
+      away_unanswered leaves (ends.BadLine n k) after new text same a = absurd a
+      away_unanswered leaves (ends.Halted k h) after new text same a = absurd a
+      away_unanswered leaves (ends.GreetingRefused r) after new text same a = absurd a
 
       module _ (leaves : p.doing ≡ at.Leaves) (after payload : List ℕ) (new : Told) (text : List ℕ) (a : Asks (Some bye) left after now new (Ok payload)) where
         wire_away : Wire old new (i.hi ∷ i.taken ++ payload ∷ []) after (i.before ++ bye ∷ [])
@@ -328,14 +349,14 @@ module _ (g : Group) (me : ℕ) (script : List ℕ) (old : Told) (start : List �
 
         away_judged : (end : SessionEnd) → PrintsBye end out text → JudgedBye payload end → IsSession g me script old start end new text
         away_judged ends.Ok same j =
-            ended ends.Ok new Goes_away (i.hi ∷ i.taken ++ payload ∷ []) i.taken (payload ∷ (frames_of after).0) (i.before ++ bye ∷ []) after text wire_away read_away sent_away
+            ended ends.Ok new Goes_away (i.hi ∷ i.taken ++ payload ∷ []) i.taken (payload ∷ (frames_of after).0) (i.before ++ bye ∷ []) after text wire_away read_away i.awaited (away_at leaves) sent_away
             (same ∙ ap (λ (l : List ℕ). l ++ codes "bye" ++ newline) i.on.text)
-            (λ rest quiet. (refl, (subst (λ (a : At). IsDoing a (talk (talker g me script) script i.taken).doing) leaves i.doing, ((payload, (refl, j)), quiet))))
+            (λ rest quiet. (refl, (away_at leaves, ((payload, (refl, j)), quiet))))
         away_judged (ends.Halted k h) same j =
-            ended (ends.Halted k h) new Goes_away (i.hi ∷ i.taken ++ payload ∷ []) i.taken (payload ∷ (frames_of after).0) (i.before ++ bye ∷ []) after text wire_away read_away sent_away (same ∙ i.on.text)
+            ended (ends.Halted k h) new Goes_away (i.hi ∷ i.taken ++ payload ∷ []) i.taken (payload ∷ (frames_of after).0) (i.before ++ bye ∷ []) after text wire_away read_away i.awaited (away_at leaves) sent_away (same ∙ i.on.text)
             (λ rest quiet. (inr (j.0, (payload, (refl, (j.1.0, j.1.1)))), quiet))
         away_judged ends.NoMemory same j =
-            ended ends.NoMemory new Goes_away (i.hi ∷ i.taken ++ payload ∷ []) i.taken (payload ∷ (frames_of after).0) (i.before ++ bye ∷ []) after text wire_away read_away
+            ended ends.NoMemory new Goes_away (i.hi ∷ i.taken ++ payload ∷ []) i.taken (payload ∷ (frames_of after).0) (i.before ++ bye ∷ []) after text wire_away read_away i.awaited (away_at leaves)
             (λ all. all_is_front (frames (requests (talker g me script) (talk (talker g me script) script i.taken) Goes_away)) old.written new.written (sent_away all))
             ((talk (talker g me script) script i.taken).text, [], (sym (append-nil (talk (talker g me script) script i.taken).text), same ∙ i.on.text)) (λ rest quiet. quiet)
         away_judged (ends.BadLine n k) same j = absurd j
@@ -347,10 +368,18 @@ module _ (g : Group) (me : ℕ) (script : List ℕ) (old : Told) (start : List �
       parted leaves end after new text l = by_part l.1
         where
           by_part : Parted left after now new end → IsSession g me script old start end new text
-          by_part (inl a) = away_unanswered end after new text l.0 a
+          by_part (inl a) = away_unanswered leaves end after new text l.0 a
           by_part (inr a) = away_judged leaves after a.0 new text a.1.0 end l.0 a.1.1
 
 -- the answer to Hello was judged
 pub greeted_of : (g : Group) (me : ℕ) (before after p : List ℕ) (old new : Told) (r : Result (Unit {0}) SessionEnd) → Asks (Some (hello (talker g me []))) before after old new (Ok p) → JudgedHello p r → Greeted g me before after old new r
 greeted_of g me before after p old new (Ok u) a j = (p, (a, j))
 greeted_of g me before after p old new (Err end) a j = inr (p, (a, j))
+
+-- a session that isn't greeted doesn't end well
+pub not_well : (g : Group) (me : ℕ) (before after : List ℕ) (old new : Told) (end : SessionEnd) → end ≡ ends.Ok → Greeted g me before after old new (Err end) → ⊥
+not_well g me before after old new end e greeted = by_cause (subst (λ (x : SessionEnd). Greeted g me before after old new (Err x)) e greeted)
+  where
+    by_cause : Greeted g me before after old new (Err ends.Ok) → ⊥
+    by_cause (inl a) = a
+    by_cause (inr a) = a.1.1

@@ -1,5 +1,5 @@
 -- What a step of a client leaves: where it stands, and what it has sent.
-use Rattle.std.proofs.Common.{◌≡◌, ℕ, Bool, false, List, [], ◌∷◌, ◌++◌, reverse, Option, Some, None, if◌then◌else◌, eq-eqb, refl, sym, ap, ◌∙◌, append-nil}
+use Rattle.std.proofs.Common.{◌≡◌, ℕ, Bool, false, List, [], ◌∷◌, ◌++◌, reverse, Option, Some, None, refl, sym, ap, ◌∙◌, append-nil}
 use Rattle.std.specs.List.{flat_map}
 use Rattle.std.proofs.lemmas.Grind.{flat_map-append}
 use Rattle.std.proofs.lemmas.List.{reverse-append}
@@ -17,17 +17,16 @@ use Rattle.vic_rules.specs.declared.trace.Input.{Input}
 use Rattle.vic_rules.specs.declared.trace.Input.TheVariants as input
 use Rattle.vic_rules.specs.declared.trace.TraceStep.{TraceStep}
 use Rattle.vic_rules.specs.Client.{Standing, Move, Sending, step, payload_of, awaits_nothing, halts, grown, replied, updated, taken, taken_or_halts, on_payload, verdict}
-use Rattle.vic_rules.specs.History.{standing}
-use Rattle.vic_session.specs.Talks.{Talk, Talker, stands, steps, one_of, sent_in}
+use Rattle.vic_session.specs.Talks.{Talk, Talker, steps, one_of, sent_in}
 
 -- where the client stands after a step
-pub standing_step : (w : Talker) (t : Talk) (given : Input) → stands w (steps w t given) ≡ (step w.group w.me (stands w t) given).next
-unfolding steps standing
-standing_step w t given = ap (λ (b : Bool). if b then (step w.group w.me (stands w t) given).next else stands w t) (eq-eqb w.me w.me refl)
+pub standing_step : (w : Talker) (t : Talk) (given : Input) → (steps w t given).now ≡ (step w.group w.me t.now given).next
+unfolding steps
+standing_step w t given = refl
 
 -- the move of a step
 abbrev pub moved : Talker → Talk → Input → Move
-moved w t given = step w.group w.me (stands w t) given
+moved w t given = step w.group w.me t.now given
 
 -- what was sent, with a step more
 pub sent_more : (x : TraceStep) (h : List TraceStep) → sent_in (x ∷ h) ≡ sent_in h ++ one_of x.sent

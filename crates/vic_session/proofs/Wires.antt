@@ -4,7 +4,7 @@ use Rattle.std.proofs.lemmas.Grind.{flat_map-append}
 use Rattle.vic_conn.specs.Frames.{Waits, Broken, front_of, frame_text, frames_of}
 use Rattle.vic_conn.proofs.Growing.{stays}
 use Rattle.vic_conn.proofs.Pieces.{one_by_one}
-use Rattle.vic_ports.specs.Causes.{Rose, LeavesBehind}
+use Rattle.vic_ports.specs.Causes.{Rose, LeavesBehind, IsSpent}
 use Rattle.vic_ports.specs.Written.{AppendedAll, AppendedFront}
 use Rattle.vic_ports.specs.Links.{Told}
 use Rattle.vic_session.specs.declared.wire.WireFault.{WireFault}
@@ -35,7 +35,7 @@ splits_any all ps left s = ap frames_of (sym (append-nil all)) ∙ s.so [] ∙ a
 abbrev pub Cause : WireFault → Told → Told → List ℕ → List (List ℕ) → List (List ℕ) → List ℕ → Type 0
 Cause fault.Link old new left requests more rest =
     (Rose old.faults new.faults × (AppendedFront (frames requests) old.written new.written × (left ≡ [] → more ≡ [])))
-    ⊎ ((new.faults ≡ old.faults) × (AppendedAll (frames requests) old.written new.written × ((more ≡ []) × ((new.ended ≡ true) × (front_of rest ≡ Waits)))))
+    ⊎ ((new.faults ≡ old.faults) × (AppendedAll (frames requests) old.written new.written × ((more ≡ []) × (((new.ended ≡ true) × IsSpent new.left) × (front_of rest ≡ Waits)))))
 Cause fault.Length old new left requests more rest = (new.faults ≡ old.faults) × (AppendedAll (frames requests) old.written new.written × ((more ≡ []) × ((n : ℕ) × (front_of rest ≡ Broken n))))
 Cause fault.NoMemory old new left requests more rest = (new.faults ≡ old.faults) × AppendedFront (frames requests) old.written new.written
 
@@ -115,7 +115,7 @@ module _ (old now : Told) (ps : List (List ℕ)) (left : List ℕ) (sent : List 
       all : AppendedAll (frames (sent ++ one_of request)) old.written new.written
       all = subst (λ (l : Option (List ℕ)). AppendedAll (frames (sent ++ one_of request)) old.written l) (sym r.1.1.0) (sent_all mid s.0)
 
-      by_cause : Rose mid.faults new.faults ⊎ ((new.ended ≡ true) × (new.faults ≡ mid.faults)) → Failed fault.Link old new ps left (sent ++ one_of request)
+      by_cause : Rose mid.faults new.faults ⊎ (((new.ended ≡ true) × IsSpent new.left) × (new.faults ≡ mid.faults)) → Failed fault.Link old new ps left (sent ++ one_of request)
       by_cause (inl rose) =
           unread fault.Link mid new r.0 s.1.0 r.1.0 (splits_waits one_by_one (i.read ++ r.0) ps (left ++ r.0) (splits_fed i.read ps left r.0 i.splits) r.1.1.1.0)
           (inl (subst (λ (n : ℕ). Rose n new.faults) (s.1.1 ∙ i.quiet) rose, (all_is_front (frames (sent ++ one_of request)) old.written new.written all, λ e. refl)))

@@ -8,9 +8,9 @@ use Rattle.vic_script.specs.Words.{newline}
 use Rattle.vic_session.specs.declared.wire.WireFault.TheVariants as fault
 use Rattle.vic_session.specs.declared.end.SessionEnd.{SessionEnd}
 use Rattle.vic_session.specs.declared.end.SessionEnd.TheVariants as ends
-use Rattle.vic_session.specs.Talks.{talker}
+use Rattle.vic_session.specs.Talks.{talker, digest_of}
 use Rattle.vic_session.specs.Wires.{Asks}
-use Rattle.vic_session.specs.Sessions.{hello, bye, digest_of}
+use Rattle.vic_session.specs.Sessions.{hello, bye}
 
 -- what the first answer comes to
 abbrev pub JudgedHello : List ℕ → Result (Unit {0}) SessionEnd → Type 0

@@ -1,21 +1,20 @@
 -- What a session over a link did: the talk between its greeting and its leave, the frames that it sent, and why it ended.
 use Rattle.std.specs.Prelude.{◌≡◌, ◌⊎◌, ℕ, List, [], ◌∷◌, ◌++◌, Option, Some, None, true, codes}
 use Rattle.std.specs.List.{flat_map}
-use Rattle.vic_wire.specs.Texts.{content_text}
-use Rattle.vic_wire.specs.Hashes.{Group, hash}
+use Rattle.vic_wire.specs.Hashes.{Group}
 use Rattle.vic_wire.specs.declared.message.ToServer.TheVariants as ask
 use Rattle.vic_wire.specs.declared.message.ToClient.{ToClient}
 use Rattle.vic_wire.specs.declared.message.ToClient.TheVariants as say
 use Rattle.vic_wire.specs.Messages.{request_text}
 use Rattle.vic_wire.specs.Reading.{read_answer}
 use Rattle.vic_conn.specs.Frames.{Waits, Broken, front_of, frame_text, frames_of}
-use Rattle.vic_ports.specs.Causes.{Rose, LeavesBehind}
+use Rattle.vic_ports.specs.Causes.{Rose, LeavesBehind, IsSpent}
 use Rattle.vic_ports.specs.Written.{AppendedAll, AppendedFront}
 use Rattle.vic_ports.specs.Links.{Told}
 use Rattle.vic_script.specs.Words.{newline}
 use Rattle.vic_session.specs.declared.end.SessionEnd.{SessionEnd}
 use Rattle.vic_session.specs.declared.end.SessionEnd.TheVariants as ends
-use Rattle.vic_session.specs.Talks.{Talk, Talker, Doing, Leaves, Bad, Halts, talk, talker, sent_in}
+use Rattle.vic_session.specs.Talks.{Talk, Talker, Doing, Leaves, Bad, Halts, hears, opening, talk, talker, sent_in, digest_of}
 
 -- how far a session came: it greeted; it was answered by Hi and talks; or it said that it leaves
 pub data Stage : Type 0 where
@@ -43,10 +42,6 @@ abbrev pub Read : Stage → List (List ℕ) → List (List ℕ) → List (List �
 Read Greets payloads taken more = (taken ≡ []) × (payloads ≡ more)
 Read Talks payloads taken more = (hi : List ℕ) × ((read_answer hi ≡ Some say.Hi) × (payloads ≡ hi ∷ taken ++ more))
 Read Goes_away payloads taken more = (hi : List ℕ) × ((read_answer hi ≡ Some say.Hi) × (payloads ≡ hi ∷ taken ++ more))
-
--- the first answer is owed, and is none of these
-abbrev pub digest_of : List ℕ → List ℕ
-digest_of payload = hash (content_text payload)
 
 abbrev pub first_of : List (List ℕ) → Option (List ℕ)
 first_of [] = None
@@ -77,9 +72,20 @@ IsOwed Greets doing = Unit {0}
 IsOwed Talks doing = IsOver doing → ⊥
 IsOwed Goes_away doing = Unit {0}
 
--- the link ended while an answer was owed
+-- each payload was taken where one was awaited
+abbrev pub AllAwaited : Talker → Talk → List (List ℕ) → Type 0
+AllAwaited w t [] = Unit {0}
+AllAwaited w t (p ∷ ps) = (IsOver t.doing → ⊥) × AllAwaited w (hears w t p) ps
+
+-- it goes away only where every line was done
+abbrev pub IsAt : Stage → Doing → Type 0
+IsAt Greets doing = Unit {0}
+IsAt Talks doing = Unit {0}
+IsAt Goes_away doing = doing ≡ Leaves
+
+-- the link ended, with nothing left to read, while an answer was owed
 abbrev pub IsCutOff : Stage → Doing → Told → List (List ℕ) → List ℕ → Type 0
-IsCutOff stage doing new more rest = IsOwed stage doing × ((more ≡ []) × ((new.ended ≡ true) × (front_of rest ≡ Waits)))
+IsCutOff stage doing new more rest = IsOwed stage doing × ((more ≡ []) × (((new.ended ≡ true) × IsSpent new.left) × (front_of rest ≡ Waits)))
 
 -- why a session ended: of its stage, of what the talk is at, of what the link tells before and after, of the whole frames read
 -- besides, and of the bytes behind them
@@ -119,6 +125,8 @@ pub record IsSession (g : Group) (me : ℕ) (script : List ℕ) (old : Told) (ou
   pub more : List (List ℕ)
   pub stage : Stage
   pub reads : Read stage (frames_of read).0 taken more
+  pub awaited : AllAwaited (talker g me script) (opening (talker g me script) script) taken
+  pub at : IsAt stage (talk (talker g me script) script taken).doing
   pub sent : Sent end (frames (requests (talker g me script) (talk (talker g me script) script taken) stage)) old new
   pub prints : Prints end (printed_at stage (talk (talker g me script) script taken)) out printed
   pub ends_so : EndsBy end stage (talk (talker g me script) script taken) old new more (frames_of read).1

@@ -5,13 +5,12 @@ use Rattle.vic_rules.specs.declared.trace.Input.TheVariants as input
 use Rattle.vic_rules.specs.Client.{Standing, step, payload_of}
 use Rattle.vic_client.specs.declared.step.Step.{Step}
 use Rattle.vic_client.specs.Kept.{Kept, StandsFor, group_of}
+use Rattle.vic_client.specs.Pending.{FitsFrame}
 use Rattle.vic_script.specs.Lines.{lines_of}
 use Rattle.vic_script.specs.Run.{limit}
 use Rattle.vic_dict.specs.declared.op.Mode.{Mode}
 use Rattle.vic_dict.specs.declared.op.Mode.TheVariants as mode
 use Rattle.vic_dict.specs.Dictionary.{Fits}
-use Rattle.vic_wire.specs.Texts.{content_text}
-use Rattle.vic_wire.specs.Hashes.{hash}
 use Rattle.vic_dict.specs.declared.bytes.NoMemory.{NoMemory}
 use Rattle.vic_text.specs.declared.client_line.ClientLine.{ClientLine}
 use Rattle.vic_text.specs.declared.client_line.ClientLine.TheVariants as line
@@ -20,11 +19,7 @@ use Rattle.vic_session.specs.declared.place.At.TheVariants as at
 use Rattle.vic_session.specs.declared.place.Place.{Place}
 use Rattle.vic_session.specs.declared.lines.Begun.{Begun}
 use Rattle.vic_session.specs.declared.lines.Begun.TheVariants as begun
-use Rattle.vic_session.specs.Talks.{Talk, Talker, Doing, Calls, Tells, Settles, Leaves, Bad, Halts, stands, steps, asks, begins, goes_on, one_of, sent_in}
-
--- the hash that is told of a payload
-abbrev pub digest_of : List ℕ → List ℕ
-digest_of payload = hash (content_text payload)
+use Rattle.vic_session.specs.Talks.{Talk, Talker, Doing, Calls, Tells, Settles, Leaves, Bad, Halts, steps, asks, begins, goes_on, one_of, sent_in, digest_of}
 
 abbrev pub IsDoing : At → Doing → Type 0
 IsDoing at.Calls d = d ≡ Calls
@@ -38,12 +33,12 @@ IsDoing (at.Halts k h) d = (payload : List ℕ) × ((d ≡ Halts k payload) × (
 abbrev pub IsWithin : Place → Type 0
 IsWithin p = (p.behind + length p.rest.now ≡ p.total) × ((p.number ≤ p.behind) × (p.behind ≤ limit))
 
--- it is, where lines are still to come
+-- it is, where lines are still to come; where every line was done, so is the script
 abbrev pub IsFine : At → Place → Type 0
 IsFine at.Calls p = IsWithin p
 IsFine at.Tells p = IsWithin p
 IsFine (at.Settles n) p = IsWithin p
-IsFine at.Leaves p = Unit {0}
+IsFine at.Leaves p = p.total ≤ limit
 IsFine (at.Bad k) p = Unit {0}
 IsFine (at.Halts k h) p = Unit {0}
 
@@ -64,8 +59,8 @@ Stands c number = (s : Standing) × (StandsFor c s × (s.calls ≤ number))
 pub record On (w : Talker) (t : Talk) (start : List ℕ) (c : Kept) (p : Place) (out : List ℕ) : Type 0 where
   pub me : c.id ≡ w.me
   pub group : group_of c ≡ w.group
-  pub stands_so : StandsFor c (stands w t)
-  pub few : (stands w t).calls ≤ p.number
+  pub stands_so : StandsFor c t.now
+  pub few : t.now.calls ≤ p.number
   pub total : w.total ≡ p.total
   pub number : t.number ≡ p.number
   pub behind : t.behind ≡ p.behind
@@ -119,6 +114,12 @@ Lined w t start c p out begun.Next = Led w t start c p out
 Lined w t start c p out (begun.Asks sent doing) = Went w t (goes_on w t t.lines) start c p out (Some sent)
 Lined w t start c p out begun.Bad = Went w t (goes_on w t t.lines) start c p out None
 
+-- what is sent fits a frame
+abbrev pub FitsIn : Begun → Type 0
+FitsIn begun.Next = Unit {0}
+FitsIn (begun.Asks sent doing) = FitsFrame sent
+FitsIn begun.Bad = Unit {0}
+
 -- where lines are still to come, the place is within the limit
 abbrev pub LinedAt : Begun → Place → Type 0
 LinedAt begun.Next p = IsWithin p
@@ -138,13 +139,13 @@ MaySend (at.Halts k h) sent = sent ≡ None
 pub record Heard (w : Talker) (t : Talk) (start payload : List ℕ) (r : Step) (c : Kept) (p : Place) (out : List ℕ) : Type 0 where
   pub me : c.id ≡ w.me
   pub group : group_of c ≡ w.group
-  pub stands_so : StandsFor c (stands w (steps w t (input.Payload payload)))
-  pub few : (stands w t).calls ≤ p.number
+  pub stands_so : StandsFor c (steps w t (input.Payload payload)).now
+  pub few : t.now.calls ≤ p.number
   pub total : w.total ≡ p.total
   pub number : t.number ≡ p.number
   pub behind : t.behind ≡ p.behind
   pub lines : t.lines ≡ lines_of p.rest.now
   pub text : out ≡ start ++ t.text
   pub doing : IsDoing p.doing t.doing
-  pub send : r.send ≡ payload_of w.group w.me (step w.group w.me (stands w t) (input.Payload payload)).next (step w.group w.me (stands w t) (input.Payload payload)).sends
-  pub returned : r.returned ≡ (step w.group w.me (stands w t) (input.Payload payload)).returns
+  pub send : r.send ≡ payload_of w.group w.me (step w.group w.me t.now (input.Payload payload)).next (step w.group w.me t.now (input.Payload payload)).sends
+  pub returned : r.returned ≡ (step w.group w.me t.now (input.Payload payload)).returns

@@ -3,12 +3,12 @@ use Rattle.std.specs.Prelude.{ℕ, zero, suc, ◌+◌, ◌&&◌, Bool, List, [],
 use Rattle.std.specs.Fmt.{decimal}
 use Rattle.std.specs.List.{flat_map}
 use Rattle.vic_dict.specs.declared.op.Outcome.{Outcome}
-use Rattle.vic_wire.specs.Hashes.{Group}
+use Rattle.vic_wire.specs.Texts.{content_text}
+use Rattle.vic_wire.specs.Hashes.{Group, hash}
 use Rattle.vic_rules.specs.declared.trace.Input.{Input}
 use Rattle.vic_rules.specs.declared.trace.Input.TheVariants as input
 use Rattle.vic_rules.specs.declared.trace.TraceStep.{TraceStep}
-use Rattle.vic_rules.specs.Client.{Standing, step, payload_of, awaits_nothing}
-use Rattle.vic_rules.specs.History.{standing}
+use Rattle.vic_rules.specs.Client.{Standing, at_start, step, payload_of, awaits_nothing}
 use Rattle.vic_script.specs.Words.{outcome_words, newline}
 use Rattle.vic_script.specs.Lines.{lines_of}
 use Rattle.vic_script.specs.Run.{limit, place_behind}
@@ -26,9 +26,10 @@ pub data Doing : Type 0 where
   Bad : (kind : ℕ) → Doing
   Halts : (check : ℕ) (payload : List ℕ) → Doing
 
--- the client's steps (the newest first), what was printed, what it is at, the number of the line that it is at, from 1 on, the
--- bytes of the script up to the end of that line, and the lines behind it
+-- where the client stands, its steps (the newest first), what was printed, what it is at, the number of the line that it is at,
+-- from 1 on, the bytes of the script up to the end of that line, and the lines behind it
 pub record Talk : Type 0 where
+  pub now : Standing
   pub history : List TraceStep
   pub text : List ℕ
   pub doing : Doing
@@ -36,30 +37,28 @@ pub record Talk : Type 0 where
   pub behind : ℕ
   pub lines : List (List ℕ)
 
--- who talks: a group, a client of it, and the length of its script
+-- who talks: a group, a client of it, where it stands at the beginning, and the length of its script
 pub record Talker : Type 0 where
   pub group : Group
   pub me : ℕ
+  pub from : Standing
   pub total : ℕ
 
-abbrev pub stands : Talker → Talk → Standing
-stands w t = standing w.group w.me t.history
-
-abbrev pub unsettled : Talker → Talk → ℕ
-unsettled w t = length (stands w t).own
+abbrev pub unsettled : Talk → ℕ
+unsettled t = length t.now.own
 
 -- `state sealed S length L unsettled U`
 abbrev pub state_line : Standing → List ℕ
 state_line s = codes "state sealed " ++ decimal s.sealed ++ codes " length " ++ decimal (length s.path) ++ codes " unsettled " ++ decimal (length s.own) ++ newline
 
-abbrev pub tells_state : Talker → Talk → Talk
-tells_state w t = record t { text = t.text ++ state_line (stands w t) }
+abbrev pub tells_state : Talk → Talk
+tells_state t = record t { text = t.text ++ state_line t.now }
 
 -- the client makes a step
 unfoldable pub steps : Talker → Talk → Input → Talk
 steps w t given =
-    let v = step w.group w.me (stands w t) given in
-    record t { history = record { client = w.me; input = given; sent = payload_of w.group w.me v.next v.sends; returned = v.returns } ∷ t.history }
+    let v = step w.group w.me t.now given in
+    record t { now = v.next; history = record { client = w.me; input = given; sent = payload_of w.group w.me v.next v.sends; returned = v.returns } ∷ t.history }
 
 -- it is asked for something, and is at it
 abbrev pub asks : Talker → Talk → Input → Doing → Talk
@@ -74,8 +73,8 @@ begins w t (Some line.Skip) next = next t
 begins w t (Some (line.Call o)) next = asks w t (input.Call o) Calls
 begins w t (Some line.Poll) next = asks w t input.Poll Tells
 begins w t (Some line.Sync) next = asks w t input.Sync Tells
-begins w t (Some (line.Settle zero)) next = next (tells_state w t)
-begins w t (Some (line.Settle (suc n))) next = if nat_eq (unsettled w t) 0 then next (tells_state w t) else asks w t input.Poll (Settles n)
+begins w t (Some (line.Settle zero)) next = next (tells_state t)
+begins w t (Some (line.Settle (suc n))) next = if nat_eq (unsettled t) 0 then next (tells_state t) else asks w t input.Poll (Settles n)
 
 -- the client is idle: the next line is begun, or it leaves. A line that reaches past the limit is bad by kind 7, before all else
 unfoldable pub goes_on : Talker → Talk → List (List ℕ) → Talk
@@ -91,9 +90,9 @@ goes_on w t (text ∷ texts) =
 -- what the client is at is over
 abbrev pub ends_line : Talker → Talk → Doing → Talk
 ends_line w t Calls = goes_on w t t.lines
-ends_line w t Tells = let u = tells_state w t in goes_on w u u.lines
-ends_line w t (Settles zero) = let u = tells_state w t in goes_on w u u.lines
-ends_line w t (Settles (suc n)) = if nat_eq (unsettled w t) 0 then (let u = tells_state w t in goes_on w u u.lines) else asks w t input.Poll (Settles n)
+ends_line w t Tells = let u = tells_state t in goes_on w u u.lines
+ends_line w t (Settles zero) = let u = tells_state t in goes_on w u u.lines
+ends_line w t (Settles (suc n)) = if nat_eq (unsettled t) 0 then (let u = tells_state t in goes_on w u u.lines) else asks w t input.Poll (Settles n)
 ends_line w t doing = t
 
 abbrev pub is_idle : Standing → Bool
@@ -112,32 +111,37 @@ outcome_line None (Some o) = outcome_words o ++ newline
 
 abbrev pub goes_from : Talker → Talk → List ℕ → Option ℕ → Talk
 goes_from w t payload (Some check) = record t { doing = Halts check payload }
-goes_from w t payload None = if is_idle (stands w t) then ends_line w t t.doing else t
+goes_from w t payload None = if is_idle t.now then ends_line w t t.doing else t
 
 -- it takes a payload
 unfoldable pub hears : Talker → Talk → List ℕ → Talk
 hears w t payload =
     let u = steps w t (input.Payload payload) in
-    let halted = (stands w u).halted in
+    let halted = u.now.halted in
     goes_from w (record u { text = u.text ++ outcome_line halted (returned_in u.history) }) payload halted
 
 -- ---- the whole
 
-abbrev pub fresh : Talk
-fresh = record { history = []; text = []; doing = Leaves; number = 0; behind = 0; lines = [] }
+abbrev pub fresh : Standing → Talk
+fresh s = record { now = s; history = []; text = []; doing = Leaves; number = 0; behind = 0; lines = [] }
 
 -- the talk over a script, once the client was greeted
 abbrev pub opening : Talker → List ℕ → Talk
-opening w script = goes_on w fresh (lines_of script)
+opening w script = goes_on w (fresh w.from) (lines_of script)
 
 -- and after it took payloads, the oldest first
 unfoldable pub talk : Talker → List ℕ → List (List ℕ) → Talk
 talk w script payloads = fold (hears w) (opening w script) payloads
 
+-- a client that has done nothing yet
 abbrev pub talker : Group → ℕ → List ℕ → Talker
-talker g me script = record { group = g; me = me; total = length script }
+talker g me script = record { group = g; me = me; from = at_start; total = length script }
 
--- ---- what is sent
+-- ---- what is told and sent
+
+-- the hash that is told of the payload at which a client halted
+abbrev pub digest_of : List ℕ → List ℕ
+digest_of payload = hash (content_text payload)
 
 abbrev pub one_of : {A : Type 0} → Option A → List A
 one_of None = []

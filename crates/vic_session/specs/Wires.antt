@@ -2,7 +2,7 @@
 use Rattle.std.specs.Prelude.{◌≡◌, ◌⊎◌, ℕ, List, ◌++◌, Option, true, Result, Ok, Err}
 use Rattle.std.specs.List.{flat_map}
 use Rattle.vic_conn.specs.Frames.{Waits, Whole, Broken, front_of, frame_text}
-use Rattle.vic_ports.specs.Causes.{Rose, LeavesBehind}
+use Rattle.vic_ports.specs.Causes.{Rose, LeavesBehind, IsSpent}
 use Rattle.vic_ports.specs.Written.{AppendedAll, AppendedFront}
 use Rattle.vic_ports.specs.Links.{Told}
 use Rattle.vic_session.specs.Talks.{one_of}
@@ -22,7 +22,7 @@ SendsText text old (Err fault.NoMemory) new = AppendedFront text old.written new
 
 -- why no frame came, of what the link tells before and after and of the bytes that are left
 abbrev pub StopsBy : WireFault → Told → Told → List ℕ → Type 0
-StopsBy fault.Link old new left = (front_of left ≡ Waits) × (Rose old.faults new.faults ⊎ ((new.ended ≡ true) × (new.faults ≡ old.faults)))
+StopsBy fault.Link old new left = (front_of left ≡ Waits) × (Rose old.faults new.faults ⊎ (((new.ended ≡ true) × IsSpent new.left) × (new.faults ≡ old.faults)))
 StopsBy fault.Length old new left = ((n : ℕ) × (front_of left ≡ Broken n)) × (new.faults ≡ old.faults)
 StopsBy fault.NoMemory old new left = new.faults ≡ old.faults
 

@@ -2,9 +2,11 @@
 #![tactic(auto)]
 
 pub mod end;
+pub mod laws;
 mod lines;
 mod place;
 mod run;
+mod stepping;
 mod wire;
 
 pub use end::SessionEnd;

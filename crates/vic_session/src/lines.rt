@@ -1,16 +1,18 @@
 //! The lines of a client's script, each begun and ended.
 
-ghost use Rattle.std.specs.Prelude.{◌≡◌, ◌<◌, ◌≤◌, ◌+◌, ◌^◌, ◌++◌, List, Some, None, ℕ, length, OnOk, OnErr, IfOk, IsTrue};
+ghost use Rattle.std.specs.Prelude.{◌≡◌, ◌<◌, ◌≤◌, ◌+◌, ◌^◌, ◌++◌, List, Some, None, ℕ, length, OnOk, OnErr, IfOk, IfSome, IsTrue};
 ghost use Rattle.vic_rules.specs.Client.{Standing};
 ghost use Rattle.vic_client.specs.Kept.{StandsFor, is_idle};
+ghost use Rattle.vic_client.specs.Pending.{FitsFrame};
 ghost use Rattle.vic_dict.specs.declared.op.Mode.{Mode as AMode};
 ghost use Rattle.vic_text.specs.ClientLines.{client_line_of};
-ghost use Rattle.vic_session.specs.Talks.{outcome_line, returned_in, Talk, Talker, state_line, goes_on, ends_line, hears, stands, asks, tells_state, Settles};
+ghost use Rattle.vic_session.specs.Talks.{outcome_line, returned_in, Talk, Talker, state_line, goes_on, ends_line, hears, asks, tells_state, Settles};
 ghost use Rattle.vic_rules.specs.declared.trace.Input.TheVariants as input;
-ghost use Rattle.vic_session.specs.Talking.{On, IsWithin, IsFine, IsDoing, Stands, GoesTo, Began, Rests, CanBegin, Lined, LinedAt, MaySend, IsBusy, Heard};
+ghost use Rattle.vic_session.specs.Talking.{On, IsWithin, IsFine, IsDoing, Stands, GoesTo, Began, Rests, CanBegin, Lined, LinedAt, FitsIn, MaySend, IsBusy, Heard};
 ghost use Rattle.vic_session.specs.declared.place.Place.{Place as APlace};
 
 use crate::place::{At, Place, first_line, place_behind};
+use crate::stepping::{Given, make_step, request_for};
 use std::alloc::Global;
 use vic_client::{Client, Step};
 use vic_dict::{Bytes, NoMemory, Outcome};
@@ -66,13 +68,15 @@ fn begin_settle(
     ensures began { (w : Talker) (t : Talk) (start : List ℕ) (p : APlace) → On w t start client.old p out.old
         → IfOk result (λ b. Began w t start (Some (ClientLine.Settle most)) client.old client.new p out.old out.new b) }
     ensures rests { IfOk result (λ b. Rests b client.old client.new) }
+    ensures fits { IfOk result FitsIn }
     ensures err { OnErr result (out.new ≡ out.old) }
 {
     if most == 0 || client.unsettled() == 0 {
         tell_state(alloc, client, out)?;
         return Ok(Begun::Next);
     }
-    Ok(Begun::Asks(client.poll(alloc)?, At::Settles(most - 1)))
+    let sent = request_for(alloc, client, Given::Poll)?;
+    Ok(Begun::Asks(sent, At::Settles(most - 1)))
 }
 
 // Begins a line.
@@ -85,16 +89,19 @@ fn begin_line(
     requires idle { IsTrue (is_idle client.old) }
     requires can { CanBegin line.now client.old.mode }
     requires few { client.old.calls + 1 < 2 ^ 32 }
-    ensures began { (w : Talker) (t : Talk) (start : List ℕ) (p : APlace) → On w t start client.old p out.old → (stands w t).calls + 1 ≤ p.number
+    ensures began { (w : Talker) (t : Talk) (start : List ℕ) (p : APlace) → On w t start client.old p out.old → t.now.calls + 1 ≤ p.number
         → IfOk result (λ b. Began w t start (Some line.now) client.old client.new p out.old out.new b) }
     ensures rests { IfOk result (λ b. Rests b client.old client.new) }
+    ensures fits { IfOk result FitsIn }
     ensures err { OnErr result (out.new ≡ out.old) }
 {
     match line {
         ClientLine::Skip => Ok(Begun::Next),
-        ClientLine::Call(op) => Ok(Begun::Asks(client.invoke(alloc, op)?, At::Calls)),
-        ClientLine::Poll => Ok(Begun::Asks(client.poll(alloc)?, At::Tells)),
-        ClientLine::Sync => Ok(Begun::Asks(client.sync(alloc)?, At::Tells)),
+        ClientLine::Call(op) => {
+            Ok(Begun::Asks(request_for(alloc, client, Given::Call(op))?, At::Calls))
+        }
+        ClientLine::Poll => { Ok(Begun::Asks(request_for(alloc, client, Given::Poll)?, At::Tells)) }
+        ClientLine::Sync => { Ok(Begun::Asks(request_for(alloc, client, Given::Sync)?, At::Tells)) }
         ClientLine::Settle(most) => begin_settle(alloc, client, *most, out),
     }
 }
@@ -108,9 +115,10 @@ fn begin(
 ) -> Result<Begun, NoMemory>
     requires idle { IsTrue (is_idle client.old) }
     requires few { client.old.calls + 1 < 2 ^ 32 }
-    ensures began { (w : Talker) (t : Talk) (start : List ℕ) (p : APlace) → On w t start client.old p out.old → (stands w t).calls + 1 ≤ p.number
+    ensures began { (w : Talker) (t : Talk) (start : List ℕ) (p : APlace) → On w t start client.old p out.old → t.now.calls + 1 ≤ p.number
         → IfOk result (λ b. Began w t start (client_line_of w.group.mode text.now) client.old client.new p out.old out.new b) }
     ensures rests { IfOk result (λ b. Rests b client.old client.new) }
+    ensures fits { IfOk result FitsIn }
     ensures err { OnErr result (out.new ≡ out.old) }
 {
     match read_client_line(alloc, text, client.mode()) {
@@ -138,6 +146,7 @@ fn do_line(
     ensures number { place.new.number ≡ place.old.number + 1 }
     ensures fewer { length place.new.rest.now < length place.old.rest.now }
     ensures rests { IfOk result (λ b. Rests b client.old client.new) }
+    ensures fits { IfOk result FitsIn }
     ensures err { OnErr result (out.new ≡ out.old) }
 {
     let (text, others) = first_line(place.rest);
@@ -175,6 +184,7 @@ pub fn go_on(
     ensures went { (w : Talker) (t : Talk) (start : List ℕ) → On w t start client.old place.old out.old → GoesTo w t (goes_on w t t.lines) start client.new place.new out.new result }
     ensures fine { IfOk result (λ sent. IsFine place.new.doing place.new) }
     ensures sends { IfOk result (λ sent. MaySend place.new.doing sent) }
+    ensures fits { IfOk result (λ sent. IfSome sent FitsFrame) }
     ensures total { place.new.total ≡ place.old.total }
 {
     while !place.rest.is_empty() {
@@ -200,9 +210,10 @@ fn tell_and_go(
     requires few { client.old.calls ≤ place.old.number }
     requires within { IsWithin place.old }
     requires total { place.old.total < 2 ^ 63 }
-    ensures went { (w : Talker) (t : Talk) (start : List ℕ) → On w t start client.old place.old out.old → GoesTo w t (goes_on w (tells_state w t) t.lines) start client.new place.new out.new result }
+    ensures went { (w : Talker) (t : Talk) (start : List ℕ) → On w t start client.old place.old out.old → GoesTo w t (goes_on w (tells_state t) t.lines) start client.new place.new out.new result }
     ensures fine { IfOk result (λ sent. IsFine place.new.doing place.new) }
     ensures sends { IfOk result (λ sent. MaySend place.new.doing sent) }
+    ensures fits { IfOk result (λ sent. IfSome sent FitsFrame) }
     ensures total { place.new.total ≡ place.old.total }
 {
     match tell_state(alloc, client, out) {
@@ -224,9 +235,10 @@ fn poll_again(
     ensures went { (w : Talker) (t : Talk) (start out : List ℕ) → On w t start client.old place.old out → GoesTo w t (asks w t input.Poll (Settles left)) start client.new place.new out result }
     ensures fine { IfOk result (λ sent. IsFine place.new.doing place.new) }
     ensures sends { IfOk result (λ sent. MaySend place.new.doing sent) }
+    ensures fits { IfOk result (λ sent. IfSome sent FitsFrame) }
     ensures total { place.new.total ≡ place.old.total }
 {
-    match client.poll(alloc) {
+    match request_for(alloc, client, Given::Poll) {
         Ok(sent) => {
             place.doing = At::Settles(left);
             Ok(Some(sent))
@@ -250,6 +262,7 @@ fn end_line(
     ensures went { (w : Talker) (t : Talk) (start : List ℕ) → On w t start client.old place.old out.old → IsDoing place.old.doing t.doing → GoesTo w t (ends_line w t t.doing) start client.new place.new out.new result }
     ensures fine { IfOk result (λ sent. IsFine place.new.doing place.new) }
     ensures sends { IfOk result (λ sent. MaySend place.new.doing sent) }
+    ensures fits { IfOk result (λ sent. IfSome sent FitsFrame) }
     ensures total { place.new.total ≡ place.old.total }
 {
     match place.doing {
@@ -290,6 +303,7 @@ fn hear_step(
     step: Step,
     out: &mut Bytes,
 ) -> Result<Option<Bytes>, NoMemory>
+    requires fits { IfSome step.send FitsFrame }
     requires few { client.old.calls ≤ place.old.number }
     requires busy { IsBusy place.old.doing }
     requires within { IsWithin place.old }
@@ -297,6 +311,7 @@ fn hear_step(
     ensures went { (w : Talker) (t : Talk) (start : List ℕ) → Heard w t start payload.now step client.old place.old out.old → GoesTo w t (hears w t payload.now) start client.new place.new out.new result }
     ensures fine { IfOk result (λ sent. IsFine place.new.doing place.new) }
     ensures sends { IfOk result (λ sent. MaySend place.new.doing sent) }
+    ensures fits { IfOk result (λ sent. IfSome sent FitsFrame) }
     ensures total { place.new.total ≡ place.old.total }
 {
     if let Some(check) = client.halted() {
@@ -335,9 +350,10 @@ pub fn hear(
     ensures went { (w : Talker) (t : Talk) (start : List ℕ) → On w t start client.old place.old out.old → IsDoing place.old.doing t.doing → GoesTo w t (hears w t payload.now) start client.new place.new out.new result }
     ensures fine { IfOk result (λ sent. IsFine place.new.doing place.new) }
     ensures sends { IfOk result (λ sent. MaySend place.new.doing sent) }
+    ensures fits { IfOk result (λ sent. IfSome sent FitsFrame) }
     ensures total { place.new.total ≡ place.old.total }
 {
-    match client.take(alloc, payload) {
+    match make_step(alloc, client, Given::Payload(payload)) {
         Ok(step) => hear_step(alloc, client, place, payload, step, out),
         Err(NoMemory) => Err(NoMemory),
     }

@@ -1,8 +1,9 @@
 //! A session: the client greets, does the lines of its script, and leaves.
 
-ghost use Rattle.std.specs.Prelude.{◌≡◌, ◌<◌, ◌^◌, [], length};
+ghost use Rattle.std.specs.Prelude.{◌≡◌, ◌<◌, ◌≤◌, ◌^◌, [], length};
 ghost use Rattle.vic_rules.specs.Client.{at_start};
 ghost use Rattle.vic_client.specs.Kept.{StandsFor, group_of};
+ghost use Rattle.vic_script.specs.Run.{limit};
 ghost use Rattle.vic_session.specs.Running.{Greeted, Parted, Left, JudgedHello, JudgedBye};
 ghost use Rattle.vic_session.specs.Sessions.{IsSession};
 
@@ -11,10 +12,10 @@ use crate::lines::{go_on, hear};
 use crate::place::{At, Place};
 use crate::wire::{WireFault, ask};
 use std::alloc::Global;
-use vic_client::Client;
+use vic_client::{Client, request_payload};
 use vic_conn::FrameReader;
 use vic_dict::{Bytes, NoMemory};
-use vic_frames::{decode_answer, encode_request};
+use vic_frames::decode_answer;
 use vic_hash::content;
 use vic_ports::Link;
 use vic_wire::{ToClient, ToServer};
@@ -37,13 +38,15 @@ fn greet<L: Link>(
     client: &Client,
     link: &mut L,
     reader: &mut FrameReader,
+    buffer: &mut [u8],
 ) -> Result<(), SessionEnd>
+    requires { 0 < length buffer.old }
     ensures { Greeted (group_of client.now) client.now.id reader.old reader.new (L.told link.old) (L.told link.new) result }
 {
-    let Ok(hello) = encode_request(alloc, &ToServer::Hello(client.mode(), client.id())) else {
+    let Ok(hello) = request_payload(alloc, &ToServer::Hello(client.mode(), client.id())) else {
         return Err(SessionEnd::NoMemory);
     };
-    match ask(alloc, link, reader, &Some(hello)) {
+    match ask(alloc, link, reader, buffer, &Some(hello)) {
         Ok(payload) => judge_hello(alloc, payload.as_slice()),
         Err(WireFault::Link) => Err(SessionEnd::LinkFault),
         Err(WireFault::Length) => Err(SessionEnd::BadFrame),
@@ -63,13 +66,19 @@ fn judge_bye(alloc: Global, payload: &[u8]) -> SessionEnd
 }
 
 // Says Bye, and waits for Gone.
-fn say_bye<L: Link>(alloc: Global, link: &mut L, reader: &mut FrameReader) -> SessionEnd
+fn say_bye<L: Link>(
+    alloc: Global,
+    link: &mut L,
+    reader: &mut FrameReader,
+    buffer: &mut [u8],
+) -> SessionEnd
+    requires { 0 < length buffer.old }
     ensures { Parted reader.old reader.new (L.told link.old) (L.told link.new) result }
 {
-    let Ok(bye) = encode_request(alloc, &ToServer::Bye) else {
+    let Ok(bye) = request_payload(alloc, &ToServer::Bye) else {
         return SessionEnd::NoMemory;
     };
-    match ask(alloc, link, reader, &Some(bye)) {
+    match ask(alloc, link, reader, buffer, &Some(bye)) {
         Ok(payload) => judge_bye(alloc, payload.as_slice()),
         Err(WireFault::Link) => SessionEnd::LinkFault,
         Err(WireFault::Length) => SessionEnd::BadFrame,
@@ -82,11 +91,13 @@ fn leave<L: Link>(
     alloc: Global,
     link: &mut L,
     reader: &mut FrameReader,
+    buffer: &mut [u8],
     out: &mut Bytes,
 ) -> SessionEnd
+    requires { 0 < length buffer.old }
     ensures { Left reader.old reader.new (L.told link.old) (L.told link.new) out.old out.new result }
 {
-    match say_bye(alloc, link, reader) {
+    match say_bye(alloc, link, reader, buffer) {
         SessionEnd::Ok => match out.append(b"bye\n") {
             Ok(()) => SessionEnd::Ok,
             Err(NoMemory) => SessionEnd::NoMemory,
@@ -96,7 +107,8 @@ fn leave<L: Link>(
 }
 
 /// Greets, does each line of a script, and leaves; what is printed joins the lines so far. Whatever the end is, what was sent and
-/// printed stays. It keeps what is not yet a whole frame, a buffer, one answer, and what its client keeps.
+/// printed stays. It keeps what is not yet a whole frame, one
+/// buffer, one answer, and what its client keeps. A line costs the payloads that it sends and takes.
 pub fn run_lines<L: Link>(
     alloc: Global,
     client: &mut Client,
@@ -105,10 +117,13 @@ pub fn run_lines<L: Link>(
     out: &mut Bytes,
 ) -> SessionEnd
     requires { StandsFor client.old at_start }
-    ensures { IsSession (group_of client.old) client.old.id script.now (L.told link.old) out.old result (L.told link.new) out.new }
+    ensures did { IsSession (group_of client.old) client.old.id script.now (L.told link.old) out.old result (L.told link.new) out.new }
+    // A script past the limit has a bad line.
+    ensures whole { result ≡ SessionEnd.Ok → length script.now ≤ limit }
 {
     let mut reader = FrameReader::new(alloc);
-    match greet(alloc, client, link, &mut reader) {
+    let mut buffer = [0u8; 4096];
+    match greet(alloc, client, link, &mut reader, &mut buffer) {
         Ok(()) => (),
         Err(end) => return end,
     }
@@ -125,12 +140,12 @@ pub fn run_lines<L: Link>(
     };
     for _ in 0..u64::MAX {
         match place.doing {
-            At::Leaves => return leave(alloc, link, &mut reader, out),
+            At::Leaves => return leave(alloc, link, &mut reader, &mut buffer, out),
             At::Bad(kind) => return SessionEnd::BadLine(place.number, kind),
             At::Halts(check, hash) => return SessionEnd::Halted(check, hash),
             _ => (),
         }
-        let payload = match ask(alloc, link, &mut reader, &pending) {
+        let payload = match ask(alloc, link, &mut reader, &mut buffer, &pending) {
             Ok(payload) => payload,
             Err(WireFault::Link) => return SessionEnd::LinkFault,
             Err(WireFault::Length) => return SessionEnd::BadFrame,

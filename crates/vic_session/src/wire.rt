@@ -1,17 +1,14 @@
 //! Sending one request over a link, and reading one answer.
 
-ghost use Rattle.std.specs.Prelude.{◌≡◌, ◌<◌, length, IfOk, Some};
-ghost use Rattle.vic_conn.specs.Frames.{frame_text};
+ghost use Rattle.std.specs.Prelude.{◌≡◌, ◌<◌, length, IfSome};
+ghost use Rattle.vic_client.specs.Pending.{FitsFrame};
 ghost use Rattle.vic_session.specs.Wires.{SendsText, Receives, Asks, frames};
 ghost use Rattle.vic_session.specs.Talks.{one_of};
 
 use std::alloc::Global;
 use vic_conn::{FrameFault, FrameReader, frame};
-use vic_dict::{Bytes, NoMemory};
+use vic_dict::Bytes;
 use vic_ports::{Got, Link, Written, send};
-
-/// The longest payload of a frame, in bytes.
-const LONGEST: usize = 16_777_216;
 
 /// Why no answer came.
 #[derive(Clone, Copy, Debug, PartialEq, Eq)]
@@ -23,26 +20,16 @@ pub enum WireFault {
     NoMemory,
 }
 
-// A payload as a frame.
-fn framed(alloc: Global, payload: &[u8]) -> Result<Bytes, NoMemory>
-    ensures { IfOk result (λ made. made ≡ frame_text payload.now) }
-{
-    // A request is never so long or so short: it isn't known here.
-    if payload.is_empty() || LONGEST < payload.len() {
-        return Err(NoMemory);
-    }
-    frame(alloc, payload)
-}
-
 // Sends a payload, if there is one.
 #[tactic(auto, using(crate::proofs::Told::none_sent, crate::proofs::Told::none_all, crate::proofs::Told::frames_one))]
 fn send_one<L: Link>(alloc: Global, link: &mut L, request: &Option<Bytes>) -> Result<(), WireFault>
+    requires { IfSome request.now FitsFrame }
     ensures { SendsText (frames (one_of request.now)) (L.told link.old) result (L.told link.new) }
 {
     let Some(payload) = request else {
         return Ok(());
     };
-    let Ok(text) = framed(alloc, payload.as_slice()) else {
+    let Ok(text) = frame(alloc, payload.as_slice()) else {
         return Err(WireFault::NoMemory);
     };
     match send(link, text.as_slice()) {
@@ -83,17 +70,20 @@ fn receive<L: Link>(
     Err(WireFault::NoMemory)
 }
 
-/// Sends a request, if there is one, and reads one answer, in whatever pieces it comes. What was fed to the reader and not
-/// taken comes first.
+/// Sends a request, if there is one, in one piece, and reads one answer, in whatever pieces it comes, through the buffer. What
+/// was fed to the reader and not taken comes first. All that a session exchanges goes through here: the greeting, the requests
+/// of its lines, and the leave.
 pub fn ask<L: Link>(
     alloc: Global,
     link: &mut L,
     reader: &mut FrameReader,
+    buffer: &mut [u8],
     request: &Option<Bytes>,
 ) -> Result<Bytes, WireFault>
+    requires fits { IfSome request.now FitsFrame }
+    requires room { 0 < length buffer.old }
     ensures { Asks request.now reader.old reader.new (L.told link.old) (L.told link.new) result }
 {
     send_one(alloc, link, request)?;
-    let mut buffer = [0u8; 4096];
-    receive(alloc, link, reader, &mut buffer)
+    receive(alloc, link, reader, buffer)
 }

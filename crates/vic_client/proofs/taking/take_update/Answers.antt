@@ -20,7 +20,7 @@ returns-clause-taken c = λ s o others st is.
     let rooted : v.next.root ≡ c.root_after-root.result.bytes =
     ap (λ (x : Own). new_root x (part c.args.part.now) c.args.seal.now.root.bytes) call ∙ sym c.root_after-root.ensures in
     record {
-      send = ap Some (c.in_ok-sent.ensures v.next st.path refl rooted);
+      send = ap Some (c.in_ok-sent.ensures.sent v.next st.path refl rooted);
       returned = refl;
       stands = record {
         path = shows_advanced g s.path now.window position c.root_after-root.result.bytes (omega arith) c.requires.within st.path;

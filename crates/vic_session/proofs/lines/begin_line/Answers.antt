@@ -1,13 +1,14 @@
-use Rattle.std.proofs.Common.{Some, refl, ap}
+use Rattle.std.proofs.Common.{Some, IfOk, refl, sym, ap, subst}
 use Rattle.vic_rules.specs.declared.trace.Input.TheVariants as input
 use Rattle.vic_text.specs.declared.client_line.ClientLine.{ClientLine}
 use Rattle.vic_session.specs.declared.place.At.TheVariants as at
-use Rattle.vic_session.specs.Talks.{Calls, Tells, stands, begins}
+use Rattle.vic_session.specs.Talks.{Calls, Tells, begins}
+use Rattle.vic_session.specs.Talking.{Began}
 use Rattle.vic_session.proofs.Begins.{asks_went, calls_poll, calls_sync, calls_call}
 use Rattle.vic_session.proofs.lines.begin_line.Goals as goal
 
-pub returns-in_ok-invoke-in-Call-clause-began : goal.returns-in_ok-invoke-in-Call-clause-began
-returns-in_ok-invoke-in-Call-clause-began c = λ w t start p on few. (
+pub returns-in_ok-request_for-in-Call-clause-began : goal.returns-in_ok-request_for-in-Call-clause-began
+returns-in_ok-request_for-in-Call-clause-began c = λ w t start p on few. (
   input.Call c.in-Call.op,
   (
     Calls,
@@ -17,16 +18,16 @@ returns-in_ok-invoke-in-Call-clause-began c = λ w t start p on few. (
         refl,
         (
           refl,
-          asks_went w t start c.args.client.now p c.args.out.now on (input.Call c.in-Call.op) Calls at.Calls c.invoke.new.self c.in_ok-invoke-in-Call.field-0 c.in_ok-invoke-in-Call.ensures.same
-              (c.in_ok-invoke-in-Call.ensures.stands (stands w t) on.stands_so) (c.in_ok-invoke-in-Call.ensures.sent (stands w t) on.stands_so) (calls_call w t p.number c.in-Call.op few) refl,
+          asks_went w t start c.args.client.now p c.args.out.now on (input.Call c.in-Call.op) Calls at.Calls c.request_for.new.client c.in_ok-request_for-in-Call.field-0 c.in_ok-request_for-in-Call.ensures.same
+              (c.in_ok-request_for-in-Call.ensures.stands t.now on.stands_so) (c.in_ok-request_for-in-Call.ensures.sent t.now on.stands_so) (calls_call w t p.number c.in-Call.op few) refl,
         ),
       ),
     ),
   ),
 )
 
-pub returns-in_ok-poll-in-Poll-clause-began : goal.returns-in_ok-poll-in-Poll-clause-began
-returns-in_ok-poll-in-Poll-clause-began c = λ w t start p on few. (
+pub returns-in_ok-request_for-in-Poll-clause-began : goal.returns-in_ok-request_for-in-Poll-clause-began
+returns-in_ok-request_for-in-Poll-clause-began c = λ w t start p on few. (
   input.Poll,
   (
     Tells,
@@ -36,16 +37,16 @@ returns-in_ok-poll-in-Poll-clause-began c = λ w t start p on few. (
         refl,
         (
           refl,
-          asks_went w t start c.args.client.now p c.args.out.now on input.Poll Tells at.Tells c.poll.new.self c.in_ok-poll-in-Poll.field-0 c.in_ok-poll-in-Poll.ensures.same
-              (c.in_ok-poll-in-Poll.ensures.stands (stands w t) on.stands_so) (c.in_ok-poll-in-Poll.ensures.sent (stands w t) on.stands_so) (calls_poll w t p.number on.few) refl,
+          asks_went w t start c.args.client.now p c.args.out.now on input.Poll Tells at.Tells c.request_for-in-Poll.new.client c.in_ok-request_for-in-Poll.field-0 c.in_ok-request_for-in-Poll.ensures.same
+              (c.in_ok-request_for-in-Poll.ensures.stands t.now on.stands_so) (c.in_ok-request_for-in-Poll.ensures.sent t.now on.stands_so) (calls_poll w t p.number on.few) refl,
         ),
       ),
     ),
   ),
 )
 
-pub returns-in_ok-sync-in-Sync-clause-began : goal.returns-in_ok-sync-in-Sync-clause-began
-returns-in_ok-sync-in-Sync-clause-began c = λ w t start p on few. (
+pub returns-in_ok-request_for-in-Sync-clause-began : goal.returns-in_ok-request_for-in-Sync-clause-began
+returns-in_ok-request_for-in-Sync-clause-began c = λ w t start p on few. (
   input.Sync,
   (
     Tells,
@@ -55,10 +56,15 @@ returns-in_ok-sync-in-Sync-clause-began c = λ w t start p on few. (
         refl,
         (
           refl,
-          asks_went w t start c.args.client.now p c.args.out.now on input.Sync Tells at.Tells c.sync.new.self c.in_ok-sync-in-Sync.field-0 c.in_ok-sync-in-Sync.ensures.same
-              (c.in_ok-sync-in-Sync.ensures.stands (stands w t) on.stands_so) (c.in_ok-sync-in-Sync.ensures.sent (stands w t) on.stands_so) (calls_sync w t p.number on.few) refl,
+          asks_went w t start c.args.client.now p c.args.out.now on input.Sync Tells at.Tells c.request_for-in-Sync.new.client c.in_ok-request_for-in-Sync.field-0 c.in_ok-request_for-in-Sync.ensures.same
+              (c.in_ok-request_for-in-Sync.ensures.stands t.now on.stands_so) (c.in_ok-request_for-in-Sync.ensures.sent t.now on.stands_so) (calls_sync w t p.number on.few) refl,
         ),
       ),
     ),
   ),
 )
+
+pub returns-in-Settle-clause-began : goal.returns-in-Settle-clause-began
+returns-in-Settle-clause-began c = λ w t start p on few.
+    subst (λ (l : ClientLine). IfOk c.begin_settle.result (λ b. Began w t start (Some l) c.args.client.now c.begin_settle.new.client p c.args.out.now c.begin_settle.new.out b)) (sym c.in-Settle.is)
+    (c.begin_settle.ensures.began w t start p on)

@@ -4,7 +4,6 @@ use Rattle.vic_text.specs.ClientLines.{client_line_of}
 use Rattle.vic_session.specs.declared.place.Place.{Place}
 use Rattle.vic_session.specs.declared.lines.Begun.{Begun}
 use Rattle.vic_session.specs.Talking.{Began}
-use Rattle.vic_session.specs.Talks.{stands}
 use Rattle.vic_session.proofs.Extends.{here}
 use Rattle.vic_session.proofs.Lined.{on_here, lined_long, lined_next, lined_asks, lined_bad}
 use Rattle.vic_session.proofs.lines.do_line.Goals as goal
@@ -21,7 +20,7 @@ returns-in-Next-clause-lined c = λ w t start on.
     let q : Place = record { rest = c.first_line.result.1; total = p.total; behind = c.place_behind-place.result; number = p.number + 1; doing = p.doing } in
     let text : List ℕ = c.first_line.result.0.now in
     let there = on_here w t start c.args.client.now p q c.args.out.now text on c.first_line.ensures.lines refl c.place_behind-place.ensures refl in
-    let few : (stands w t).calls + 1 ≤ q.number = omega (arith, on.few) in
+    let few : t.now.calls + 1 ≤ q.number = omega (arith, on.few) in
     let given = c.in_ok-begin.ensures.began w (here w t text (lines_of q.rest.now)) start q there few in
     lined_next w t start c.args.client.now p q c.args.out.now text on c.first_line.ensures.lines refl c.place_behind-place.ensures refl c.begin.new.client c.begin.new.out (omega (arith, c.if-place-gt-LIMIT.false))
     (subst (λ (b : Begun). Began w (here w t text (lines_of q.rest.now)) start (client_line_of w.group.mode text) c.args.client.now c.begin.new.client q c.args.out.now c.begin.new.out b) c.in-Next.is given)
@@ -32,7 +31,7 @@ returns-in-Asks-clause-lined c = λ w t start on.
     let q : Place = record { rest = c.first_line.result.1; total = p.total; behind = c.place_behind-place.result; number = p.number + 1; doing = p.doing } in
     let text : List ℕ = c.first_line.result.0.now in
     let there = on_here w t start c.args.client.now p q c.args.out.now text on c.first_line.ensures.lines refl c.place_behind-place.ensures refl in
-    let few : (stands w t).calls + 1 ≤ q.number = omega (arith, on.few) in
+    let few : t.now.calls + 1 ≤ q.number = omega (arith, on.few) in
     let given = c.in_ok-begin.ensures.began w (here w t text (lines_of q.rest.now)) start q there few in
     lined_asks w t start c.args.client.now p q c.args.out.now text on c.first_line.ensures.lines refl c.place_behind-place.ensures refl c.begin.new.client c.begin.new.out c.in-Asks.sent c.in-Asks.doing (omega (arith, c.if-place-gt-LIMIT.false))
     (subst (λ (b : Begun). Began w (here w t text (lines_of q.rest.now)) start (client_line_of w.group.mode text) c.args.client.now c.begin.new.client q c.args.out.now c.begin.new.out b) c.in-Asks.is given)
@@ -43,7 +42,7 @@ returns-in-Bad-clause-lined c = λ w t start on.
     let q : Place = record { rest = c.first_line.result.1; total = p.total; behind = c.place_behind-place.result; number = p.number + 1; doing = p.doing } in
     let text : List ℕ = c.first_line.result.0.now in
     let there = on_here w t start c.args.client.now p q c.args.out.now text on c.first_line.ensures.lines refl c.place_behind-place.ensures refl in
-    let few : (stands w t).calls + 1 ≤ q.number = omega (arith, on.few) in
+    let few : t.now.calls + 1 ≤ q.number = omega (arith, on.few) in
     let given = c.in_ok-begin.ensures.began w (here w t text (lines_of q.rest.now)) start q there few in
     lined_bad w t start c.args.client.now p q c.args.out.now text on c.first_line.ensures.lines refl c.place_behind-place.ensures refl c.begin.new.client c.begin.new.out (omega (arith, c.if-place-gt-LIMIT.false))
     (subst (λ (b : Begun). Began w (here w t text (lines_of q.rest.now)) start (client_line_of w.group.mode text) c.args.client.now c.begin.new.client q c.args.out.now c.begin.new.out b) c.in-Bad.is given)

@@ -12,13 +12,13 @@ use Rattle.vic_session.proofs.run.greet.Goals as goal
 
 pub returns-in-Err-Length : goal.returns-in-Err-Length
 returns-in-Err-Length g c =
-    let is : c.in-Ok.hello ≡ request_text (ask.Hello c.args.client.now.mode c.args.client.now.id) = c.in-Ok.ensures ∙ ap (λ (k : Mode). request_text (ask.Hello k c.id.result)) c.mode.ensures ∙ ap (λ (n : ℕ). request_text (ask.Hello c.args.client.now.mode n)) c.id.ensures in
+    let is : c.in-Ok.hello ≡ request_text (ask.Hello c.args.client.now.mode c.args.client.now.id) = c.in-Ok.ensures.text ∙ ap (λ (k : Mode). request_text (ask.Hello k c.id.result)) c.mode.ensures ∙ ap (λ (n : ℕ). request_text (ask.Hello c.args.client.now.mode n)) c.id.ensures in
     let a = subst (λ (f : WireFault). Asks (Some c.in-Ok.hello) c.args.reader.now c.ask.new.reader (g.L.Link.told c.args.link.now) (g.L.Link.told c.ask.new.link) (Err f)) c.in-Err-Length.field-0-is c.in-Err-Length.ensures in
     inl (subst (λ (b : List ℕ). Asks (Some b) c.args.reader.now c.ask.new.reader (g.L.Link.told c.args.link.now) (g.L.Link.told c.ask.new.link) (Err fault.Length)) is a)
 
 pub returns-in-Ok-ask : goal.returns-in-Ok-ask
 returns-in-Ok-ask g c =
-    let is : c.in-Ok.hello ≡ request_text (ask.Hello c.args.client.now.mode c.args.client.now.id) = c.in-Ok.ensures ∙ ap (λ (k : Mode). request_text (ask.Hello k c.id.result)) c.mode.ensures ∙ ap (λ (n : ℕ). request_text (ask.Hello c.args.client.now.mode n)) c.id.ensures in
+    let is : c.in-Ok.hello ≡ request_text (ask.Hello c.args.client.now.mode c.args.client.now.id) = c.in-Ok.ensures.text ∙ ap (λ (k : Mode). request_text (ask.Hello k c.id.result)) c.mode.ensures ∙ ap (λ (n : ℕ). request_text (ask.Hello c.args.client.now.mode n)) c.id.ensures in
     greeted_of (group_of c.args.client.now) c.args.client.now.id c.args.reader.now c.ask.new.reader c.in-Ok-ask.payload (g.L.Link.told c.args.link.now) (g.L.Link.told c.ask.new.link) c.judge_hello.result
     (subst (λ (b : List ℕ). Asks (Some b) c.args.reader.now c.ask.new.reader (g.L.Link.told c.args.link.now) (g.L.Link.told c.ask.new.link) (Ok c.in-Ok-ask.payload)) is c.in-Ok-ask.ensures)
     (subst (λ (p : List ℕ). JudgedHello p c.judge_hello.result) c.as_slice.ensures c.judge_hello.ensures)

@@ -1,5 +1,6 @@
-use Rattle.std.proofs.Common.{◌<◌, ◌^◌}
+use Rattle.std.proofs.Common.{◌≡◌, ◌<◌, ◌^◌, length, IfSome}
 use Rattle.vic_client.specs.Kept.{group_of}
+use Rattle.vic_client.specs.Pending.{FitsFrame}
 use Rattle.vic_session.specs.Talking.{IsFine, MaySend}
 use Rattle.vic_session.proofs.Sessions.{Going}
 use Rattle.vic_session.proofs.run.run_lines.Given as goal
@@ -9,5 +10,7 @@ invariant-loop g l = record {
   going : Going (group_of l.fn.client) l.fn.client.id l.fn.script (g.L.Link.told l.fn.link) l.fn.out (g.L.Link.told l.link) l.reader l.client l.place l.out l.pending;
   fine : IsFine l.place.doing l.place;
   sends : MaySend l.place.doing l.pending;
+  fits : IfSome l.pending FitsFrame;
   total : l.place.total < 2 ^ 63;
+  size : l.place.total ≡ length l.fn.script;
 }
