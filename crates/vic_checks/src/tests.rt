@@ -1,5 +1,6 @@
 ghost use Rattle.std.specs.Prelude.{◌≡◌, ◌<◌, [], IfOk, length};
 ghost use Rattle.vic_dict.specs.Dictionary.{Fits};
+ghost use Rattle.vic_checks.specs.Passing.{AwaitsFit};
 
 use crate::{Awaiting, Own, OwnList, State, Verdict, decide, judge};
 use std::alloc::Global;
@@ -29,7 +30,9 @@ fn get(alloc: Global, key: &[u8]) -> Result<Op, NoMemory>
 
 // Client 1 of 2, whose own put of a as x at position 1 isn't sealed.
 fn kept(alloc: Global, awaiting: Awaiting) -> Result<State, NoMemory>
-    ensures { IfOk result (λ x. (x.window.sealed ≡ 0) × (x.window.links ≡ [])) }
+    requires { AwaitsFit awaiting }
+    ensures window { IfOk result (λ x. (x.window.sealed ≡ 0) × (x.window.links ≡ [])) }
+    ensures fits { IfOk result (λ x. AwaitsFit x.awaiting) }
 {
     let key = GroupKey::from_hex(alloc, "6b6579").map_err(|_| NoMemory)?;
     let mut own = OwnList::new(alloc);

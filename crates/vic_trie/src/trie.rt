@@ -5,7 +5,7 @@ ghost use Rattle.vic_dict.specs.Dictionary.{Dictionary, IsKey, Fits, after};
 ghost use Rattle.vic_wire.specs.Trees.{Leaf, dictionary_root, pairs_of, tree_of};
 ghost use Rattle.vic_tree.specs.Grown.{IsTree};
 ghost use Rattle.vic_trie.specs.Nodes.{tree, IsSound};
-ghost use Rattle.vic_trie.specs.Weights.{weight_of};
+ghost use Rattle.vic_trie.specs.Weights.{weight_of, added_weight};
 ghost use Rattle.vic_trie.specs.Undoing.{IsReady, CanUndo, undone};
 ghost use Rattle.std.specs.Prelude.{List, ℕ};
 
@@ -17,7 +17,8 @@ use std::marker::Model;
 use vic_dict::{Bytes, Names, NoMemory, Op};
 use vic_hash::Digest32;
 
-/// A dictionary with its root.
+/// A dictionary with its root. It is a tree over the bits of its keys, changed in place: each node keeps the hash of its subtree, so a
+/// change hashes the nodes on the way to its key alone.
 #[derive(Debug, Drop)]
 pub struct Trie {
     alloc: Global,
@@ -44,6 +45,7 @@ impl Model for Trie {
 }
 
 impl Trie {
+    /// The empty dictionary; it takes no memory.
     pub fn new(alloc: Global) -> Trie
         ensures { result ≡ map.empty }
     {
@@ -55,7 +57,7 @@ impl Trie {
         }
     }
 
-    /// The tree of the dictionary, with the root of each subtree, and None for the empty one.
+    /// The tree of the dictionary, with the root of each subtree, and None for the empty one. It is lent as it stands.
     pub fn top(&self) -> Option<&Node>
         ensures empty { IsNone result ↔ (self.now ≡ map.empty) }
         ensures tree { IfSome result (λ n. IsSound n.now × (tree n.now ≡ tree_of self.now)) }
@@ -68,6 +70,7 @@ impl Trie {
         }
     }
 
+    /// The root of the dictionary's tree, which is kept: nothing is hashed but for the empty one.
     pub fn root(&self) -> Digest32
         ensures { result.bytes ≡ dictionary_root self.now }
     {
@@ -77,18 +80,21 @@ impl Trie {
         }
     }
 
+    /// The bytes of all keys and values, and 16 more for each pair. It is kept, and costs nothing.
     pub fn weight(&self) -> u64
         ensures { result ≡ weight_of self.now }
     {
         self.weight
     }
 
+    /// How many pairs it has. It is kept, and costs nothing.
     pub fn len(&self) -> u32
         ensures { result ≡ map.len self.now }
     {
         self.count
     }
 
+    /// What stands under a key, and None exactly where nothing does. It costs the depth of the key's place, and takes no memory.
     pub fn get(&self, key: &[u8]) -> Option<&Bytes>
         ensures value { option_copied result ≡ map.get self.now key.now }
         ensures fits { IfSome (option_copied result) (λ v. length v < 65) }
@@ -109,7 +115,8 @@ impl Trie {
         }
     }
 
-    /// Gives the key this value. After an `Err` nothing changed.
+    /// Gives the key this value. It costs the depth of the key's place, and hashes the nodes on the way there. After an `Err` nothing
+    /// changed.
     pub fn put(&mut self, key: &[u8], value: &[u8]) -> Result<(), NoMemory>
         requires key { IsKey key.now }
         requires value { length value.now < 65 }
@@ -192,13 +199,15 @@ impl Trie {
         }
     }
 
-    /// Does a put or del, and tells what takes it back. After an `Err` nothing changed; get and list change nothing.
+    /// Does a put or del, and tells what takes it back, which holds all memory that this takes. It costs the depth of the key's place.
+    /// After an `Err` nothing changed; get and list change nothing.
     pub fn change(&mut self, op: &Op) -> Result<Undo, NoMemory>
         requires fits { Fits op.now }
         requires room { weight_of self.old ≤ 4294967295 }
         ensures ok { OnOk result (self.new ≡ after self.old op.now) }
         ensures can { IfOk result CanUndo }
         ensures back { IfOk result (λ u. undone u self.new ≡ self.old) }
+        ensures weighs { OnOk result (weight_of self.new ≤ weight_of self.old + added_weight op.now) }
         ensures err { OnErr result (self.new ≡ self.old) }
     {
         match op {
@@ -216,7 +225,7 @@ impl Trie {
         }
     }
 
-    /// Takes a change back; it takes no memory.
+    /// Takes a change back. It takes no memory, and costs what the change cost.
     pub fn undo(&mut self, undo: Undo)
         requires can { CanUndo undo }
         requires room { weight_of self.old ≤ 4294967295 }
@@ -231,7 +240,8 @@ impl Trie {
         }
     }
 
-    /// Takes the key out, and tells whether it was there.
+    /// Takes the key out, and tells whether it was there. It costs the depth of the key's place, hashes the nodes on the way there, and
+    /// takes no memory.
     pub fn del(&mut self, key: &[u8]) -> bool
         ensures found { IsTrue result ↔ IsSome (map.get self.old key.now) }
         ensures after { self.new ≡ map.remove self.old key.now }
@@ -247,7 +257,7 @@ impl Trie {
         }
     }
 
-    /// The keys with the prefix, ascending.
+    /// The keys with the prefix, ascending. It costs the way to them and their bytes.
     pub fn list(&self, prefix: &[u8]) -> Result<Names, NoMemory>
         ensures { IfOk result (λ names. names ≡ filter (λ k. starts_with nat_eq k prefix.now) (map.keys self.now)) }
     {
@@ -268,6 +278,7 @@ impl Trie {
         }
     }
 
+    /// A copy. It costs the whole dictionary, but hashes nothing.
     pub fn copy(&self) -> Result<Trie, NoMemory>
         ensures { IfOk result (λ t. t ≡ self.now) }
     {
