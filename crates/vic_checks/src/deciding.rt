@@ -1,8 +1,8 @@
 //! The decision on a call.
 
-ghost use Rattle.std.specs.Prelude.{◌≡◌, ◌+◌, ◌-◌, ◌<◌, ◌≤◌, ℕ, List, Some, length, drop, nat_lt, if◌then◌else◌, IfOk, OnOk, true};
+ghost use Rattle.std.specs.Prelude.{◌≡◌, ◌+◌, ◌-◌, ◌<◌, ◌≤◌, ℕ, List, Some, length, drop, nat_lt, if◌then◌else◌, IfOk, OnOk, IsTrue, true, false};
 ghost use Rattle.vic_dict.specs.declared.op.Entry.{Entry as AnEntry};
-ghost use Rattle.vic_dict.specs.Dictionary.{Fits, after};
+ghost use Rattle.vic_dict.specs.Dictionary.{Dictionary, Fits, after, reply};
 ghost use Rattle.vic_dict.specs.Lists.{front, newest};
 ghost use Rattle.vic_wire.specs.Hashes.{Group};
 ghost use Rattle.vic_wire.specs.Parts.{IsPart, reaches, walked};
@@ -16,7 +16,7 @@ use crate::state::{OwnList, State};
 use std::alloc::Global;
 use vic_chain::Window;
 use vic_commute::conflicts;
-use vic_dict::{Entry, NoMemory, Op, Outcome, PlainDict};
+use vic_dict::{Answer, Entry, NoMemory, Op, Outcome, PlainDict};
 use vic_prune::Pruned;
 use vic_rules::Own;
 use vic_wire::TaggedList;
@@ -93,6 +93,38 @@ fn lay_all(alloc: Global, dict: &mut PlainDict, own: &OwnList, base: u32) -> Res
     Ok(())
 }
 
+// Whether an own call is done again over what stands at a position.
+fn is_laid(call: &Own, base: u32) -> bool
+    ensures { result ≡ false → (d : Dictionary) → d ≡ (if nat_lt base call.now.position then done_op d call.now else d) }
+{
+    base < call.position && call.done
+}
+
+// Whether none of the own calls is.
+fn are_below(own: &OwnList, base: u32) -> bool
+    ensures { IsTrue result → (d : Dictionary) → laid own.now base d ≡ d }
+{
+    for i in 0..own.len() {
+        if is_laid(own.at(i), base) {
+            return false;
+        }
+    }
+    true
+}
+
+// The answer at what the operation walks over.
+fn answer_at(alloc: Global, part: &Pruned, op: &Op) -> Result<Answer, NoMemory>
+    requires grammar { IsPart (shown part.now) }
+    requires fits { Fits op.now }
+    requires reached { reaches (shown part.now) op.now ≡ true }
+    ensures { IfOk result (λ a. a ≡ reply (walked (shown part.now) op.now) op.now) }
+{
+    match part.try_op(alloc, op) {
+        Ok(answer) => Ok(answer),
+        Err(_) => Err(NoMemory),
+    }
+}
+
 // The dictionary of what the operation walks over.
 fn walked_over(alloc: Global, part: &Pruned, op: &Op) -> Result<PlainDict, NoMemory>
     requires grammar { IsPart (shown part.now) }
@@ -107,9 +139,9 @@ fn walked_over(alloc: Global, part: &Pruned, op: &Op) -> Result<PlainDict, NoMem
 }
 
 /// What a client decides of its operation at the position that is the new length, given the entries of the Reply, the
-/// position of its seal and its part. What the operation walks over is copied, and the client's own calls are done again on the
-/// copy. It costs what the entries above `base`, the walk and the own calls cost, each own call the logarithm or the number of
-/// the walk's rows.
+/// position of its seal and its part. Where no own call that is done stands above `base`, the part itself is asked, which costs its walk and
+/// the answer. Else what the operation walks over is copied, and the client's own calls are done again on the copy: each of them costs the
+/// logarithm or the number of the walk's rows. The entries above `base` are looked through once.
 pub fn decide(
     alloc: Global,
     state: &State,
@@ -129,6 +161,9 @@ pub fn decide(
 {
     if let Some(position) = first_in_the_way(state.id, op, &state.window, entries, base) {
         return Ok(Outcome::Aborted(position));
+    }
+    if are_below(&state.own, base) {
+        return Ok(Outcome::Done(answer_at(alloc, part, op)?));
     }
     let mut laid_over = walked_over(alloc, part, op)?;
     lay_all(alloc, &mut laid_over, &state.own, base)?;

@@ -1,4 +1,8 @@
-//! Parts of a dictionary's tree.
+//! Parts of a dictionary's tree: the tree with subtrees cut away, each of which leaves a stub with its root.
+//!
+//! What an operation meets on its walk over a part is `specs/Walks.antt` of `vic_wire`, and which part it needs `specs/Cuts.antt` there.
+//! On each cut of a dictionary's tree that shows the walk, [`Pruned::try_op`] answers as the dictionary does, and [`Pruned::after`] gives the
+//! root of the dictionary after the operation.
 #![tactic(auto)]
 
 mod cut;
@@ -8,44 +12,4 @@ pub use cut::{cut_for, cut_none};
 pub use pruned::{PruneFault, Pruned};
 
 #[cfg(test)]
-mod tests {
-    use super::*;
-    use std::alloc::Global;
-    use std::process::Abort;
-    use std::test::Fail;
-    use vic_dict::{Bytes, Op};
-    use vic_trie::Trie;
-
-    fn text(rt: &HostRuntime, bytes: &[u8]) -> Result<Bytes, Fail> {
-        Ok(Bytes::of(rt.alloc(), bytes)?)
-    }
-
-    #[test]
-    fn index_of_a_and_b(rt: HostRuntime) -> Result<(), Fail> {
-        assert_eq!(rt; vic_keybits::first_difference(b"a", b"b"), Some(7));
-        assert_eq!(rt; vic_keybits::first_difference(b"a", b"ab"), Some(9));
-        assert_eq!(rt; vic_keybits::first_difference(b"ab", b"ab"), None);
-        Ok(())
-    }
-
-    fn pair(rt: &impl Abort, alloc: Global) -> Result<Trie, Fail> {
-        let mut trie = Trie::new(alloc);
-        assert!(rt; trie.weight() < 1000);
-        trie.put(b"a", b"x")?;
-        assert!(rt; trie.weight() < 1000);
-        trie.put(b"b", b"y")?;
-        Ok(trie)
-    }
-
-    #[test]
-    fn after_as_the_trie(rt: HostRuntime) -> Result<(), Fail> {
-        let mut trie = pair(&rt, rt.alloc())?;
-        let op = Op::Del(text(&rt, b"b")?);
-        assert!(rt; op.fits());
-        let part = cut_for(rt.alloc(), &trie, &op)?;
-        let after = part.after(&op).ok().ok_or("stub")?;
-        assert!(rt; trie.del(b"b"));
-        assert_eq!(rt; after, trie.root());
-        Ok(())
-    }
-}
+mod tests;

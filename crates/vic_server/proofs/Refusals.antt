@@ -1,5 +1,5 @@
 -- A refusal changes nothing.
-use Rattle.std.proofs.Common.{◌≡◌, ℕ, ◌+◌, ◌&&◌, Bool, true, false, not, List, [], ◌∷◌, length, Option, Some, None, refl}
+use Rattle.std.proofs.Common.{◌≡◌, ℕ, ◌+◌, ◌&&◌, Bool, true, false, not, List, [], ◌∷◌, ◌++◌, length, Option, Some, None, refl, ap, ◌∙◌}
 use Rattle.std.specs.Prelude.{if◌then◌else◌, nat_eq, nat_lt, nat_le}
 use Rattle.std.specs.List.{sum_by}
 use Rattle.vic_dict.specs.declared.op.Mode.TheVariants as mode
@@ -14,22 +14,25 @@ use Rattle.vic_order.specs.declared.Stage.TheVariants as stage
 use Rattle.vic_wire.specs.Parts.{part_for}
 use Rattle.vic_rules.specs.Client.{first_failing}
 use Rattle.vic_order.specs.Order.{Ordered, Server, Answered, says, becomes, guarded, unless_refused, member, size, sealed_count, ordered_at, commit_at, with_commit, with_seal, set_stage, is_ready, is_away, is_open_at, is_member, same_mode, owns_committed, turn, turn_on, top_seal, update_part, ordered_next, entries_above, is_kept, content_with, serve_read, serve}
+use Rattle.vic_change.specs.Changes.{change}
+use Rattle.vic_change.specs.declared.Change.{Change}
 use Rattle.vic_server.specs.Keeping.{invoke_tests}
+use Rattle.vic_server.specs.Replay.{Kept, kept, stepped}
 
--- where it refuses, it is as it was
+-- where it refuses, it is as it was, and makes no change
 abbrev IsKept : Server → Answered → Type 0
-IsKept s a = (r : ℕ) → a.answer ≡ say.Refused r → a.next ≡ s
+IsKept s a = (r : ℕ) → a.answer ≡ say.Refused r → (a.next ≡ s) × (a.change ≡ false)
 
 tested : (s : Server) (failing : Option ℕ) (a : Answered) → IsKept s a → IsKept s (unless_refused s failing a)
 tested s None a kept = kept
-tested s (Some n) a kept = λ r e. refl
+tested s (Some n) a kept = λ r e. (refl, refl)
 
 -- a client that has come in, and one test
 ordered : (s : Server) (who : ℕ) (b : Bool) (a : Answered) → IsKept s a → IsKept s (guarded s ((6, is_member s who) ∷ []) (guarded s ((5, b) ∷ []) a))
 ordered s who b a kept = tested s (first_failing ((6, is_member s who) ∷ [])) (guarded s ((5, b) ∷ []) a) (tested s (first_failing ((5, b) ∷ [])) a kept)
 
 said : (s : Server) (a : ToClient) → IsKept s (says s a)
-said s a r e = refl
+said s a r e = (refl, refl)
 
 granted : (s next : Server) (a : ToClient) → ((r : ℕ) → a ≡ say.Refused r → ⊥) → IsKept s (becomes next a)
 granted s next a never r e = absurd (never r e)
@@ -82,4 +85,19 @@ refused_keeps s who (Some ask.Bye) =
 
 pub refused_served : (s : Server) (who : ℕ) (payload : List ℕ) (r : ℕ) → (serve s who payload).answer ≡ say.Refused r → (serve s who payload).next ≡ s
 unfolding serve
-refused_served s who payload = refused_keeps s who (read_request payload)
+refused_served s who payload r e = (refused_keeps s who (read_request payload) r e).0
+
+pub refused_makes : (s : Server) (who : ℕ) (payload : List ℕ) (r : ℕ) → (serve s who payload).answer ≡ say.Refused r → (serve s who payload).change ≡ false
+unfolding serve
+refused_makes s who payload r e = (refused_keeps s who (read_request payload) r e).1
+
+nothing_more : (cs : List Change) → cs ++ [] ≡ cs
+nothing_more [] = refl
+nothing_more (c ∷ cs) = ap (λ (l : List Change). c ∷ l) (nothing_more cs)
+
+-- nor does its history grow
+pub refused_stepped : (k : Kept) (seat who : ℕ) (payload : List ℕ) (r : ℕ) → (serve k.server who payload).answer ≡ say.Refused r → stepped k seat who payload ≡ k
+refused_stepped k seat who payload r e =
+    ap (λ (b : Bool). kept k.opening (k.changes ++ (if b then change seat who payload ∷ [] else [])) (serve k.server who payload).next) (refused_makes k.server who payload r e)
+    ∙ ap (λ (cs : List Change). kept k.opening cs (serve k.server who payload).next) (nothing_more k.changes)
+    ∙ ap (λ (s : Server). kept k.opening k.changes s) (refused_served k.server who payload r e)

@@ -24,6 +24,10 @@ use vic_proof::{bare_bytes, cut_bytes};
 use vic_trie::Trie;
 use vic_wire::{Digest32, Seal, TaggedList, ToClient};
 
+/// The most bytes that the part of an answer can have. The pairs weigh at most 8,388,608, which counts the bytes of their leaves and inner
+/// nodes; a stub and an inner node for each of 2,296 levels, 36 bytes, and a form byte come on top.
+pub const LONGEST_PART: usize = 8_471_265;
+
 /// A server of a group: its log, commits and seals, the sealed dictionary, and where each client stands.
 #[derive(Debug, Drop)]
 pub struct Machine {
@@ -91,7 +95,7 @@ fn part_of_update(alloc: Global, dictionary: &Trie, op: &Op, done: bool) -> Resu
     requires fits { Fits op.now }
     requires light { pairs_weight dictionary.now ≤ 8388608 }
     ensures is { IfOk result (λ b. b ≡ update_part dictionary.now op.now done) }
-    ensures short { IfOk result (λ b. length b ≤ 8471265) }
+    ensures short { IfOk result (λ b. length b ≤ LONGEST_PART) }
 {
     if done && is_write(op) {
         return cut_bytes(alloc, dictionary, op);
@@ -122,6 +126,35 @@ fn turn_of(
         }
         _ => Ok(ToClient::Wait),
     }
+}
+
+/// The turn over a seal, once the entry of its position is applied where it was done. The dictionary is changed for that and changed
+/// back, which costs the way to the entry's key; changing it back takes no memory.
+fn turn_over(
+    alloc: Global,
+    seal: Seal,
+    dictionary: &mut Trie,
+    op: &Op,
+    done: bool,
+    who: u8,
+    row: &Row,
+    status: bool,
+) -> Result<ToClient, NoMemory>
+    requires fits { Fits op.now }
+    requires light { pairs_weight dictionary.old + op_weight op.now ≤ 8388608 }
+    requires seal { IsSeal seal }
+    ensures is { IfOk result (λ a. a ≡ turn_from seal (if done then after dictionary.old op.now else dictionary.old) who (Some row.now) (Some status)) }
+    ensures spelled { IfOk result (λ a. HasSpelling a) }
+    ensures short { IfOk result (λ a. HasShortPart a) }
+    ensures same { dictionary.new ≡ dictionary.old }
+{
+    if !done {
+        return turn_of(alloc, seal, dictionary, who, Some(row), Some(status));
+    }
+    let undo = dictionary.change(op)?;
+    let turn = turn_of(alloc, seal, dictionary, who, Some(row), Some(status));
+    dictionary.undo(undo);
+    turn
 }
 
 /// Makes room in the index for one entry more than so many.
@@ -445,37 +478,33 @@ impl Machine {
         }
     }
 
-    /// The turn after the next position is sealed.
+    /// The turn after the next position is sealed. The server is the same afterwards, whatever comes.
     pub(crate) fn turn_after(
-        &self,
+        &mut self,
         alloc: Global,
         who: u8,
         seal: Seal,
         done: bool,
     ) -> Result<ToClient, NoMemory>
-        requires next { seal.position ≡ sealed_count self.now + 1 }
-        requires within { seal.position ≤ size self.now }
-        requires committed { commit_at self.now seal.position ≡ Some done }
+        requires next { seal.position ≡ sealed_count self.old + 1 }
+        requires within { seal.position ≤ size self.old }
+        requires committed { commit_at self.old seal.position ≡ Some done }
         requires spelled { IsSeal seal }
-        ensures is { IfOk result (λ a. a ≡ turn (with_seal self.now seal) who) }
+        ensures is { IfOk result (λ a. a ≡ turn (with_seal self.old seal) who) }
         ensures spelled { IfOk result (λ a. HasSpelling a) }
         ensures short { IfOk result (λ a. HasShortPart a) }
+        ensures same { self.new ≡ self.old }
     {
         let next = self.sealed() + 2;
-        if self.commit_of(who, next).is_none() {
-            return Ok(ToClient::Wait);
+        match self.commit_of(who, next) {
+            None => Ok(ToClient::Wait),
+            Some(status) => {
+                let row = &self.rows[seal.position as usize - 1];
+                let coming = &self.rows[next as usize - 1];
+                let dictionary = &mut self.dictionary;
+                turn_over(alloc, seal, dictionary, row.op(), done, who, coming, status)
+            }
         }
-        let mut after = self.dictionary.copy()?;
-        let row = &self.rows[seal.position as usize - 1];
-        let _freed = apply(&mut after, row.op(), done)?;
-        turn_of(
-            alloc,
-            seal,
-            &after,
-            who,
-            self.row_at(next),
-            self.status_at(next),
-        )
     }
 
     /// The turn over a seal, where the entry at the next position has this commit.
@@ -508,7 +537,7 @@ impl Machine {
     pub(crate) fn part_for(&self, alloc: Global, op: &Op) -> Result<Bytes, NoMemory>
         requires { Fits op.now }
         ensures is { IfOk result (λ b. b ≡ part_for self.now.dictionary op.now) }
-        ensures short { IfOk result (λ b. length b ≤ 8471265) }
+        ensures short { IfOk result (λ b. length b ≤ LONGEST_PART) }
     {
         cut_bytes(alloc, &self.dictionary, op)
     }

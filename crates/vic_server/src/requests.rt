@@ -226,9 +226,10 @@ impl Machine {
         })
     }
 
-    fn on_seal(&self, alloc: Global, who: u8, seal: Seal) -> Result<Plan, NoMemory>
+    fn on_seal(&mut self, alloc: Global, who: u8, seal: Seal) -> Result<Plan, NoMemory>
         requires { IsSeal seal × (0 < seal.position) }
-        ensures { IfOk result (λ p. Follows (on_request self.now who (ask.Seal seal.position seal.root seal.tag)) self.now p) }
+        ensures follows { IfOk result (λ p. Follows (on_request self.old who (ask.Seal seal.position seal.root seal.tag)) self.old p) }
+        ensures same { self.new ≡ self.old }
     {
         if !(is_ready(self.stage_of(who)) && seal.position == self.sealed() + 1) {
             return Ok(refused(5));
@@ -330,11 +331,17 @@ impl Machine {
         refused(5)
     }
 
-    fn on_request(&self, alloc: Global, who: u8, request: ToServer) -> Result<Plan, NoMemory>
-        requires seat { IsSeat self.now who × (who ≤ 64) }
+    fn on_request(
+        &mut self,
+        alloc: Global,
+        who: u8,
+        request: ToServer,
+    ) -> Result<Plan, NoMemory>
+        requires seat { IsSeat self.old who × (who ≤ 64) }
         requires spelled { HasRequestSpelling request }
-        ensures follows { IfOk result (λ p. Follows (on_request self.now who request) self.now p) }
-        ensures waits { request ≡ ask.Poll → (on_request self.now who request).answer ≡ say.Wait → result ≡ Ok to_wait }
+        ensures follows { IfOk result (λ p. Follows (on_request self.old who request) self.old p) }
+        ensures waits { request ≡ ask.Poll → (on_request self.old who request).answer ≡ say.Wait → result ≡ Ok to_wait }
+        ensures same { self.new ≡ self.old }
     {
         match request {
             ToServer::Hello(_, _) => Ok(refused(5)),
@@ -370,10 +377,16 @@ impl Machine {
         }
     }
 
-    fn on_read(&self, alloc: Global, who: u8, request: Option<ToServer>) -> Result<Plan, NoMemory>
+    fn on_read(
+        &mut self,
+        alloc: Global,
+        who: u8,
+        request: Option<ToServer>,
+    ) -> Result<Plan, NoMemory>
         requires { IfSome request (λ m. HasRequestSpelling m) }
-        ensures follows { IfOk result (λ p. Follows (serve_read self.now who request) self.now p) }
-        ensures waits { request ≡ Some ask.Poll → (serve_read self.now who request).answer ≡ say.Wait → result ≡ Ok to_wait }
+        ensures follows { IfOk result (λ p. Follows (serve_read self.old who request) self.old p) }
+        ensures waits { request ≡ Some ask.Poll → (serve_read self.old who request).answer ≡ say.Wait → result ≡ Ok to_wait }
+        ensures same { self.new ≡ self.old }
     {
         match request {
             None => Ok(refused(5)),
@@ -387,11 +400,18 @@ impl Machine {
         }
     }
 
-    /// What the rule says of a payload.
+    /// What the rule says of a payload. The server is the same afterwards; for the turn behind a seal its dictionary is changed and changed
+    /// back.
     #[tactic(auto, unfolding(vic_order::specs::Order::serve))]
-    pub(crate) fn plan(&self, alloc: Global, who: u8, payload: &[u8]) -> Result<Plan, NoMemory>
-        ensures follows { IfOk result (λ p. Follows (serve self.now who payload.now) self.now p) }
-        ensures waits { read_request payload.now ≡ Some ask.Poll → (serve self.now who payload.now).answer ≡ say.Wait → result ≡ Ok to_wait }
+    pub(crate) fn plan(
+        &mut self,
+        alloc: Global,
+        who: u8,
+        payload: &[u8],
+    ) -> Result<Plan, NoMemory>
+        ensures follows { IfOk result (λ p. Follows (serve self.old who payload.now) self.old p) }
+        ensures waits { read_request payload.now ≡ Some ask.Poll → (serve self.old who payload.now).answer ≡ say.Wait → result ≡ Ok to_wait }
+        ensures same { self.new ≡ self.old }
     {
         let request = decode_request(alloc, payload)?;
         self.on_read(alloc, who, request)

@@ -146,10 +146,16 @@ impl Served {
         self.machine.weight()
     }
 
-    // What the rule says of a payload.
-    pub(crate) fn plan(&self, alloc: Global, who: u8, payload: &[u8]) -> Result<Plan, NoMemory>
-        ensures follows { IfOk result (λ p. Follows (serve self.now.server who payload.now) self.now.server p) }
-        ensures waits { read_request payload.now ≡ Some ask.Poll → (serve self.now.server who payload.now).answer ≡ say.Wait → result ≡ Ok to_wait }
+    // What the rule says of a payload. Nothing is changed afterwards.
+    pub(crate) fn plan(
+        &mut self,
+        alloc: Global,
+        who: u8,
+        payload: &[u8],
+    ) -> Result<Plan, NoMemory>
+        ensures follows { IfOk result (λ p. Follows (serve self.old.server who payload.now) self.old.server p) }
+        ensures waits { read_request payload.now ≡ Some ask.Poll → (serve self.old.server who payload.now).answer ≡ say.Wait → result ≡ Ok to_wait }
+        ensures same { self.new ≡ self.old }
     {
         self.machine.plan(alloc, who, payload)
     }
@@ -217,12 +223,17 @@ impl Served {
         ensures ok { OnOk result (self.new ≡ stepped self.old seat who payload.now) }
         ensures answer { IfOk result (λ a. a ≡ (serve self.old.server who payload.now).answer) }
         ensures spelled { IfOk result (λ a. HasSpelling a) }
+        // Each refusal, and the word to wait, comes exactly where its own cause holds.
+        ensures causes { IfOk result (λ a. Causes self.old.server who (read_request payload.now) a) }
+        // A refusal changes nothing.
+        ensures refused { (r : ℕ) → result ≡ Ok (say.Refused r) → self.new ≡ self.old }
         // Its envelope fits a frame.
         ensures short { IfOk result (λ a. length (answer_text a) ≤ 16777211) }
         // A Poll that is to wait takes no memory.
         ensures waits { read_request payload.now ≡ Some ask.Poll → (serve self.old.server who payload.now).answer ≡ say.Wait → result ≡ Ok say.Wait }
         ensures err { OnErr result (self.new ≡ self.old) }
     {
+        let _plain = self.machine.mode();
         let Plan { answer, change } = self.plan(alloc, who, payload)?;
         self.keep(alloc, seat, who, payload, change)?;
         Ok(answer)

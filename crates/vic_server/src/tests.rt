@@ -1,4 +1,4 @@
-ghost use Rattle.std.specs.Prelude.{◌+◌, ◌<◌, ◌^◌};
+ghost use Rattle.std.specs.Prelude.{◌+◌, ◌<◌, ◌^◌, length};
 
 use super::*;
 use std::alloc::Global;
@@ -50,6 +50,31 @@ const ROWS: [Row; 13] = [
     (1, b"\x24", b"\x46\x06"),
 ];
 
+/// Puts and their turns: a client makes two puts before it seals the first. The Update behind the first Seal has the tree after it.
+const TURNS: [Row; 8] = [
+    (
+        1,
+        b"\x22\0\0\0\0\0\0\0\x01\x01\x01a\x01x\xff",
+        b"\x42\0\0\0\0\0\x01\x01\0\0\0\x01\x01\x01a\x01x\xff\x01\0",
+    ),
+    (1, b"\x23\0\0\0\x01\0\xff", b"\x44\0\0\0\0\x01\0"),
+    (
+        1,
+        b"\x22\0\0\0\x01\0\0\0\x02\x01\x01b\x01y\xff",
+        b"\x42\0\0\0\0\0\x01\x01\0\0\0\x02\x01\x01b\x01y\xff\x01\0",
+    ),
+    (1, b"\x23\0\0\0\x02\0\xff", b"\x44\0\0\0\0\x01\0"),
+    (1, b"\x25\0\0\0\x01\xff\xff", b"\x44\0\0\0\x01\xff\xff\x01\x01\x01a\x01x"),
+    (1, b"\x24", b"\x44\0\0\0\x01\xff\xff\x01\x01\x01a\x01x"),
+    (1, b"\x25\0\0\0\x02\xff\xff", b"\x43"),
+    // List everything: the whole tree, whose two leaves part at bit 7.
+    (
+        1,
+        b"\x22\0\0\0\x02\0\0\0\x03\x04\0\xff",
+        b"\x42\0\0\0\x02\xff\xff\0\x01\x01\0\0\0\x03\x04\0\xff\x01\x02\0\x07\x01\x01a\x01x\x01\x01b\x01y",
+    ),
+];
+
 fn payload_of(alloc: Global, text: &[u8]) -> Result<Bytes, NoMemory> {
     let mut payload = Bytes::new(alloc);
     for byte in text {
@@ -73,8 +98,8 @@ fn answers<S: Serve>(alloc: Global, server: &mut S, row: &Row) -> Result<bool, N
 }
 
 /// Whether it answers so all along.
-fn answers_all<S: Serve>(alloc: Global, server: &mut S) -> Result<bool, NoMemory> {
-    for row in ROWS.iter() {
+fn answers_all<S: Serve>(alloc: Global, server: &mut S, rows: &[Row]) -> Result<bool, NoMemory> {
+    for row in rows {
         if !answers(alloc, server, row)? {
             return Ok(false);
         }
@@ -87,8 +112,8 @@ fn one_client(rt: HostRuntime) -> Result<(), Fail> {
     let alloc = rt.alloc();
     let mut server = Served::new(alloc, Mode::Plain, 2).ok().ok_or("memory")?;
     let mut other = Serve::copy(&server, alloc).ok().ok_or("memory")?;
-    assert!(rt; answers_all(alloc, &mut server).ok().ok_or("memory")?);
-    assert!(rt; answers_all(alloc, &mut other).ok().ok_or("memory")?);
+    assert!(rt; answers_all(alloc, &mut server, &ROWS).ok().ok_or("memory")?);
+    assert!(rt; answers_all(alloc, &mut other, &ROWS).ok().ok_or("memory")?);
     assert_eq!(rt; server.length(), 2);
     assert_eq!(rt; server.sealed(), 2);
     assert_eq!(rt; server.pairs(), 1);
@@ -96,6 +121,24 @@ fn one_client(rt: HostRuntime) -> Result<(), Fail> {
     assert_eq!(rt; server.owner_of_next(), None);
     let copied = Serve::copy(&server, alloc).ok().ok_or("memory")?;
     assert!(rt; copied.length() == 2 && copied.sealed() == 2 && copied.weight() == 18);
+    Ok(())
+}
+
+/// A put weighs from its Invoke on, one of a key that has a value too.
+#[test]
+fn turns(rt: HostRuntime) -> Result<(), Fail> {
+    let alloc = rt.alloc();
+    let mut server = Served::gathered(alloc, Mode::Plain, 1)?;
+    assert!(rt; answers(alloc, &mut server, &TURNS[0])?);
+    assert!(rt; server.weight() == 18 && server.pairs() == 0);
+    assert!(rt; answers_all(alloc, &mut server, &TURNS[1..])?);
+    assert!(rt; server.weight() == 36 && server.pairs() == 2);
+    let mut again = Served::gathered(alloc, Mode::Plain, 1)?;
+    put_from(alloc, &mut again, 0, b"a", b"x")?;
+    commit(alloc, &mut again, 1, 1)?;
+    seal(alloc, &mut again, 1, 1)?;
+    put_from(alloc, &mut again, 1, b"a", b"y")?;
+    assert!(rt; again.weight() == 36 && again.pairs() == 1);
     Ok(())
 }
 
@@ -127,6 +170,30 @@ fn call_from(
     payload.append(b"\x02\x01a")?;
     payload.append(TAG.as_slice())?;
     server.step(alloc, 0, who, payload.as_slice())
+}
+
+/// A put, from client 1, whose path has all entries and whose calls are the entries.
+fn put_from(
+    alloc: Global,
+    server: &mut Served,
+    known: u32,
+    key: &[u8],
+    value: &[u8],
+) -> Result<ToClient, NoMemory>
+    requires known { known < 2 ^ 31 }
+    requires key { length key.now < 256 }
+    requires value { length value.now < 256 }
+{
+    let mut payload = Bytes::of(alloc, b"\x22")?;
+    payload.append(known.to_be_bytes().as_slice())?;
+    payload.append((known + 1).to_be_bytes().as_slice())?;
+    payload.push(1)?;
+    payload.push(key.len() as u8)?;
+    payload.append(key)?;
+    payload.push(value.len() as u8)?;
+    payload.append(value)?;
+    payload.append(TAG.as_slice())?;
+    server.step(alloc, 0, 1, payload.as_slice())
 }
 
 /// The Commit of a position, as done.
@@ -217,5 +284,57 @@ fn pending(rt: HostRuntime) -> Result<(), Fail> {
     assert!(rt; server.length() == 1024 && server.sealed() == 0);
     let last = call_from(alloc, &mut server, 1, 1024, 1024)?;
     assert!(rt; matches!(last, ToClient::Refused(2)));
+    Ok(())
+}
+
+/// Puts of client 1, committed and sealed, each with a key of 255 bytes of its own and a value of 64. Whether each was ordered.
+fn put_often(alloc: Global, server: &mut Served, count: u32) -> Result<bool, NoMemory>
+    requires { count < 2 ^ 31 }
+{
+    let value = [0x78u8; 64];
+    let mut key = [0x61u8; 255];
+    let mut ordered = true;
+    for n in 0..count {
+        let number = n.to_be_bytes();
+        key[0] = number[0];
+        key[1] = number[1];
+        key[2] = number[2];
+        key[3] = number[3];
+        let answer = put_from(alloc, server, n, &key, &value)?;
+        ordered &= told(&answer) == 1;
+        commit(alloc, server, 1, n + 1)?;
+        seal(alloc, server, 1, n + 1)?;
+    }
+    Ok(ordered)
+}
+
+/// 25,040 pairs of the greatest weight leave room for 208.
+#[test]
+fn full_dictionary(rt: HostRuntime) -> Result<(), Fail> {
+    let alloc = rt.alloc();
+    let mut server = Served::gathered(alloc, Mode::Plain, 1)?;
+    assert!(rt; put_often(alloc, &mut server, 25_040)?);
+    assert!(rt; server.weight() == 8_388_400 && server.pairs() == 25_040);
+    let key = [0x62u8; 255];
+    let value = [0x79u8; 64];
+    let longest = put_from(alloc, &mut server, 25_040, &key, &value)?;
+    assert!(rt; matches!(longest, ToClient::Refused(3)));
+    let heavy = put_from(alloc, &mut server, 25_040, &key[..129], &value)?;
+    assert!(rt; matches!(heavy, ToClient::Refused(3)));
+    let light = put_from(alloc, &mut server, 25_040, &key[..128], &value)?;
+    assert_eq!(rt; told(&light), 1);
+    assert_eq!(rt; server.weight(), 8_388_608);
+    Ok(())
+}
+
+/// The log takes 1,048,576 entries.
+#[test]
+fn full_log(rt: HostRuntime) -> Result<(), Fail> {
+    let alloc = rt.alloc();
+    let mut server = Served::gathered(alloc, Mode::Plain, 1)?;
+    assert!(rt; call_often(alloc, &mut server, 0, 1_048_576, true)?);
+    assert!(rt; server.length() == 1_048_576 && server.sealed() == 1_048_576);
+    let last = call_from(alloc, &mut server, 1, 1_048_576, 1_048_577)?;
+    assert!(rt; matches!(last, ToClient::Refused(4)));
     Ok(())
 }

@@ -16,3 +16,4 @@ pub mod Binding
 pub mod Grammar
 pub mod Alike
 pub mod Short
+mod Laws

@@ -1,3 +1,4 @@
 pub mod Grown
 pub mod Shown
 pub mod Binding
+pub mod Laws
