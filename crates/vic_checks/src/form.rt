@@ -28,7 +28,7 @@ pub fn is_awaited(awaiting: &Awaiting, message: &ToClient) -> bool
 }
 
 // A Reply's seal stands below the new length, and not far.
-fn reply_fits(length: u32, count: usize, position: u32) -> bool
+pub(crate) fn reply_fits(length: u32, count: usize, position: u32) -> bool
     requires room { length ≤ 1048576 }
     requires few { count ≤ 8192 }
     ensures { let n = length + count in result ≡ (nat_le n 1048576 && (nat_lt position n && nat_le (n - position) 1024)) }

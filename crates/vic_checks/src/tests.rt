@@ -2,6 +2,7 @@ ghost use Rattle.std.specs.Prelude.{◌≡◌, ◌<◌, [], IfOk, length};
 ghost use Rattle.vic_dict.specs.Dictionary.{Fits};
 ghost use Rattle.vic_checks.specs.Passing.{AwaitsFit};
 
+use crate::form::reply_fits;
 use crate::{Awaiting, Own, OwnList, State, Verdict, decide, judge};
 use std::alloc::Global;
 use std::test::Fail;
@@ -89,6 +90,15 @@ fn verdicts(rt: HostRuntime) -> Result<(), Fail> {
     Ok(())
 }
 
+/// A Reply to a call at position 1,024 may have a seal of position 0, and one at 1,025 may not; the path has at most 1,048,576 entries.
+#[test]
+fn lengths_of_replies(rt: HostRuntime) -> Result<(), Fail> {
+    assert!(rt; reply_fits(1023, 1, 0) && !reply_fits(1024, 1, 0) && reply_fits(1024, 1, 1));
+    assert!(rt; reply_fits(1_048_575, 1, 1_047_552) && !reply_fits(1_048_576, 1, 1_048_576));
+    assert!(rt; reply_fits(0, 1, 0) && !reply_fits(0, 1, 1));
+    Ok(())
+}
+
 // An own call shows in the answer, and a conflict with another's call aborts.
 #[test]
 fn decisions(rt: HostRuntime) -> Result<(), Fail> {
@@ -103,5 +113,8 @@ fn decisions(rt: HostRuntime) -> Result<(), Fail> {
     }
     let aborted = decide(rt.alloc(), &state, &list, 0, &Pruned::Empty, &other)?;
     assert!(rt; matches!(&aborted, Outcome::Aborted(1)));
+    // Over its own position the call isn't done again.
+    let sealed = decide(rt.alloc(), &state, &list, 1, &Pruned::Empty, &own)?;
+    assert!(rt; matches!(&sealed, Outcome::Done(Answer::NotFound)));
     Ok(())
 }

@@ -11,7 +11,7 @@ use Rattle.vic_server.proofs.served.Served.step.Goals as goal
 
 pub returns-clause-causes : goal.returns-clause-causes
 returns-clause-causes c =
-    let plain : c.args.self.now.server.mode ≡ mode.Plain = sym (ap (λ (k : Kept). k.server.mode) c.self.view_is) ∙ sym c.mode.ensures.is ∙ c.mode.ensures.plain in
+    let plain : c.args.self.now.server.mode ≡ mode.Plain = sym (ap (λ (k : Kept). k.server.mode) c.self.view_is) ∙ sym c.mode-plain.ensures.is ∙ c.mode-plain.ensures.plain in
     subst (λ (a : ToClient). Causes c.args.self.now.server c.args.who (read_request c.args.payload.now) a) (sym c.in_ok-answer.ensures.follows.1.0) (caused_served c.args.self.now.server c.args.who c.args.payload.now plain)
 
 pub returns-clause-refused : goal.returns-clause-refused
