@@ -10,11 +10,14 @@ use Rattle.vic_wire.specs.declared.message.Tagged.{Tagged}
 use Rattle.vic_wire.specs.declared.message.ToClient.TheVariants as say
 use Rattle.vic_wire.specs.Hashes.{Group}
 use Rattle.vic_rules.specs.declared.trace.TraceStep.{TraceStep}
-use Rattle.vic_rules.specs.Client.{in_the_way, decided, decision}
+use Rattle.vic_rules.specs.Client.{is_in_the_way, in_the_way, decided, decision}
 use Rattle.vic_rules.specs.History.{standing, path, move_of, AreSteps, IsStep, Completion, completions}
 use Rattle.vic_rules.specs.Trust.{took, taken_by}
 use Rattle.vic_wire.specs.Parts.{Part, read_part, walked}
-use Rattle.vic_laws.specs.OrderClaims.{DoneMeetsNoConflict, AbortedByTheLeast}
+use Rattle.vic_laws.specs.OrderClaims.{PassesAt, BlocksAt, DoneMeetsNoConflict, AbortedByTheLeast}
+use Rattle.vic_wire.specs.Conflict.{conflicts}
+use Rattle.std.proofs.lemmas.Bool.{and_parts, and_from, eq-eqb, ne_eqb}
+use Rattle.std.specs.Prelude.{◌≢◌, ◌<◌, true, not, nat_eq}
 use Rattle.vic_laws.proofs.Words.{some_same, none_is_some}
 use Rattle.vic_laws.proofs.Steps.{Kind, is_quiet, is_called, is_replied, is_updated, is_listed, call_of}
 use Rattle.vic_laws.proofs.Standings.{standing_moved, earlier_steps}
@@ -80,14 +83,34 @@ decided_over g h lawful later x past whole seal entries bytes t e below path_is 
           returned = is.returned ∙ (ap (λ v. v.returns) r.moved ∙ ap (λ d. Some (decided (in_the_way x.client r.op r.seal.position (r.others ++ path g x.client past)) d r.op)) (lays_at g h lawful later x past whole r));
         }))
 
+-- ---- what is in the way
+
+other_client : (a b : ℕ) → not (nat_eq a b) ≡ true → a ≢ b
+other_client a b e same = let equal : nat_eq a b ≡ true = eq-eqb a b same in absurd cc
+
+-- the client's test and the words of conflicts say the same
+pub blocks : (me : ℕ) (o : Op) (base : ℕ) (path : List Entry) (u : ℕ) → base < u → PassesAt (is_in_the_way me o) path u → BlocksAt me o base path u
+blocks me o base path u above h =
+    let both = and_parts (not (nat_eq h.entry.client me)) (conflicts h.entry.op o) h.passes in
+    record { above = above; within = h.within; entry = h.entry; there = h.there; other = other_client h.entry.client me both.0; conflict = both.1 }
+
+pub passes : (me : ℕ) (o : Op) (base : ℕ) (path : List Entry) (u : ℕ) → BlocksAt me o base path u → PassesAt (is_in_the_way me o) path u
+passes me o base path u h = record {
+  within = h.within;
+  entry = h.entry;
+  there = h.there;
+  passes = and_from (not (nat_eq h.entry.client me)) (conflicts h.entry.op o) (ap not (ne_eqb h.entry.client me h.other)) h.conflict;
+}
+
 -- ---- the laws
 
 -- a call that is done meets no conflict above the seal of its Reply
 pub done_meets_no_conflict : DoneMeetsNoConflict
-done_meets_no_conflict g h lawful later x past whole seal entries part t e below path_is a returned =
+done_meets_no_conflict g h lawful later x past whole seal entries part t e below path_is a returned u b =
     let d = decided_over g h lawful.steps later x past whole seal entries part t e below path_is in
-    (none_above_tells seal.position _ below).0
+    (none_above_tells seal.position (is_in_the_way x.client e.op) below).0
     (done_by_none (in_the_way x.client e.op seal.position below) (own_laid (completions g h) x.client seal.position (walked d.part e.op) below) e.op a (some_same (sym d.returned ∙ returned)))
+    u b.above (passes x.client e.op seal.position below u b)
 
 -- a call is aborted exactly by the least position of a conflict above the seal of its Reply
 pub aborted_by_the_least : AbortedByTheLeast

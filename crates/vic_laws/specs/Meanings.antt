@@ -19,7 +19,7 @@ use Rattle.vic_rules.specs.declared.trace.Shown.{Shown}
 use Rattle.vic_rules.specs.History.{standing, path, IsLawful, completions}
 use Rattle.vic_dict.specs.declared.op.Answer.{Answer}
 use Rattle.vic_rules.specs.Views.{confirmed_calls, left_by, IsLegal}
-use Rattle.vic_laws.specs.OrderClaims.{effect_of, PicksOwn}
+use Rattle.vic_laws.specs.OrderClaims.{BlocksAt, effect_of, PicksOwn}
 use Rattle.vic_rules.specs.Trust.{took, IsForged, Collides, IsListed, parts_in, applied}
 
 -- ---- legal views
@@ -94,15 +94,6 @@ abbrev pub LawfulByClient : Type 0
 LawfulByClient = (g : Group) (h : List TraceStep) → IsLawful g h ↔ ((me : ℕ) → IsLawful g (own_steps me h))
 
 -- ---- aborts
-
--- the entry at a position of a path, above a base, stands in the way of a client's operation: another client's, and in conflict
-pub record BlocksAt (me : ℕ) (o : Op) (base : ℕ) (path : List Entry) (u : ℕ) : Type 0 where
-  pub above : base < u
-  pub within : u ≤ length path
-  pub entry : Entry
-  pub there : newest (front u path) ≡ Some entry
-  pub other : entry.client ≢ me
-  pub conflict : conflicts entry.op o ≡ true
 
 -- a call is aborted exactly by the least position that stands in its way, between the seal of its Reply and itself
 abbrev pub AbortedByConflictIn : Group → List TraceStep → Type 0

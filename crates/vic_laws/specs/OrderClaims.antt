@@ -1,5 +1,5 @@
 -- The laws on the order of calls: which views go together, what a client decides, and what the words that they are made of mean.
-use Rattle.std.specs.Prelude.{◌≡◌, ℕ, ◌<◌, ◌≤◌, ◌↔◌, Bool, true, false, ◌&&◌, List, [], ◌∷◌, ◌++◌, length, Option, Some, None, nat_lt, if◌then◌else◌}
+use Rattle.std.specs.Prelude.{◌≡◌, ◌≢◌, ℕ, ◌<◌, ◌≤◌, ◌↔◌, Bool, true, false, ◌&&◌, List, [], ◌∷◌, ◌++◌, length, Option, Some, None, nat_lt, if◌then◌else◌}
 use Rattle.vic_dict.specs.declared.op.Op.{Op}
 use Rattle.vic_dict.specs.declared.op.Entry.{Entry}
 use Rattle.vic_dict.specs.declared.op.Answer.{Answer}
@@ -10,6 +10,7 @@ use Rattle.vic_dict.specs.Dictionary.{Dictionary, reply, after}
 use Rattle.vic_wire.specs.declared.message.Seal.{Seal}
 use Rattle.vic_wire.specs.declared.message.Tagged.{Tagged}
 use Rattle.vic_wire.specs.declared.message.ToClient.TheVariants as say
+use Rattle.vic_wire.specs.Conflict.{conflicts}
 use Rattle.vic_wire.specs.Hashes.{Group}
 use Rattle.vic_wire.specs.Parts.{Part, read_part, walked}
 use Rattle.vic_rules.specs.declared.trace.TraceStep.{TraceStep}
@@ -59,16 +60,25 @@ ConfirmedByOwner = (g : Group) (h : List TraceStep) → IsLawful g h → (e : En
 
 -- ---- decisions
 
--- a call that its client decided as done conflicts with no entry of another client that stands above the seal of the Reply and below the call
+-- the entry at a position of a path, above a base, stands in the way of a client's operation: another client's, and in conflict
+pub record BlocksAt (me : ℕ) (o : Op) (base : ℕ) (path : List Entry) (u : ℕ) : Type 0 where
+  pub above : base < u
+  pub within : u ≤ length path
+  pub entry : Entry
+  pub there : newest (front u path) ≡ Some entry
+  pub other : entry.client ≢ me
+  pub conflict : conflicts entry.op o ≡ true
+
+-- a call that its client decided as done has nothing in its way, between the seal of its Reply and itself
 abbrev pub DoneMeetsNoConflictIn : Group → List TraceStep → Type 0
 DoneMeetsNoConflictIn g h = (later : List TraceStep) (x : TraceStep) (past : List TraceStep) → h ≡ later ++ x ∷ past
     → (seal : Seal) (entries : List Tagged) (part : List ℕ) → took g past x ≡ Some (say.Reply seal entries part) → (e : Entry) (below : List Entry) → path g x.client (x ∷ past) ≡ e ∷ below
-    → (a : Answer) → x.returned ≡ Some (outcome.Done a) → (u : ℕ) → seal.position < u → PassesAt (is_in_the_way x.client e.op) below u → ⊥
+    → (a : Answer) → x.returned ≡ Some (outcome.Done a) → (u : ℕ) → BlocksAt x.client e.op seal.position below u → ⊥
 
 abbrev pub DoneMeetsNoConflict : Type 0
 DoneMeetsNoConflict = (g : Group) (h : List TraceStep) → IsLawful g h → DoneMeetsNoConflictIn g h
 
--- a call is aborted exactly by the least position of such an entry
+-- a call is aborted exactly by the least position at which the client's own test finds what is in the way
 abbrev pub AbortedByTheLeast : Type 0
 AbortedByTheLeast = (g : Group) (h : List TraceStep) → IsLawful g h → (later : List TraceStep) (x : TraceStep) (past : List TraceStep) → h ≡ later ++ x ∷ past
     → (seal : Seal) (entries : List Tagged) (part : List ℕ) → took g past x ≡ Some (say.Reply seal entries part) → (e : Entry) (below : List Entry) → path g x.client (x ∷ past) ≡ e ∷ below

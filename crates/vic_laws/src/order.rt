@@ -20,7 +20,8 @@ pub fn confirmed_is()
     ensures owner { ConfirmedByOwner }
 {}
 
-/// A call that is done conflicts with no entry of another client above the seal of its Reply and below itself.
+/// A call that is done conflicts with no entry of another client above the seal of its Reply and below itself, whatever its owner made of
+/// that one.
 pub fn done_meets_no_conflict()
     ensures { DoneMeetsNoConflict }
 {}

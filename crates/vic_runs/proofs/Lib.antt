@@ -21,3 +21,4 @@ pub mod Prints
 pub mod Agreed
 pub mod Tampering
 mod Ending
+mod Going

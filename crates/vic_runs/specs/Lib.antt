@@ -3,3 +3,4 @@ pub mod Claims
 pub mod Agreements
 pub mod Tampering
 pub mod Prints
+pub mod Going

@@ -8,6 +8,7 @@
 #![tactic(auto)]
 
 ghost use Rattle.vic_runs.specs.Claims.{RunsAreLawful, NothingIsForged, ForgedIs, RunsAreHonest, ClaimsHold, OutcomesAreFates, NobodyHalts, NoLineIsHalted, PrintsAreReturns};
+ghost use Rattle.vic_runs.specs.Going.{LinesGoOn};
 ghost use Rattle.vic_runs.specs.Prints.{FirstUnmadeIs, PrintsHaveAgreements, PrintsHaveViews};
 ghost use Rattle.vic_runs.specs.Tampering.{HonestLineIs};
 
@@ -72,4 +73,9 @@ pub fn first_unmade_is()
 pub fn prints_have_ends()
     ensures views { PrintsHaveViews }
     ensures agreements { PrintsHaveAgreements }
+{}
+
+/// Behind an honest line the run is the one before it with the events of the line.
+pub fn lines_go_on()
+    ensures { LinesGoOn }
 {}
