@@ -331,12 +331,7 @@ impl Machine {
         refused(5)
     }
 
-    fn on_request(
-        &mut self,
-        alloc: Global,
-        who: u8,
-        request: ToServer,
-    ) -> Result<Plan, NoMemory>
+    fn on_request(&mut self, alloc: Global, who: u8, request: ToServer) -> Result<Plan, NoMemory>
         requires seat { IsSeat self.old who × (who ≤ 64) }
         requires spelled { HasRequestSpelling request }
         ensures follows { IfOk result (λ p. Follows (on_request self.old who request) self.old p) }
@@ -403,12 +398,7 @@ impl Machine {
     /// What the rule says of a payload. The server is the same afterwards; for the turn behind a seal its dictionary is changed and changed
     /// back.
     #[tactic(auto, unfolding(vic_order::specs::Order::serve))]
-    pub(crate) fn plan(
-        &mut self,
-        alloc: Global,
-        who: u8,
-        payload: &[u8],
-    ) -> Result<Plan, NoMemory>
+    pub(crate) fn plan(&mut self, alloc: Global, who: u8, payload: &[u8]) -> Result<Plan, NoMemory>
         ensures follows { IfOk result (λ p. Follows (serve self.old who payload.now) self.old p) }
         ensures waits { read_request payload.now ≡ Some ask.Poll → (serve self.old who payload.now).answer ≡ say.Wait → result ≡ Ok to_wait }
         ensures same { self.new ≡ self.old }

@@ -147,12 +147,7 @@ impl Served {
     }
 
     // What the rule says of a payload. Nothing is changed afterwards.
-    pub(crate) fn plan(
-        &mut self,
-        alloc: Global,
-        who: u8,
-        payload: &[u8],
-    ) -> Result<Plan, NoMemory>
+    pub(crate) fn plan(&mut self, alloc: Global, who: u8, payload: &[u8]) -> Result<Plan, NoMemory>
         ensures follows { IfOk result (λ p. Follows (serve self.old.server who payload.now) self.old.server p) }
         ensures waits { read_request payload.now ≡ Some ask.Poll → (serve self.old.server who payload.now).answer ≡ say.Wait → result ≡ Ok to_wait }
         ensures same { self.new ≡ self.old }

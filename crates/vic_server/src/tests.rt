@@ -64,7 +64,11 @@ const TURNS: [Row; 8] = [
         b"\x42\0\0\0\0\0\x01\x01\0\0\0\x02\x01\x01b\x01y\xff\x01\0",
     ),
     (1, b"\x23\0\0\0\x02\0\xff", b"\x44\0\0\0\0\x01\0"),
-    (1, b"\x25\0\0\0\x01\xff\xff", b"\x44\0\0\0\x01\xff\xff\x01\x01\x01a\x01x"),
+    (
+        1,
+        b"\x25\0\0\0\x01\xff\xff",
+        b"\x44\0\0\0\x01\xff\xff\x01\x01\x01a\x01x",
+    ),
     (1, b"\x24", b"\x44\0\0\0\x01\xff\xff\x01\x01\x01a\x01x"),
     (1, b"\x25\0\0\0\x02\xff\xff", b"\x43"),
     // List everything: the whole tree, whose two leaves part at bit 7.
@@ -107,13 +111,21 @@ fn answers_all<S: Serve>(alloc: Global, server: &mut S, rows: &[Row]) -> Result<
     Ok(true)
 }
 
+fn answers_rows<S: Serve>(alloc: Global, server: &mut S) -> Result<bool, NoMemory> {
+    answers_all(alloc, server, &ROWS)
+}
+
+fn answers_turns<S: Serve>(alloc: Global, server: &mut S) -> Result<bool, NoMemory> {
+    answers_all(alloc, server, &TURNS)
+}
+
 #[test]
 fn one_client(rt: HostRuntime) -> Result<(), Fail> {
     let alloc = rt.alloc();
     let mut server = Served::new(alloc, Mode::Plain, 2).ok().ok_or("memory")?;
     let mut other = Serve::copy(&server, alloc).ok().ok_or("memory")?;
-    assert!(rt; answers_all(alloc, &mut server, &ROWS).ok().ok_or("memory")?);
-    assert!(rt; answers_all(alloc, &mut other, &ROWS).ok().ok_or("memory")?);
+    assert!(rt; answers_rows(alloc, &mut server).ok().ok_or("memory")?);
+    assert!(rt; answers_rows(alloc, &mut other).ok().ok_or("memory")?);
     assert_eq!(rt; server.length(), 2);
     assert_eq!(rt; server.sealed(), 2);
     assert_eq!(rt; server.pairs(), 1);
@@ -124,21 +136,26 @@ fn one_client(rt: HostRuntime) -> Result<(), Fail> {
     Ok(())
 }
 
-/// A put weighs from its Invoke on, one of a key that has a value too.
 #[test]
 fn turns(rt: HostRuntime) -> Result<(), Fail> {
     let alloc = rt.alloc();
     let mut server = Served::gathered(alloc, Mode::Plain, 1)?;
-    assert!(rt; answers(alloc, &mut server, &TURNS[0])?);
-    assert!(rt; server.weight() == 18 && server.pairs() == 0);
-    assert!(rt; answers_all(alloc, &mut server, &TURNS[1..])?);
+    assert!(rt; answers_turns(alloc, &mut server)?);
     assert!(rt; server.weight() == 36 && server.pairs() == 2);
-    let mut again = Served::gathered(alloc, Mode::Plain, 1)?;
-    put_from(alloc, &mut again, 0, b"a", b"x")?;
-    commit(alloc, &mut again, 1, 1)?;
-    seal(alloc, &mut again, 1, 1)?;
-    put_from(alloc, &mut again, 1, b"a", b"y")?;
-    assert!(rt; again.weight() == 36 && again.pairs() == 1);
+    Ok(())
+}
+
+/// A put weighs from its Invoke on, one of a key that has a value too.
+#[test]
+fn weights(rt: HostRuntime) -> Result<(), Fail> {
+    let alloc = rt.alloc();
+    let mut server = Served::gathered(alloc, Mode::Plain, 1)?;
+    put_from(alloc, &mut server, 0, b"a", b"x")?;
+    assert_eq!(rt; server.weight(), 18);
+    commit(alloc, &mut server, 1, 1)?;
+    seal(alloc, &mut server, 1, 1)?;
+    put_from(alloc, &mut server, 1, b"a", b"y")?;
+    assert_eq!(rt; server.weight(), 36);
     Ok(())
 }
 
@@ -324,17 +341,5 @@ fn full_dictionary(rt: HostRuntime) -> Result<(), Fail> {
     let light = put_from(alloc, &mut server, 25_040, &key[..128], &value)?;
     assert_eq!(rt; told(&light), 1);
     assert_eq!(rt; server.weight(), 8_388_608);
-    Ok(())
-}
-
-/// The log takes 1,048,576 entries.
-#[test]
-fn full_log(rt: HostRuntime) -> Result<(), Fail> {
-    let alloc = rt.alloc();
-    let mut server = Served::gathered(alloc, Mode::Plain, 1)?;
-    assert!(rt; call_often(alloc, &mut server, 0, 1_048_576, true)?);
-    assert!(rt; server.length() == 1_048_576 && server.sealed() == 1_048_576);
-    let last = call_from(alloc, &mut server, 1, 1_048_576, 1_048_577)?;
-    assert!(rt; matches!(last, ToClient::Refused(4)));
     Ok(())
 }

@@ -16,4 +16,5 @@ pub mod Binding
 pub mod Grammar
 pub mod Alike
 pub mod Short
+pub mod Least
 mod Laws

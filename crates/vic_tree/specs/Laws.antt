@@ -45,3 +45,7 @@ IsPartOf c d = IsCut c (tree_of d) × IsPart c
 pub record PartsAreCuts : Type 0 where
   pub shown : (d : Dictionary) (o : Op) → IsProper d → IsPartOf (cut_for (tree_of d) o) d × (reaches (cut_for (tree_of d) o) o ≡ true)
   pub bare : (d : Dictionary) → IsProper d → IsPartOf (cut_none (tree_of d)) d
+
+-- and it shows no more than that: it is a cut of each cut that shows the walk
+abbrev pub PartsAreLeast : Type 0
+PartsAreLeast = (t c : Tree) (o : Op) → IsCut c t → reaches c o ≡ true → IsCut (cut_for t o) c

@@ -5,7 +5,7 @@
 //! that keep trees and parts use the lemmas in `proofs/`.
 #![tactic(auto)]
 
-ghost use Rattle.vic_tree.specs.Laws.{TreesHold, PartsAreBound, WalksShow, CutsAnswer, CutsFollow, PartsAreCuts};
+ghost use Rattle.vic_tree.specs.Laws.{TreesHold, PartsAreBound, WalksShow, CutsAnswer, CutsFollow, PartsAreCuts, PartsAreLeast};
 
 /// A dictionary's tree has its pairs at its leaves, in order.
 pub fn trees_hold()
@@ -35,4 +35,9 @@ pub fn cuts_follow()
 /// The parts that a server sends are cuts in the grammar, and the one for an operation shows its walk.
 pub fn parts_are_cuts()
     ensures { PartsAreCuts }
+{}
+
+/// The part for an operation shows no more than its walk needs: it is a cut of each cut that shows the walk.
+pub fn parts_are_least()
+    ensures { PartsAreLeast }
 {}

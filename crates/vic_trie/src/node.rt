@@ -32,7 +32,7 @@ impl Node {
     }
 
     /// The leaf at the end of the key's walk.
-    pub fn end(&self, key: &[u8]) -> (&Bytes, &Bytes)
+    pub(crate) fn end(&self, key: &[u8]) -> (&Bytes, &Bytes)
         requires sound { IsSound self.now }
         requires fits { length key.now < 256 }
         ensures leaf { end_at key.now (tree self.now) ≡ Leaf result.0.now result.1.now }
@@ -51,7 +51,7 @@ impl Node {
     }
 
     /// Sets the value of the leaf at the end of the key's walk.
-    pub fn revalue(&mut self, key: &[u8], value: Bytes)
+    pub(crate) fn revalue(&mut self, key: &[u8], value: Bytes)
         requires sound { IsSound self.old }
         requires key { IsKey key.now }
         requires value { length value < 65 }
@@ -77,7 +77,7 @@ impl Node {
 
     /// Puts a new leaf beside the first node of the key's walk that is no Inner of an index below this one. `spare` is
     /// any node, whose box the old node gets.
-    pub fn plant(&mut self, key: &[u8], index: u16, fresh: Box<Node>, spare: Box<Node>)
+    pub(crate) fn plant(&mut self, key: &[u8], index: u16, fresh: Box<Node>, spare: Box<Node>)
         requires sound { IsSound self.old }
         requires key { IsKey key.now }
         requires fresh { IsSound fresh.value × ((w : List ℕ) × (tree fresh.value ≡ Leaf key.now w)) }
@@ -137,7 +137,7 @@ impl Node {
 
     /// Takes out the leaf of the key, and tells where this node itself is that leaf, which then stays.
     #[tactic(auto, using(crate::proofs::Nodes::not_gone))]
-    pub fn take_out(&mut self, alloc: Global, key: &[u8]) -> bool
+    pub(crate) fn take_out(&mut self, alloc: Global, key: &[u8]) -> bool
         requires sound { IsSound self.old }
         requires key { IsKey key.now }
         requires at_key { (w : List ℕ) × (end_at key.now (tree self.old) ≡ Leaf key.now w) }
@@ -165,7 +165,7 @@ impl Node {
     }
 
     /// The first node on the way of the prefix's bits that is no Inner of an index among them.
-    pub fn below(&self, prefix: &[u8]) -> &Node
+    pub(crate) fn below(&self, prefix: &[u8]) -> &Node
         requires sound { IsSound self.now }
         requires fits { length prefix.now < 256 }
         ensures tree { tree result.now ≡ below prefix.now (tree self.now) }
@@ -196,7 +196,7 @@ impl Node {
     }
 
     /// Appends the keys, ascending.
-    pub fn collect(&self, alloc: Global, out: &mut Names) -> Result<(), NoMemory>
+    pub(crate) fn collect(&self, alloc: Global, out: &mut Names) -> Result<(), NoMemory>
         ensures { OnOk result (out.new ≡ out.old ++ map (λ e. e.0) (pairs_of (tree self.now))) }
     {
         match self {
@@ -212,7 +212,7 @@ impl Node {
     }
 
     /// A copy of the subtree.
-    pub fn copy(&self, alloc: Global) -> Result<Node, NoMemory>
+    pub(crate) fn copy(&self, alloc: Global) -> Result<Node, NoMemory>
         requires { IsSound self.now }
         ensures tree { IfOk result (λ n. tree n ≡ tree self.now) }
         ensures sound { IfOk result IsSound }
@@ -232,7 +232,7 @@ impl Node {
     }
 
     /// Gives the key this value, and tells the length of the value before. After an `Err` nothing changed.
-    pub fn put(
+    pub(crate) fn put(
         &mut self,
         alloc: Global,
         key: &[u8],
@@ -268,7 +268,7 @@ impl Node {
     }
 
     /// Gives the key this value by memory that was taken before, and tells the length of the value before.
-    pub fn put_ready(
+    pub(crate) fn put_ready(
         &mut self,
         key: &[u8],
         value: Bytes,
