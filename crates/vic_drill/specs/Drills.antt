@@ -1,13 +1,14 @@
 -- A drill: the run of a group with one honest server whose events are drawn from a number, and its summary.
-use Rattle.std.specs.Prelude.{ℕ, zero, suc, ◌+◌, ◌*◌, Bool, true, false, List, [], ◌∷◌, ◌++◌, replicate, Option, Some, None, nat_lt, if◌then◌else◌, codes, count_by, fold}
+use Rattle.std.specs.Prelude.{ℕ, zero, suc, ◌+◌, ◌*◌, Bool, true, false, ◌||◌, List, [], ◌∷◌, ◌++◌, replicate, Option, Some, None, nat_lt, if◌then◌else◌, codes, count_by}
 use Rattle.std.specs.Fmt.{decimal}
 use Rattle.std.specs.FinMap as map
 use Rattle.vic_dict.specs.declared.op.Mode.TheVariants as mode
+use Rattle.vic_dict.specs.declared.op.Outcome.{Outcome}
 use Rattle.vic_dict.specs.declared.op.Outcome.TheVariants as outcome
 use Rattle.vic_wire.specs.Hashes.{Group}
 use Rattle.vic_rules.specs.declared.trace.Input.TheVariants as input
 use Rattle.vic_rules.specs.declared.trace.TraceStep.{TraceStep}
-use Rattle.vic_order.specs.Order.{Server, Ordered, size, sealed_count, weight, ordered_at}
+use Rattle.vic_order.specs.Order.{Server, Ordered, sealed_count, weight, ordered_at}
 use Rattle.vic_order.specs.Serving.{by_rule}
 use Rattle.vic_order.specs.Scenes.{Scene, opening, server_at, waits_in, Event, Asks, Serves, Takes, happens}
 use Rattle.vic_gen.specs.declared.Act.{Act}
@@ -41,32 +42,37 @@ acts me (act.Call o) d = record (makes (Asks me (input.Call o)) d) { calls = d.c
 abbrev pub acts_next : ℕ → Drill → Drill
 acts_next me d = acts me (act_of d.drawing me (d.calls + 1)) (record d { drawing = acted d.drawing me })
 
--- one turn of a client: it is served, or takes, or acts
+-- something waits for a client's server, or for the client
+abbrev pub waits_for : Scene → ℕ → Bool
+waits_for s me = waits_in s.up me || waits_in s.down me
+
+-- its oldest request is served; or, where none waits, it takes its oldest answer
+abbrev pub goes_on : ℕ → Drill → Drill
+goes_on me d = if waits_in d.scene.up me then makes (Serves me) d else makes (Takes me) d
+
+-- one turn of a client: it goes on, or acts where nothing waits
 abbrev pub turn_of : ℕ → Drill → Drill
-turn_of me d = if waits_in d.scene.up me then makes (Serves me) d else if waits_in d.scene.down me then makes (Takes me) d else acts_next me d
+turn_of me d = if waits_for d.scene me then goes_on me d else acts_next me d
 
 -- one turn, of the client that is drawn
 abbrev pub turn : Drill → Drill
 turn d = turn_of (picked d.drawing) (record d { drawing = step_on d.drawing })
 
--- turns while fewer calls were made, at most so many
-unfoldable pub turns : ℕ → ℕ → Drill → Drill
-turns calls zero d = d
-turns calls (suc n) d = if nat_lt d.calls calls then turns calls n (turn d) else d
+-- a turn, where fewer calls were made
+abbrev pub turn_below : ℕ → Drill → Drill
+turn_below calls d = if nat_lt d.calls calls then turn d else d
+
+-- the same so many times
+unfoldable pub repeats : ℕ → (Drill → Drill) → Drill → Drill
+repeats zero f d = d
+repeats (suc n) f d = repeats n f (f d)
 
 -- ---- the closing phase
 
--- a client is served and takes until nothing waits for it, at most so many times
-unfoldable pub settles : ℕ → ℕ → Drill → Drill
-settles zero me d = d
-settles (suc n) me d =
-    if waits_in d.scene.up me then settles n me (makes (Serves me) d)
-    else if waits_in d.scene.down me then settles n me (makes (Takes me) d)
-    else d
-
-abbrev pub numbers_from : ℕ → ℕ → List ℕ
-numbers_from first zero = []
-numbers_from first (suc n) = first ∷ numbers_from (first + 1) n
+-- the first client for whom something waits, of so many from one on
+unfoldable pub first_waiting : Scene → ℕ → ℕ → Option ℕ
+first_waiting s me zero = None
+first_waiting s me (suc n) = if waits_for s me then Some me else first_waiting s (me + 1) n
 
 -- the one server
 abbrev pub server_in : Scene → Option Server
@@ -77,37 +83,52 @@ abbrev pub unsealed_in : Option Server → Option Ordered
 unsealed_in None = None
 unsealed_in (Some s) = ordered_at s (sealed_count s + 1)
 
--- its owner polls and settles, and so on
-abbrev pub seals_next : ℕ → Option Ordered → (Drill → Drill) → Drill → Drill
-seals_next n None later d = d
-seals_next n (Some o) later d = later (settles n o.entry.client (makes (Asks o.entry.client input.Poll) d))
+-- its owner polls
+abbrev pub polls : Option Ordered → Drill → Drill
+polls None d = d
+polls (Some o) d = makes (Asks o.entry.client input.Poll) d
 
--- while an entry isn't sealed, the owner of the first such one polls and settles, at most so many times
-unfoldable pub seals : ℕ → ℕ → Drill → Drill
-seals n zero d = d
-seals n (suc m) d = seals_next n (unsealed_in (server_in d.scene)) (seals n m) d
+-- the first client for whom something waits goes on; where nothing waits, the owner of the first unsealed entry polls; and where all
+-- is sealed, nothing changes any more
+abbrev pub closes_by : Option ℕ → Drill → Drill
+closes_by (Some me) d = goes_on me d
+closes_by None d = polls (unsealed_in (server_in d.scene)) d
 
--- more than a client has answers under way and entries to seal
-abbrev pub most : ℕ → ℕ
-most calls = 2 * calls + 8
+abbrev pub closes : Drill → Drill
+closes d = closes_by (first_waiting d.scene 1 d.scene.group.count) d
 
--- a drill: it makes its calls, each client settles, and all is sealed
+-- ---- the whole
+
+-- a call and a third of a poll take eight turns at most
+abbrev pub most_turns : ℕ → ℕ
+most_turns calls = 8 * calls
+
+-- more than clients have under way and the server has to seal
+abbrev pub most_events : ℕ → ℕ → ℕ
+most_events clients calls = 8 * (clients + calls)
+
+-- a drill: it makes its calls, what is under way goes on, and all is sealed
 unfoldable pub drill : ℕ → ℕ → ℕ → Drill
-drill number clients calls =
-    let made = turns calls (8 * calls) (begun number clients) in
-    let settled = fold (λ d me. settles (most calls) me d) made (numbers_from 1 clients) in
-    seals (most calls) calls settled
+drill number clients calls = repeats (most_events clients calls) closes (repeats (most_turns calls) (turn_below calls) (begun number clients))
 
 -- ---- its summary
 
-abbrev pub is_done_step : TraceStep → Bool
-is_done_step x = elim x.returned [ Some (outcome.Done a) ↦ true | Some (outcome.Aborted u) ↦ false | Some (outcome.Refused r) ↦ false | Some (outcome.Halted k) ↦ false | None ↦ false ]
+-- a call ended so
+abbrev pub ends_done : Option Outcome → Bool
+ends_done (Some (outcome.Done a)) = true
+ends_done _ = false
 
-abbrev pub is_aborted_step : TraceStep → Bool
-is_aborted_step x = elim x.returned [ Some (outcome.Done a) ↦ false | Some (outcome.Aborted u) ↦ true | Some (outcome.Refused r) ↦ false | Some (outcome.Halted k) ↦ false | None ↦ false ]
+abbrev pub ends_aborted : Option Outcome → Bool
+ends_aborted (Some (outcome.Aborted u)) = true
+ends_aborted _ = false
 
-abbrev pub is_refused_step : TraceStep → Bool
-is_refused_step x = elim x.returned [ Some (outcome.Done a) ↦ false | Some (outcome.Aborted u) ↦ false | Some (outcome.Refused r) ↦ true | Some (outcome.Halted k) ↦ false | None ↦ false ]
+abbrev pub ends_refused : Option Outcome → Bool
+ends_refused (Some (outcome.Refused r)) = true
+ends_refused _ = false
+
+-- how many calls of a history ended so
+abbrev pub count_of : (Option Outcome → Bool) → List TraceStep → ℕ
+count_of ends h = count_by (λ x. ends x.returned) h
 
 abbrev pub line : List ℕ → ℕ → List ℕ
 line name n = name ++ 32 ∷ decimal n ++ 10 ∷ []
@@ -120,8 +141,8 @@ server_lines (Some s) = line (codes "sealed") (sealed_count s) ++ line (codes "p
 abbrev pub summary : ℕ → ℕ → Scene → List ℕ
 summary clients calls s =
     line (codes "clients") clients ++ line (codes "calls") calls
-    ++ line (codes "done") (count_by is_done_step s.history) ++ line (codes "aborted") (count_by is_aborted_step s.history)
-    ++ line (codes "refused") (count_by is_refused_step s.history)
+    ++ line (codes "done") (count_of ends_done s.history) ++ line (codes "aborted") (count_of ends_aborted s.history)
+    ++ line (codes "refused") (count_of ends_refused s.history)
     ++ server_lines (server_in s)
 
 abbrev pub print_of_drill : ℕ → ℕ → ℕ → List ℕ

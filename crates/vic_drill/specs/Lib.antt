@@ -1,1 +1,3 @@
 pub mod Drills
+pub mod Laws
+pub mod MayBe

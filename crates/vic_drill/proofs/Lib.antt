@@ -1,0 +1,4 @@
+pub mod Acts
+pub mod Waiting
+pub mod Honest
+pub mod Drilled
