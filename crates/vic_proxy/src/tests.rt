@@ -8,68 +8,89 @@ const REFERENCE: [u8; 36] = [
     0, 0, 0, 5,
 ];
 
-// A store sends its content, then puts its reference, and returns what the put returned.
-#[test]
-fn store(rt: HostRuntime) -> Result<(), Fail> {
-    let alloc = rt.alloc();
-    let call = ObjectCall::Store(Bytes::of(alloc, b"f")?, Bytes::of(alloc, b"hello")?);
-    let (mut proxy, first) = Proxy::begin(alloc, &call)?;
-    assert!(rt;
-        matches!(&first, Next::Keep(content) if content.as_slice() == b"hello".as_slice()),
-        "first"
-    );
-    let second = proxy.kept(alloc)?;
-    let puts =
-        matches!(&second, Next::Call(Op::Put(name, value)) if name.as_slice() == b"f".as_slice() && value.as_slice() == REFERENCE.as_slice());
-    assert!(rt; puts, "second");
-    let last = proxy.outcome(alloc, &Outcome::Done(Answer::Stored))?;
-    assert!(rt;
-        matches!(&last, Next::Return(ObjectOutcome::Stored)),
-        "last"
-    );
-    assert!(rt; matches!(&proxy.kept(alloc)?, Next::Bad), "out of turn");
-    Ok(())
+// What a step does, in a word.
+fn told(next: &Next) -> &'static str {
+    match next {
+        Next::Keep(_) => "keep",
+        Next::Call(Op::Put(_, value)) if value.as_slice() == REFERENCE.as_slice() => "put",
+        Next::Call(_) => "call",
+        Next::Fetch(_, 5) => "fetch",
+        Next::Fetch(_, _) => "fetch another",
+        Next::Return(ObjectOutcome::Stored) => "stored",
+        Next::Return(ObjectOutcome::Content(content)) if content.len() == 5 => "content",
+        Next::Return(ObjectOutcome::Missing) => "missing",
+        Next::Return(ObjectOutcome::Refused(2)) => "refused",
+        Next::Return(_) => "other",
+        Next::Bad => "bad",
+    }
 }
 
-// What a load of a reference comes to, by the answer to its Fetch.
-fn loaded(alloc: Global, found: Option<&[u8]>) -> Result<Next, NoMemory> {
-    let call = ObjectCall::Load(Bytes::of(alloc, b"f")?);
-    let (mut proxy, _) = Proxy::begin(alloc, &call)?;
-    let answer = Answer::Found(Bytes::of(alloc, REFERENCE.as_slice())?);
-    let next = proxy.outcome(alloc, &Outcome::Done(answer))?;
-    match next {
-        Next::Fetch(_, 5) => proxy.content(alloc, found),
-        _ => Ok(next),
-    }
+// A store of `hello` under `f`.
+fn store(alloc: Global) -> Result<(Proxy, Next), NoMemory> {
+    let name = Bytes::of(alloc, b"f")?;
+    let content = Bytes::of(alloc, b"hello")?;
+    Proxy::begin(alloc, &ObjectCall::Store(name, content))
+}
+
+// A load of `f`.
+fn load(alloc: Global) -> Result<(Proxy, Next), NoMemory> {
+    let name = Bytes::of(alloc, b"f")?;
+    Proxy::begin(alloc, &ObjectCall::Load(name))
+}
+
+// A load of `f` for which this reference was found.
+fn found(alloc: Global) -> Result<(Proxy, Next), NoMemory> {
+    let (mut proxy, _) = load(alloc)?;
+    let value = Bytes::of(alloc, REFERENCE.as_slice())?;
+    let next = proxy.outcome(alloc, &Outcome::Done(Answer::Found(value)))?;
+    Ok((proxy, next))
+}
+
+// A store keeps its content, puts its reference, and returns; out of turn it is bad.
+#[test]
+fn stores(rt: HostRuntime) -> Result<(), Fail> {
+    let alloc = rt.alloc();
+    let (mut proxy, first) = store(alloc)?;
+    assert!(rt; told(&first) == "keep");
+    let early = proxy.outcome(alloc, &Outcome::Done(Answer::Stored))?;
+    assert!(rt; told(&early) == "bad", "nothing was called yet");
+    let second = proxy.kept(alloc)?;
+    assert!(rt; told(&second) == "put");
+    let last = proxy.outcome(alloc, &Outcome::Done(Answer::Stored))?;
+    assert!(rt; told(&last) == "stored");
+    assert!(rt; told(&proxy.refused(2)) == "bad", "it is over");
+    Ok(())
 }
 
 // A load returns the content that its reference names, and no other.
 #[test]
-fn load(rt: HostRuntime) -> Result<(), Fail> {
+fn loads(rt: HostRuntime) -> Result<(), Fail> {
     let alloc = rt.alloc();
-    let right = loaded(alloc, Some(b"hello"))?;
-    assert!(rt;
-        matches!(&right, Next::Return(ObjectOutcome::Content(content)) if content.as_slice() == b"hello".as_slice())
-    );
-    assert!(rt;
-        matches!(&loaded(alloc, Some(b"hellO"))?, Next::Bad),
-        "another content"
-    );
-    assert!(rt;
-        matches!(&loaded(alloc, Some(b"hello!"))?, Next::Bad),
-        "another length"
-    );
-    assert!(rt; matches!(&loaded(alloc, None)?, Next::Bad), "absent");
-    let (mut proxy, _) = Proxy::begin(alloc, &ObjectCall::Load(Bytes::of(alloc, b"f")?))?;
+    for (content, want) in [
+        (b"hello".as_slice(), "content"),
+        (b"hellO".as_slice(), "bad"),
+        (b"hello!".as_slice(), "bad"),
+        (b"".as_slice(), "bad"),
+    ] {
+        let (mut proxy, next) = found(alloc)?;
+        assert!(rt; told(&next) == "fetch", "{want}");
+        let last = proxy.content(alloc, Some(content))?;
+        assert!(rt; told(&last) == want, "{want}");
+    }
+    let (mut absent, _) = found(alloc)?;
+    assert!(rt; told(&absent.content(alloc, None)?) == "bad", "absent");
+    Ok(())
+}
+
+// A name that isn't there, and a refusal.
+#[test]
+fn others(rt: HostRuntime) -> Result<(), Fail> {
+    let alloc = rt.alloc();
+    let (mut proxy, first) = load(alloc)?;
+    assert!(rt; told(&first) == "call");
     let missing = proxy.outcome(alloc, &Outcome::Done(Answer::NotFound))?;
-    assert!(rt;
-        matches!(&missing, Next::Return(ObjectOutcome::Missing)),
-        "no such name"
-    );
-    let (mut other, _) = Proxy::begin(alloc, &ObjectCall::Erase(Bytes::of(alloc, b"f")?))?;
-    assert!(rt;
-        matches!(&other.refused(2), Next::Return(ObjectOutcome::Refused(2))),
-        "refused"
-    );
+    assert!(rt; told(&missing) == "missing");
+    let (mut other, _) = store(alloc)?;
+    assert!(rt; told(&other.refused(2)) == "refused");
     Ok(())
 }
