@@ -1,1 +1,2 @@
 pub mod GroupEnds
+pub mod ClientEnding

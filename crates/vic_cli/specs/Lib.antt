@@ -3,4 +3,5 @@ pub mod Words
 pub mod GroupEnds
 pub mod GroupOutput
 pub mod Telling
-pub mod Clients
+pub mod ClientWords
+pub mod ClientEnds

@@ -1,11 +1,12 @@
 -- How a session is told: its status, and what is printed at its end.
-use Rattle.std.specs.Prelude.{◌≡◌, ◌⊎◌, ℕ, List, [], ◌++◌, codes}
+use Rattle.std.specs.Prelude.{◌≡◌, ◌⊎◌, ℕ, ◌≤◌, List, [], ◌++◌, length, codes}
 use Rattle.std.specs.Fmt.{decimal}
 use Rattle.hex.specs.Hex.{encode_lower}
 use Rattle.vic_wire.specs.Hashes.{Group}
 use Rattle.vic_ports.specs.Links.{Told}
 use Rattle.vic_script.specs.Words.{space, newline}
 use Rattle.vic_script.specs.Print.{bad_line}
+use Rattle.vic_script.specs.Run.{limit}
 use Rattle.vic_session.specs.declared.end.SessionEnd.{SessionEnd}
 use Rattle.vic_session.specs.declared.end.SessionEnd.TheVariants as ends
 use Rattle.vic_session.specs.Sessions.{IsSession}
@@ -46,6 +47,6 @@ text_by ends.NoMemory printed = no_memory_line
 abbrev pub TellsEnd : SessionEnd → List ℕ → Status → List ℕ → Type 0
 TellsEnd end printed s text = ((s ≡ status_by end) × (text ≡ text_by end printed)) ⊎ ((s ≡ status.NoMemory) × (text ≡ no_memory_line))
 
--- a session was done, and is told so; or memory ran out in telling it
+-- a session was done, over a script within the limit where it ended well, and is told so; or memory ran out in telling it
 abbrev pub TellsSession : Group → ℕ → List ℕ → Told → Told → Status → List ℕ → Type 0
-TellsSession g me script old new s text = (end : SessionEnd) × ((printed : List ℕ) × (IsSession g me script old [] end new printed × TellsEnd end printed s text))
+TellsSession g me script old new s text = (end : SessionEnd) × ((printed : List ℕ) × ((IsSession g me script old [] end new printed × (end ≡ ends.Ok → length script ≤ limit)) × TellsEnd end printed s text))

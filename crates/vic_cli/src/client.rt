@@ -1,15 +1,18 @@
 //! The command of a client.
 
-ghost use Rattle.std.specs.Prelude.{◌≡◌};
+ghost use Rattle.std.specs.Prelude.{◌≡◌, Some, map, string_bytes};
 ghost use Rattle.vic_rules.specs.Client.{at_start};
 ghost use Rattle.vic_client.specs.Kept.{StandsFor, group_of};
-ghost use Rattle.vic_cli.specs.Output.{text_bytes};
-ghost use Rattle.vic_cli.specs.Clients.{ComposesClient, ClientDid};
+ghost use Rattle.vic_cli.specs.Output.{taken_of, given_of, text_bytes};
+ghost use Rattle.vic_cli.specs.ClientWords.{ClientWords, client_words, IsClientOf};
+ghost use Rattle.vic_cli.specs.ClientEnds.{Composes, ClientEnds, IsClientComplete};
 
+use crate::client_words::client_of;
 use crate::output::{Composed, finish};
 use crate::session::compose_session;
 use std::alloc::Global;
 use vic_client::Client;
+use vic_dict::NoMemory;
 use vic_ports::{Input, Link, Sink, Source, read_input};
 use vic_text::Status;
 
@@ -21,7 +24,7 @@ fn compose_client<S: Source, L: Link>(
     link: &mut L,
 ) -> Composed
     requires { StandsFor client.old at_start }
-    ensures { ComposesClient (group_of client.old) client.old.id (record { old = S.left source.old; new = S.left source.new; before = S.faults source.old; now = S.faults source.new; ended = S.ended source.new }) (L.told link.old) (L.told link.new) result.status (text_bytes result.text) }
+    ensures { (w : ClientWords) → IsClientOf (Some w) (Some client.old) → Composes (Some w) (taken_of (S.left source.old) (S.left source.new) (S.faults source.old) (S.faults source.new) (S.ended source.new)) (L.told link.old) (L.told link.new) result.status (text_bytes result.text) }
 {
     match read_input(alloc, source) {
         Input::Whole(script) => compose_session(alloc, client, script.as_slice(), link),
@@ -31,18 +34,35 @@ fn compose_client<S: Source, L: Link>(
     }
 }
 
-/// The command of a client that has done nothing yet: it reads its script before it says Hello, does its session, and writes what it
-/// composed at the end.
-pub fn run_client_as<S: Source, K: Sink, L: Link>(
+// What the command is about to write.
+fn compose<S: Source, L: Link>(
     alloc: Global,
-    client: &mut Client,
+    words: &[String],
+    source: &mut S,
+    link: &mut L,
+) -> Composed
+    ensures { Composes (client_words (map string_bytes words.now)) (taken_of (S.left source.old) (S.left source.new) (S.faults source.old) (S.faults source.new) (S.ended source.new)) (L.told link.old) (L.told link.new) result.status (text_bytes result.text) }
+{
+    match client_of(alloc, words) {
+        Ok(Some(mut client)) => compose_client(alloc, &mut client, source, link),
+        Ok(None) => Composed::of(Status::Usage),
+        Err(NoMemory) => Composed::of(Status::NoMemory),
+    }
+}
+
+/// The command of a client: it reads its script to the end before it says Hello, does each line over the link, leaves, and writes what
+/// it composed at the end. A wrong word and a failed read leave the link as it was. It takes memory for the script, for what is
+/// printed, and for what [`vic_session::run_lines`] keeps.
+pub fn run_client<S: Source, K: Sink, L: Link>(
+    alloc: Global,
+    words: &[String],
     source: &mut S,
     link: &mut L,
     sink: &mut K,
 ) -> Status
-    requires { StandsFor client.old at_start }
-    ensures { ClientDid (group_of client.old) client.old.id (record { old = S.left source.old; new = S.left source.new; before = S.faults source.old; now = S.faults source.new; ended = S.ended source.new }) (L.told link.old) (L.told link.new) (record { old = K.held sink.old; new = K.held sink.new; before = K.faults sink.old; now = K.faults sink.new }) result }
+    ensures ends { ClientEnds (client_words (map string_bytes words.now)) (taken_of (S.left source.old) (S.left source.new) (S.faults source.old) (S.faults source.new) (S.ended source.new)) (L.told link.old) (L.told link.new) (given_of (K.held sink.old) (K.held sink.new) (K.faults sink.old) (K.faults sink.new)) result }
+    ensures complete { IsClientComplete (client_words (map string_bytes words.now)) (taken_of (S.left source.old) (S.left source.new) (S.faults source.old) (S.faults source.new) (S.ended source.new)) (L.told link.old) (L.told link.new) (given_of (K.held sink.old) (K.held sink.new) (K.faults sink.old) (K.faults sink.new)) result }
 {
-    let composed = compose_client(alloc, client, source, link);
+    let composed = compose(alloc, words, source, link);
     finish(sink, composed.status, composed.text.as_slice())
 }

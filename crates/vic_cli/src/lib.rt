@@ -1,18 +1,22 @@
 //! The commands: what each reads, does, prints, and how it ends.
 //!
 //! Each composes what it prints in memory, and writes it at the end by [`finish`]. The contract of [`run_group`] carries `Ends`,
-//! `IsAsClaimed` and `IsComplete` of `specs/GroupEnds.antt`; that of [`run_client_as`] carries `ClientDid` of `specs/Clients.antt`.
+//! `IsAsClaimed` and `IsComplete` of `specs/GroupEnds.antt`; that of [`run_client`] carries `ClientEnds` and
+//! `IsClientComplete` of `specs/ClientEnds.antt`.
 #![tactic(auto)]
 
 pub mod client;
+pub mod client_words;
 pub mod group;
 mod output;
 pub mod session;
 
-pub use client::run_client_as;
+pub use client::run_client;
 pub use group::{run_group, run_in_memory};
 pub use output::{Composed, Text, finish};
 pub use vic_text::Status;
 
+#[cfg(test)]
+mod client_tests;
 #[cfg(test)]
 mod tests;

@@ -149,8 +149,8 @@ complete g me script old new out printed end s quiet bytes told v = by_end end s
         ]
     by_end ends.BadFrame s =
         let took : LeavesBehind s.read (Some bytes) new.left = subst (λ (l : Option (List ℕ)). LeavesBehind s.read l new.left) told s.took in
-        let broken = s.ends_so.1.0 in
-        absurd (not_all g me script (frames_of bytes).0 v s.stage (frames_of s.read).0 s.taken s.more s.reads s.awaited s.ends_so.0 (sym (none_behind bytes s.read took.0 broken.0 took.2 broken.1)))
+        let broken = s.ends_so.1.1.0 in
+        absurd (not_all g me script (frames_of bytes).0 v s.stage (frames_of s.read).0 s.taken s.more s.reads s.awaited s.ends_so.1.0 (sym (none_behind bytes s.read took.0 broken.0 took.2 broken.1)))
     by_end (ends.GreetingRefused r) s =
         let took : LeavesBehind s.read (Some bytes) new.left = subst (λ (l : Option (List ℕ)). LeavesBehind s.read l new.left) told s.took in
         let all = read_first bytes s.read took.0 took.2 in

@@ -72,7 +72,7 @@ module _ (g : Group) (me : ℕ) (script : List ℕ) (old : Told) (start : List �
       reads = subst (λ (l : List (List ℕ)). Read stage l taken x.more) (sym x.in_order) (form x.more)
 
       by_cause : Cause fault.Link old new left (requests (talker g me script) (talk (talker g me script) script taken) stage) x.more (frames_of x.read).1 → IsSession g me script old start ends.LinkFault new printed
-      by_cause (inl c) = record { read = x.read; took = x.took; taken = taken; more = x.more; stage = stage; reads = reads; awaited = awaited; at = at; sent = inl (c.0, c.1.0); prints = is; ends_so = inl (c.0, λ e. c.1.1 (none e)) }
+      by_cause (inl c) = record { read = x.read; took = x.took; taken = taken; more = x.more; stage = stage; reads = reads; awaited = awaited; at = at; sent = inl (c.0, c.1.0); prints = is; ends_so = inl (c.0, (owed, λ e. c.1.1 (none e))) }
       by_cause (inr c) = record { read = x.read; took = x.took; taken = taken; more = x.more; stage = stage; reads = reads; awaited = awaited; at = at; sent = inr c.1.0; prints = is; ends_so = inr (c.0, (owed, c.1.1)) }
   failed fault.Length new stage ps taken left printed x form awaited at owed none is = record {
     read = x.read;
@@ -85,7 +85,7 @@ module _ (g : Group) (me : ℕ) (script : List ℕ) (old : Told) (start : List �
     at = at;
     sent = x.cause.1.0;
     prints = is;
-    ends_so = (x.cause.1.1.0, (x.cause.1.1.1, x.cause.0));
+    ends_so = (owed, (x.cause.1.1.0, (x.cause.1.1.1, x.cause.0)));
   }
   failed fault.NoMemory new stage ps taken left printed x form awaited at owed none is = record {
     read = x.read;

@@ -88,13 +88,14 @@ abbrev pub IsCutOff : Stage → Doing → Told → List (List ℕ) → List ℕ 
 IsCutOff stage doing new more rest = IsOwed stage doing × ((more ≡ []) × (((new.ended ≡ true) × IsSpent new.left) × (front_of rest ≡ Waits)))
 
 -- why a session ended: of its stage, of what the talk is at, of what the link tells before and after, of the whole frames read
--- besides, and of the bytes behind them
+-- besides, and of the bytes behind them. Where a call of the link failed, answers may have come early
 abbrev pub EndsBy : SessionEnd → Stage → Talk → Told → Told → List (List ℕ) → List ℕ → Type 0
 EndsBy ends.Ok stage t old new more rest = (stage ≡ Goes_away) × ((t.doing ≡ Leaves) × (IsAnswer (first_of more) say.Gone × (new.faults ≡ old.faults)))
 EndsBy (ends.BadLine n k) stage t old new more rest = (stage ≡ Talks) × ((t.doing ≡ Bad k) × ((n ≡ t.number) × (new.faults ≡ old.faults)))
-EndsBy ends.LinkFault stage t old new more rest = (Rose old.faults new.faults × (stage ≡ Greets → more ≡ [])) ⊎ ((new.faults ≡ old.faults) × IsCutOff stage t.doing new more rest)
+EndsBy ends.LinkFault stage t old new more rest =
+    (Rose old.faults new.faults × (IsOwed stage t.doing × (stage ≡ Greets → more ≡ []))) ⊎ ((new.faults ≡ old.faults) × IsCutOff stage t.doing new more rest)
 EndsBy (ends.Halted k h) stage t old new more rest = HaltsBy stage t.doing k h.bytes (first_of more) × (new.faults ≡ old.faults)
-EndsBy ends.BadFrame stage t old new more rest = (more ≡ []) × (((n : ℕ) × (front_of rest ≡ Broken n)) × (new.faults ≡ old.faults))
+EndsBy ends.BadFrame stage t old new more rest = IsOwed stage t.doing × ((more ≡ []) × (((n : ℕ) × (front_of rest ≡ Broken n)) × (new.faults ≡ old.faults)))
 EndsBy (ends.GreetingRefused r) stage t old new more rest = (stage ≡ Greets) × (IsAnswer (first_of more) (say.Refused r) × (new.faults ≡ old.faults))
 EndsBy ends.NoMemory stage t old new more rest = new.faults ≡ old.faults
 

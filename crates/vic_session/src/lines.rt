@@ -17,10 +17,7 @@ use std::alloc::Global;
 use vic_client::{Client, Step};
 use vic_dict::{Bytes, NoMemory, Outcome};
 use vic_hash::content;
-use vic_text::{ClientLine, LineFault, outcome_text, put_number, read_client_line};
-
-/// The most bytes that a script may have.
-const LIMIT: usize = 16_777_216;
+use vic_text::{ClientLine, LineFault, SCRIPT_LIMIT, outcome_text, put_number, read_client_line};
 
 /// What beginning a line comes to.
 #[derive(Debug, Drop)]
@@ -153,7 +150,7 @@ fn do_line(
     place.behind = place_behind(place.total, place.behind, text);
     place.number += 1;
     place.rest = others;
-    if LIMIT < place.behind {
+    if SCRIPT_LIMIT < place.behind {
         place.doing = At::Bad(7);
         return Ok(Begun::Bad);
     }

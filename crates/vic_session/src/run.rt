@@ -107,8 +107,8 @@ fn leave<L: Link>(
 }
 
 /// Greets, does each line of a script, and leaves; what is printed joins the lines so far. Whatever the end is, what was sent and
-/// printed stays. It keeps what is not yet a whole frame, one
-/// buffer, one answer, and what its client keeps. A line costs the payloads that it sends and takes.
+/// printed stays, and the client may stand in the middle of a call. It keeps what is not yet a whole frame, one buffer, one answer,
+/// and what its client keeps. A line costs the payloads that it sends and takes.
 pub fn run_lines<L: Link>(
     alloc: Global,
     client: &mut Client,
@@ -156,6 +156,7 @@ pub fn run_lines<L: Link>(
             Err(NoMemory) => return SessionEnd::NoMemory,
         };
     }
-    // No script has so many answers.
+    // Each answer ends a line, uses up a poll, or seals a call, so no run comes here. That isn't proved, so it is told as want of
+    // memory.
     SessionEnd::NoMemory
 }

@@ -66,7 +66,8 @@ fn receive<L: Link>(
             Got::End | Got::Failed => return Err(WireFault::Link),
         }
     }
-    // Each read gives a byte, so memory ends before this does.
+    // A frame is whole, or broken, after 16,777,220 bytes at most, and each read gives one: no run comes here. That isn't proved,
+    // so it is told as want of memory.
     Err(WireFault::NoMemory)
 }
 

@@ -1,14 +1,15 @@
-//! `vicos group` reads a script from standard input, runs it, and writes what it prints to standard output. The exit status is
-//! the number of the `Status` that `run_group` answers, and its contract says what that number stands for. Where there is no memory
+//! `vicos group` reads a script from standard input, runs it, and writes what it prints to standard output. `vicos client` reads the
+//! script of one client, does it over a connection to a server, and writes what it prints. The exit status is the number of the
+//! `Status` that `run_group` or `run_client` answers, and its contract says what that number stands for. Where there is no memory
 //! for the words, the program ends as the command does for want of memory.
 #![tactic(auto)]
 
 use std::alloc::Global;
 use std::process::ExitCode;
 use std::{env, io};
-use vic_cli::{finish, run_group};
+use vic_cli::{finish, run_client, run_group};
 use vic_dict::NoMemory;
-use vic_ports::{StdSink, StdSource};
+use vic_ports::{Sink, Source, StdSink, StdSource, TcpLine};
 use vic_text::Status;
 
 /// The words behind the program's name; none where they aren't all text.
@@ -25,12 +26,36 @@ fn words_of(alloc: Global, rt: &HostRuntime) -> Result<Vec<String>, NoMemory> {
     }
 }
 
+/// The word at a place; the empty text where there is none.
+fn word_at(words: &[String], place: usize) -> &str {
+    match words.get(place) {
+        Some(word) => word.as_str(),
+        None => "",
+    }
+}
+
+/// Does the command that the first word names; any other first word goes to the command on a script. The link is opened from the
+/// word behind the command's own, before the words are looked at: what fails there shows at its first call.
+fn run<S: Source, K: Sink>(
+    rt: &HostRuntime,
+    alloc: Global,
+    words: &[String],
+    source: &mut S,
+    sink: &mut K,
+) -> Status {
+    if word_at(words, 0) == "client" {
+        let mut link = TcpLine::open(rt, word_at(words, 1));
+        return run_client(alloc, words, source, &mut link, sink);
+    }
+    run_group(alloc, words, source, sink)
+}
+
 fn main(rt: HostRuntime) -> ExitCode {
     let alloc = rt.alloc();
     let mut source = StdSource::new(rt.stdin());
     let mut sink = StdSink::new(rt.stdout());
     let status = match words_of(alloc, &rt) {
-        Ok(words) => run_group(alloc, words.as_slice(), &mut source, &mut sink),
+        Ok(words) => run(&rt, alloc, words.as_slice(), &mut source, &mut sink),
         Err(NoMemory) => finish(&mut sink, Status::NoMemory, Status::NoMemory.line()),
     };
     ExitCode::from(status.number())

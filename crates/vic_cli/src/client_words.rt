@@ -1,0 +1,134 @@
+//! The words of a client's command.
+
+ghost use Rattle.std.specs.Prelude.{◌≡◌, ◌<◌, ◌≤◌, ◌&&◌, ℕ, List, [], ◌∷◌, length, map, string_bytes, codes, IfOk, IfSome};
+ghost use Rattle.std.specs.Str.{bytes_eq};
+ghost use Rattle.vic_cli.specs.ClientWords.{client_words, counted, is_address as address_by, joined, key_in, mode_in as mode_by, number_in as number_by, IsClientOf};
+
+use std::alloc::Global;
+use vic_client::Client;
+use vic_dict::{Mode, NoMemory};
+use vic_tag::{GroupKey, KeyFault};
+use vic_text::word::{is_name, number_of};
+
+/// The most clients that a group may have.
+const MOST: u8 = 64;
+
+fn is_address(word: &[u8]) -> bool
+    ensures { result ≡ address_by word.now }
+{
+    1 <= word.len() && word.len() <= 255
+}
+
+// Whether the first two words are the command's and an address.
+fn is_right(name: &[u8], address: &[u8]) -> bool
+    ensures { result ≡ (bytes_eq name.now (codes "client") && address_by address.now) }
+{
+    is_name(name, b"client") && is_address(address)
+}
+
+// The number that a word spells, from 1 up to the greatest.
+fn number_in(word: &[u8], most: u8) -> Option<u8>
+    ensures number { result ≡ number_by most word.now }
+    ensures within { IfSome result (λ n. (0 < n) × (n ≤ most)) }
+{
+    match number_of(word) {
+        None => None,
+        Some(n) => {
+            if 1 <= n && n <= u32::from(most) {
+                Some(n as u8)
+            } else {
+                None
+            }
+        }
+    }
+}
+
+// The mode that a word names. Where clients have objects, they are named here and in the definition.
+fn mode_in(word: &[u8]) -> Option<Mode>
+    ensures { result ≡ mode_by word.now }
+{
+    if is_name(word, b"plain") {
+        Some(Mode::Plain)
+    } else {
+        None
+    }
+}
+
+// The key that a word spells.
+fn key_of(alloc: Global, word: &str) -> Result<Option<GroupKey>, NoMemory>
+    ensures key { IfOk result (λ k. k ≡ key_in word.now) }
+    ensures fits { IfOk result (λ k. IfSome k (λ key. (0 < length key) × (length key ≤ 64))) }
+{
+    match GroupKey::from_hex(alloc, word) {
+        Ok(key) => {
+            let _size = key.len();
+            Ok(Some(key))
+        }
+        Err(KeyFault::NoMemory) => Err(NoMemory),
+        Err(KeyFault::Length) => Ok(None),
+        Err(KeyFault::Digit(_)) => Ok(None),
+    }
+}
+
+// The client of a group of so many.
+fn member_of(
+    alloc: Global,
+    count: u8,
+    id: &[u8],
+    key: &str,
+    mode: &[u8],
+) -> Result<Option<Client>, NoMemory>
+    requires some { 0 < count }
+    requires most { count ≤ 64 }
+    ensures { (address : List ℕ) → IfOk result (λ c. IsClientOf (joined address count (number_by count id.now) (key_in key.now) (mode_by mode.now)) c) }
+{
+    let Some(me) = number_in(id, count) else {
+        return Ok(None);
+    };
+    let Some(kind) = mode_in(mode) else {
+        return Ok(None);
+    };
+    match key_of(alloc, key)? {
+        Some(shared) => Ok(Some(Client::new(alloc, me, count, kind, shared))),
+        None => Ok(None),
+    }
+}
+
+// The client that six words say.
+fn client_in(
+    alloc: Global,
+    name: &[u8],
+    address: &[u8],
+    id: &[u8],
+    count: &[u8],
+    key: &str,
+    mode: &[u8],
+) -> Result<Option<Client>, NoMemory>
+    ensures { IfOk result (λ c. IsClientOf (client_words (name.now ∷ address.now ∷ id.now ∷ count.now ∷ key.now ∷ mode.now ∷ [])) c) }
+{
+    if !is_right(name, address) {
+        return Ok(None);
+    }
+    match number_in(count, MOST) {
+        Some(many) => member_of(alloc, many, id, key, mode),
+        None => Ok(None),
+    }
+}
+
+/// The client that the words say, which has done nothing yet; none where they are wrong.
+pub fn client_of(alloc: Global, words: &[String]) -> Result<Option<Client>, NoMemory>
+    ensures { IfOk result (λ c. IsClientOf (client_words (map string_bytes words.now)) c) }
+{
+    match words {
+        [name, address, id, count, key, mode] => client_in(
+            alloc,
+            name.as_bytes(),
+            address.as_bytes(),
+            id.as_bytes(),
+            count.as_bytes(),
+            key.as_str(),
+            mode.as_bytes(),
+        ),
+        _ => Ok(None),
+    }
+}
