@@ -25,7 +25,8 @@ fn words_of(alloc: Global, words: &[&str]) -> Result<Vec<String>, Fail> {
 }
 
 fn bytes_of(alloc: Global, bytes: &[u8]) -> Result<Bytes, Fail> {
-    Bytes::of(alloc, bytes).ok().ok_or("bytes")
+    let made = Bytes::of(alloc, bytes).ok().ok_or("bytes")?;
+    Ok(made)
 }
 
 // The calls with this number alone, or none where it is 0.
@@ -148,13 +149,13 @@ fn tells_a_failed_read_and_a_failed_write(rt: HostRuntime) -> Result<(), Fail> {
     Ok(())
 }
 
-// The other end of one connection: it gives the bytes, and answers what came first.
-fn answer(listener: &TcpListener) -> Option<[u8; 8]> {
+// The other end of one connection: it gives the bytes, and answers all that came until this end was closed.
+fn answer(alloc: Global, listener: &TcpListener) -> Option<Vec<u8>> {
     let (mut stream, _) = listener.accept().ok()?;
     stream.write_all(REFUSED).ok()?;
-    let mut first = [0u8; 8];
-    stream.read_exact(&mut first).ok()?;
-    Some(first)
+    let mut came = Vec::new(alloc);
+    stream.read_to_end(&mut came).ok()?;
+    Some(came)
 }
 
 #[test]
@@ -165,7 +166,7 @@ fn runs_over_a_connection(rt: HostRuntime) -> Result<(), Fail> {
         .ok_or("listener")?;
     let address = listener.local_addr().ok().ok_or("address")?;
     let address = address.to_string(alloc)?;
-    let Ok(other) = thread::spawn(&rt, move || answer(&listener)) else {
+    let Ok(other) = thread::spawn(&rt, move || answer(alloc, &listener)) else {
         panic!(rt; "no thread");
     };
     let words = words_of(
@@ -173,11 +174,15 @@ fn runs_over_a_connection(rt: HostRuntime) -> Result<(), Fail> {
         &["client", address.as_str(), "1", "1", "0b", "plain"],
     )?;
     let mut source = MemorySource::new(bytes_of(alloc, b"put a x")?, Calls::new(alloc));
-    let mut link = TcpLine::open(&rt, address.as_str());
     let mut sink = MemorySink::new(alloc, Calls::new(alloc));
-    let status = run_client(alloc, words.as_slice(), &mut source, &mut link, &mut sink);
+    let status = {
+        let mut link = TcpLine::open(&rt, address.as_str());
+        run_client(alloc, words.as_slice(), &mut source, &mut link, &mut sink)
+    };
     assert_eq!(rt; status, Status::Ok);
     assert_eq!(rt; sink.held().as_slice(), b"refused 2\nbye\n".as_slice());
-    assert_eq!(rt; other.join(&rt), Some(*b"\0\0\0\x04\x21\x01\0\x01"));
+    let came = other.join(&rt).ok_or("came")?;
+    assert!(rt; came.starts_with(b"\0\0\0\x04\x21\x01\0\x01"));
+    assert!(rt; came.ends_with(b"\0\0\0\x01\x29"));
     Ok(())
 }
