@@ -131,7 +131,11 @@ fn in_memory(rt: HostRuntime) -> Result<(), Fail> {
 
 #[test]
 fn wrong_words(rt: HostRuntime) -> Result<(), Fail> {
-    let row: Row = ("clients 1", "usage: vicos group | client ADDRESS ID COUNT KEY MODE | serve ADDRESS COUNT MODE CONNECTIONS", 2);
+    let row: Row = (
+        "clients 1",
+        "usage: vicos group | client ADDRESS ID COUNT KEY MODE | serve ADDRESS COUNT MODE CONNECTIONS",
+        2,
+    );
     for command in ["group x", "groups", ""] {
         assert!(rt; prints_row(rt.alloc(), command, &row)?);
     }
@@ -146,7 +150,16 @@ fn one_fault(rt: HostRuntime) -> Result<(), Fail> {
     assert!(rt; faults(rt.alloc(), "group", 0, 1, b"", 4)?);
     assert!(rt; faults(rt.alloc(), "group", 1, 1, b"", 4)?);
     // Wrong words are found before anything is read.
-    assert!(rt; faults(rt.alloc(), "group x", 1, 0, b"usage: vicos group | client ADDRESS ID COUNT KEY MODE | serve ADDRESS COUNT MODE CONNECTIONS\n", 2)?);
+    assert!(rt;
+        faults(
+            rt.alloc(),
+            "group x",
+            1,
+            0,
+            b"usage: vicos group | client ADDRESS ID COUNT KEY MODE | serve ADDRESS COUNT MODE CONNECTIONS\n",
+            2
+        )?
+    );
     Ok(())
 }
 

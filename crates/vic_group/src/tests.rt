@@ -26,7 +26,11 @@ const ROWS: [Row; 41] = [
         End::Whole,
     ),
     // A group in which nothing is done.
-    ("clients 2", "view 1 / view 2 / agree 1 2 0 / tags made", End::Whole),
+    (
+        "clients 2",
+        "view 1 / view 2 / agree 1 2 0 / tags made",
+        End::Whole,
+    ),
     // Puts of different keys, both unsealed.
     (
         "clients 2 / call 1 put a x / call 2 put b y / serve 1 / serve 2 / take 1 / take 2",
@@ -192,7 +196,11 @@ const ROWS: [Row; 41] = [
     ("", "line 1: not a line of this script", End::Bad),
     ("clients 65", "line 1: not a line of this script", End::Bad),
     ("clients 1 / take 1", "line 2: nothing waiting", End::Bad),
-    ("clients 1 / call 2 get a", "line 2: no such client", End::Bad),
+    (
+        "clients 1 / call 2 get a",
+        "line 2: no such client",
+        End::Bad,
+    ),
     (
         "clients 1 / call 1 put a x / call 1 get a",
         "line 3: client is busy",
@@ -293,7 +301,11 @@ fn rows(rt: HostRuntime) -> Result<(), Fail> {
     let alloc = rt.alloc();
     for row in ROWS.iter() {
         let (script, text) = (lines_of(alloc, row.0)?, lines_of(alloc, row.1)?);
-        assert!(rt; prints(alloc, script.as_slice(), text.as_slice(), row.2)?, "{}", row.0);
+        assert!(rt;
+            prints(alloc, script.as_slice(), text.as_slice(), row.2)?,
+            "{}",
+            row.0
+        );
     }
     Ok(())
 }
