@@ -69,35 +69,42 @@ fn del(alloc: Global, key: &[u8]) -> Result<Op, NoMemory>
     Ok(Op::Del(key_of(alloc, key)?))
 }
 
-/// Calls of the dictionary of two pairs, and of parts of its tree.
+/// Calls of the dictionary of two pairs.
 #[test]
 fn two_pairs(rt: HostRuntime) -> Result<(), Fail> {
-    let alloc = rt.alloc();
-    let mut trie = pair(alloc)?;
+    let mut trie = pair(rt.alloc())?;
     assert!(rt; trie.root().bytes == BOTH && trie.len() == 2 && trie.weight() == 36);
     let names = trie.list(b"")?;
     assert!(rt; names.len() == 2 && names.at(0).as_slice() == b"a".as_slice());
     assert!(rt; names.at(1).as_slice() == b"b".as_slice());
     assert!(rt; trie.copy()?.root().bytes == BOTH);
-    let found = get(alloc, b"a")?;
-    let part = cut_for(alloc, &trie, &found)?;
-    assert!(rt; part.root().bytes == BOTH && part.reaches(&found));
-    assert!(rt; part.get(b"a").is_some() && part.get(b"b").is_none());
-    match part.try_op(alloc, &found) {
-        Ok(Answer::Found(value)) => assert!(rt; value.as_slice() == b"x".as_slice()),
-        _ => assert!(rt; false),
-    }
-    let other = get(alloc, b"b")?;
-    assert!(rt; !part.reaches(&other));
-    assert!(rt; matches!(part.try_op(alloc, &other), Err(PruneFault::Stub)));
-    assert!(rt; part.after(&other) == Err(PruneFault::Stub));
-    let gone = del(alloc, b"b")?;
-    let part = cut_for(alloc, &trie, &gone)?;
-    assert!(rt; part.after(&gone) == Ok(Digest32 { bytes: LEAF_A }));
     assert!(rt; trie.del(b"b") && !trie.del(b"b"));
     assert!(rt; trie.root().bytes == LEAF_A && trie.len() == 1 && trie.weight() == 18);
     assert!(rt; trie.del(b"a") && trie.root().bytes == NOTHING && trie.top().is_none());
     assert!(rt; matches!(cut_none(&trie), Pruned::Empty));
+    Ok(())
+}
+
+/// Parts of its tree.
+#[test]
+fn parts_of_two(rt: HostRuntime) -> Result<(), Fail> {
+    let alloc = rt.alloc();
+    let trie = pair(alloc)?;
+    let found = get(alloc, b"a")?;
+    let part = cut_for(alloc, &trie, &found)?;
+    assert!(rt; part.root().bytes == BOTH && part.reaches(&found));
+    let answer = part.try_op(alloc, &found);
+    match &answer {
+        Ok(Answer::Found(value)) => assert!(rt; value.as_slice() == b"x".as_slice()),
+        _ => assert!(rt; false),
+    }
+    let other = get(alloc, b"b")?;
+    assert!(rt; !part.reaches(&other) && part.after(&other) == Err(PruneFault::Stub));
+    let missing = part.try_op(alloc, &other);
+    assert!(rt; matches!(&missing, Err(PruneFault::Stub)));
+    let gone = del(alloc, b"b")?;
+    let shorter = cut_for(alloc, &trie, &gone)?;
+    assert!(rt; shorter.after(&gone) == Ok(Digest32 { bytes: LEAF_A }));
     Ok(())
 }
 
