@@ -9,7 +9,6 @@ use Rattle.vic_client.specs.Kept.{Kept, StandsFor, group_of}
 use Rattle.vic_wire.specs.Hashes.{Group}
 use Rattle.vic_conn.specs.Frames.{frames_of}
 use Rattle.vic_ports.specs.Causes.{Rose, LeavesBehind, IsSpent}
-use Rattle.vic_ports.specs.Written.{AppendedAll, AppendedFront}
 use Rattle.vic_ports.specs.InputGives.{InputGives}
 use Rattle.vic_ports.specs.declared.reading.Input.TheVariants as input
 use Rattle.vic_ports.specs.Links.{Told}
@@ -24,7 +23,7 @@ use Rattle.vic_session.proofs.Complete.{complete}
 use Rattle.vic_text.specs.declared.status.Status.{Status}
 use Rattle.vic_text.specs.declared.status.Status.TheVariants as status
 use Rattle.vic_text.specs.Statuses.{usage_line, no_memory_line}
-use Rattle.vic_cli.specs.Output.{Taken, Given, IsReadWhole, Finishes}
+use Rattle.vic_cli.specs.Output.{Taken, Given, IsReadWhole, WroteAll, WroteFront, Finishes}
 use Rattle.vic_cli.specs.ClientWords.{ClientWords, client_words, counted, is_address, joined, key_in, mode_in, number_in, IsClientOf}
 use Rattle.vic_cli.specs.Telling.{status_by, text_by, TellsSession}
 use Rattle.vic_cli.specs.ClientEnds.{IsScript, HasSession, Did, Composes, of_words, of_fault, of_memory, of_session, ClientEnds, IsClientComplete}
@@ -105,33 +104,37 @@ composes_long w c t script old new s text is read tells = composes_session w c t
 
 -- ---- how it ends
 
-began_session : (o : Option ClientWords) (t : Taken) (old new : Told) (k : Given) (end : SessionEnd) (printed : List ℕ) → Did o t old new end printed → AppendedAll (text_by end printed) k.old k.new
-    → ClientEnds o t old new k (status_by end)
-began_session o t old new k ends.Ok printed did all = (printed, (did, all))
-began_session o t old new k (ends.BadLine n kind) printed did all = (n, (kind, (printed, (did, all))))
-began_session o t old new k ends.LinkFault printed did all = (printed, (did, all))
-began_session o t old new k (ends.Halted check hash) printed did all = (check, (hash, (printed, (did, all))))
-began_session o t old new k ends.BadFrame printed did all = (printed, (did, all))
-began_session o t old new k (ends.GreetingRefused r) printed did all = (r, (printed, (did, all)))
-began_session o t old new k ends.NoMemory printed did all =
-    (status.NoMemory, (no_memory_line, (of_session ends.NoMemory printed did (inl (refl, refl)), all_is_front no_memory_line k.old k.new all)))
+-- what was written whole was begun
+front_of : (text : List ℕ) (k : Given) → WroteAll text k → WroteFront text k
+front_of text k all = (all.0, all_is_front text k.old k.new all.1)
 
-written_whole : (o : Option ClientWords) (t : Taken) (old new : Told) (k : Given) (s : Status) (text : List ℕ) → Composes o t old new s text → AppendedAll text k.old k.new → ClientEnds o t old new k s
+session_ends : (o : Option ClientWords) (t : Taken) (old new : Told) (k : Given) (end : SessionEnd) (printed : List ℕ) → Did o t old new end printed → WroteAll (text_by end printed) k
+    → ClientEnds o t old new k (status_by end)
+session_ends o t old new k ends.Ok printed did all = (printed, (did, all))
+session_ends o t old new k (ends.BadLine n kind) printed did all = (n, (kind, (printed, (did, all))))
+session_ends o t old new k ends.LinkFault printed did all = (printed, (did, all))
+session_ends o t old new k (ends.Halted check hash) printed did all = (check, (hash, (printed, (did, all))))
+session_ends o t old new k ends.BadFrame printed did all = (printed, (did, all))
+session_ends o t old new k (ends.GreetingRefused r) printed did all = (r, (printed, (did, all)))
+session_ends o t old new k ends.NoMemory printed did all =
+    (status.NoMemory, (no_memory_line, (of_session ends.NoMemory printed did (inl (refl, refl)), front_of no_memory_line k all)))
+
+written_whole : (o : Option ClientWords) (t : Taken) (old new : Told) (k : Given) (s : Status) (text : List ℕ) → Composes o t old new s text → WroteAll text k → ClientEnds o t old new k s
 written_whole o t old new k s text (of_words wrong same is line) all =
-    subst (λ (x : Status). ClientEnds o t old new k x) (sym is) (wrong, (same, subst (λ (l : List ℕ). AppendedAll l k.old k.new) line all))
+    subst (λ (x : Status). ClientEnds o t old new k x) (sym is) (wrong, (same, subst (λ (l : List ℕ). WroteAll l k) line all))
 written_whole o t old new k s text (of_fault right rose same is line) all =
-    subst (λ (x : Status). ClientEnds o t old new k x) (sym is) (right, (rose, (same, subst (λ (l : List ℕ). AppendedAll l k.old k.new) line all)))
+    subst (λ (x : Status). ClientEnds o t old new k x) (sym is) (right, (rose, (same, subst (λ (l : List ℕ). WroteAll l k) line all)))
 written_whole o t old new k s text (of_memory same is line) all =
-    subst (λ (x : Status). ClientEnds o t old new k x) (sym is) (s, (text, (of_memory same is line, all_is_front text k.old k.new all)))
+    subst (λ (x : Status). ClientEnds o t old new k x) (sym is) (s, (text, (of_memory same is line, front_of text k all)))
 written_whole o t old new k s text (of_session end printed did (inl told)) all =
-    subst (λ (x : Status). ClientEnds o t old new k x) (sym told.0) (began_session o t old new k end printed did (subst (λ (l : List ℕ). AppendedAll l k.old k.new) told.1 all))
+    subst (λ (x : Status). ClientEnds o t old new k x) (sym told.0) (session_ends o t old new k end printed did (subst (λ (l : List ℕ). WroteAll l k) told.1 all))
 written_whole o t old new k s text (of_session end printed did (inr none)) all =
-    subst (λ (x : Status). ClientEnds o t old new k x) (sym none.0) (s, (text, (of_session end printed did (inr none), all_is_front text k.old k.new all)))
+    subst (λ (x : Status). ClientEnds o t old new k x) (sym none.0) (s, (text, (of_session end printed did (inr none), front_of text k all)))
 
 pub ends_of : (o : Option ClientWords) (t : Taken) (old new : Told) (k : Given) (s : Status) (text : List ℕ) (result : Status) → Composes o t old new s text → Finishes s text k result
     → ClientEnds o t old new k result
 ends_of o t old new k s text result composed (inl f) = subst (λ (x : Status). ClientEnds o t old new k x) (sym f.0) (written_whole o t old new k s text composed f.1)
-ends_of o t old new k s text result composed (inr (inl f)) = subst (λ (x : Status). ClientEnds o t old new k x) (sym f.0) (f.1.0, (s, (text, (composed, f.1.1))))
+ends_of o t old new k s text result composed (inr (inl f)) = subst (λ (x : Status). ClientEnds o t old new k x) (sym f.0) (s, (text, (composed, f.1)))
 ends_of o t old new k s text result composed (inr (inr f)) = subst (λ (x : Status). ClientEnds o t old new k x) (sym f.0) (s, (text, (composed, f.1)))
 
 -- ---- where it ends well

@@ -5,7 +5,6 @@ use Rattle.vic_wire.specs.declared.message.Digest32.{Digest32}
 use Rattle.vic_rules.specs.History.{IsLawful}
 use Rattle.vic_conn.specs.Frames.{frames_of}
 use Rattle.vic_ports.specs.Causes.{Rose, LeavesBehind}
-use Rattle.vic_ports.specs.Written.{AppendedAll, AppendedFront}
 use Rattle.vic_ports.specs.Links.{Told}
 use Rattle.vic_script.specs.Run.{limit}
 use Rattle.vic_session.specs.declared.end.SessionEnd.{SessionEnd}
@@ -16,7 +15,7 @@ use Rattle.vic_session.specs.Laws.{IsServed}
 use Rattle.vic_text.specs.declared.status.Status.{Status}
 use Rattle.vic_text.specs.declared.status.Status.TheVariants as status
 use Rattle.vic_text.specs.Statuses.{usage_line, read_fault_line, no_memory_line}
-use Rattle.vic_cli.specs.Output.{Taken, Given, IsReadWhole}
+use Rattle.vic_cli.specs.Output.{Taken, Given, IsReadWhole, WroteAll, WroteFront, FailedBehind}
 use Rattle.vic_cli.specs.ClientWords.{ClientWords}
 use Rattle.vic_cli.specs.Telling.{text_by, TellsEnd}
 
@@ -46,21 +45,21 @@ pub data Composes (words : Option ClientWords) (t : Taken) (old new : Told) (s :
 
 -- a session ended so, and what it printed was written, with the line of its end
 abbrev pub Ended : Option ClientWords → Taken → Told → Told → Given → SessionEnd → Type 0
-Ended words t old new k end = (printed : List ℕ) × (Did words t old new end printed × AppendedAll (text_by end printed) k.old k.new)
+Ended words t old new k end = (printed : List ℕ) × (Did words t old new end printed × WroteAll (text_by end printed) k)
 
--- a front of what was composed was written
-abbrev pub Began : Option ClientWords → Taken → Told → Told → Given → Type 0
-Began words t old new k = (s : Status) × ((text : List ℕ) × (Composes words t old new s text × AppendedFront text k.old k.new))
+-- something was composed, and so much of it was written
+abbrev pub Wrote : Option ClientWords → Taken → Told → Told → (List ℕ → Type 0) → Type 0
+Wrote words t old new much = (s : Status) × ((text : List ℕ) × (Composes words t old new s text × much text))
 
 -- the command's end, by its status
 abbrev pub ClientEnds : Option ClientWords → Taken → Told → Told → Given → Status → Type 0
 ClientEnds words t old new k status.Ok = Ended words t old new k ends.Ok
 ClientEnds words t old new k status.TagsNotMade = ⊥
-ClientEnds words t old new k status.Usage = (words ≡ None) × ((new ≡ old) × AppendedAll usage_line k.old k.new)
-ClientEnds words t old new k status.ReadFault = IsSome words × (Rose t.before t.now × ((new ≡ old) × AppendedAll read_fault_line k.old k.new))
-ClientEnds words t old new k status.WriteFault = Rose k.before k.now × Began words t old new k
+ClientEnds words t old new k status.Usage = (words ≡ None) × ((new ≡ old) × WroteAll usage_line k)
+ClientEnds words t old new k status.ReadFault = IsSome words × (Rose t.before t.now × ((new ≡ old) × WroteAll read_fault_line k))
+ClientEnds words t old new k status.WriteFault = Wrote words t old new (λ text. FailedBehind text k)
 ClientEnds words t old new k status.BadLine = (n : ℕ) × ((kind : ℕ) × Ended words t old new k (ends.BadLine n kind))
-ClientEnds words t old new k status.NoMemory = Began words t old new k
+ClientEnds words t old new k status.NoMemory = Wrote words t old new (λ text. WroteFront text k)
 ClientEnds words t old new k status.LinkFault = Ended words t old new k ends.LinkFault
 ClientEnds words t old new k status.Halted = (check : ℕ) × ((hash : Digest32) × Ended words t old new k (ends.Halted check hash))
 ClientEnds words t old new k status.BadFrame = Ended words t old new k ends.BadFrame

@@ -1,14 +1,16 @@
 -- How the command on a script ends: what was read, what was written, and why.
 use Rattle.std.specs.Prelude.{◌≡◌, ℕ, ◌⊎◌, ◌↔◌, Bool, true, false, List, ◌++◌, reverse, Option, Some, None, IsSome, IfSome}
 use Rattle.std.specs.List.{flat_map}
+use Rattle.vic_rules.specs.declared.trace.TraceStep.{TraceStep}
 use Rattle.vic_rules.specs.History.{IsLawful}
 use Rattle.vic_rules.specs.Headline.{Headline}
 use Rattle.vic_rules.specs.Trust.{IsForged}
 use Rattle.vic_rules.specs.Views.{view_of, HasAll, ShowsOnlyCalls, Agree, IsInRealTime}
 use Rattle.vic_laws.specs.Claims.{HashesTellPathsIn, SealsHoldIn}
 use Rattle.vic_laws.specs.OrderClaims.{CompletedOnceIn, DoneMeetsNoConflictIn, AnswersStandIn}
+use Rattle.vic_laws.specs.Meanings.{AbortedByConflictIn, SealedAnswersStandIn}
 use Rattle.vic_ports.specs.Causes.{Rose}
-use Rattle.vic_ports.specs.Written.{AppendedAll, AppendedFront}
+use Rattle.vic_ports.specs.Written.{AppendedAll}
 use Rattle.vic_order.specs.Scenes.{Scene}
 use Rattle.vic_script.specs.Run.{Bad, run_of, is_honest_script, group_of, history_of, bad_line_of}
 use Rattle.vic_script.specs.Print.{print_of_script, is_forged, all_views, all_agreements, tags_line}
@@ -19,27 +21,35 @@ use Rattle.vic_honest.specs.Claims.{IsHonestScene}
 use Rattle.vic_text.specs.declared.status.Status.{Status}
 use Rattle.vic_text.specs.declared.status.Status.TheVariants as status
 use Rattle.vic_text.specs.Statuses.{usage_line, read_fault_line, no_memory_line}
-use Rattle.vic_cli.specs.Output.{Taken, Given, IsReadWhole, IsReadPast}
+use Rattle.vic_cli.specs.Output.{Taken, Given, IsReadWhole, IsReadPast, WroteAll, WroteFront, FailedBehind}
 
--- a text that the command may be about to write: the usage line where the words are wrong; else that a read failed, where one
--- did, that memory ran out, or the print of the script's run
+-- a text that the command may be about to write: the usage line where the words are wrong; else that a read failed, where one did;
+-- else that memory ran out, or the print of the script's run
 abbrev pub IsOutput : Bool → Taken → List ℕ → Type 0
 IsOutput false t text = text ≡ usage_line
-IsOutput true t text = ((text ≡ read_fault_line) × Rose t.before t.now) ⊎ ((text ≡ no_memory_line) ⊎ IfSome t.old (λ script. text ≡ print_of_script script))
+IsOutput true t text = (Rose t.before t.now × (text ≡ read_fault_line)) ⊎ ((t.now ≡ t.before) × ((text ≡ no_memory_line) ⊎ IfSome t.old (λ script. text ≡ print_of_script script)))
 
 -- every line of a script is done, and this tells whether a tag was taken that no client had made before
-abbrev pub IsDone : List ℕ → Bool → Type 0
-IsDone script forged = (bad_line_of script ≡ None) × (is_forged (group_of script) (history_of script) ≡ forged)
+abbrev pub IsDone : Bool → List ℕ → Type 0
+IsDone forged script = (bad_line_of script ≡ None) × (is_forged (group_of script) (history_of script) ≡ forged)
+
+-- a line of a script is bad
+abbrev pub HasBad : List ℕ → Type 0
+HasBad script = IsSome (bad_line_of script)
+
+-- no write failed, and of the script, where it is told, this holds and its print was written whole
+abbrev pub Prints : Taken → Given → (List ℕ → Type 0) → Type 0
+Prints t k Holds = (k.now ≡ k.before) × IfSome t.old (λ script. Holds script × AppendedAll (print_of_script script) k.old k.new)
 
 -- the command's end, by its status: `right` says whether the words are
 abbrev pub Ends : Bool → Taken → Given → Status → Type 0
-Ends right t k status.Ok = (right ≡ true) × (IsReadWhole t × IfSome t.old (λ script. IsDone script false × AppendedAll (print_of_script script) k.old k.new))
-Ends right t k status.TagsNotMade = (right ≡ true) × (IsReadWhole t × IfSome t.old (λ script. IsDone script true × AppendedAll (print_of_script script) k.old k.new))
-Ends right t k status.Usage = (right ≡ false) × AppendedAll usage_line k.old k.new
-Ends right t k status.ReadFault = (right ≡ true) × (Rose t.before t.now × AppendedAll read_fault_line k.old k.new)
-Ends right t k status.WriteFault = Rose k.before k.now × ((text : List ℕ) × (IsOutput right t text × AppendedFront text k.old k.new))
-Ends right t k status.BadLine = (right ≡ true) × ((IsReadWhole t ⊎ IsReadPast t) × IfSome t.old (λ script. IsSome (bad_line_of script) × AppendedAll (print_of_script script) k.old k.new))
-Ends right t k status.NoMemory = (text : List ℕ) × (IsOutput right t text × AppendedFront text k.old k.new)
+Ends right t k status.Ok = (right ≡ true) × (IsReadWhole t × Prints t k (IsDone false))
+Ends right t k status.TagsNotMade = (right ≡ true) × (IsReadWhole t × Prints t k (IsDone true))
+Ends right t k status.Usage = (right ≡ false) × WroteAll usage_line k
+Ends right t k status.ReadFault = (right ≡ true) × (Rose t.before t.now × WroteAll read_fault_line k)
+Ends right t k status.WriteFault = (text : List ℕ) × (IsOutput right t text × FailedBehind text k)
+Ends right t k status.BadLine = (right ≡ true) × ((IsReadWhole t ⊎ IsReadPast t) × Prints t k HasBad)
+Ends right t k status.NoMemory = (text : List ℕ) × (IsOutput right t text × WroteFront text k)
 Ends right t k status.LinkFault = ⊥
 Ends right t k status.Halted = ⊥
 Ends right t k status.BadFrame = ⊥
@@ -78,6 +88,8 @@ pub record IsAsClaimed (script : List ℕ) : Type 0 where
   pub seals : SealsHoldIn (group_of script) (history_of script)
   -- the claim on the views of all clients
   pub views : Headline (group_of script) (history_of script)
+  -- and so at each earlier moment of the run
+  pub fronts : (later earlier : List TraceStep) → history_of script ≡ later ++ earlier → IsLawful (group_of script) earlier × Headline (group_of script) earlier
   -- of which these need no exception: each view has each call that its client completed, once, and only calls that were asked for and
   -- returned so, and every two views agree up to each call in both
   pub complete : (me : ℕ) → HasAll (group_of script) me (history_of script) (view_of (group_of script) me (history_of script))
@@ -91,6 +103,10 @@ pub record IsAsClaimed (script : List ℕ) : Type 0 where
   pub no_conflict : DoneMeetsNoConflictIn (group_of script) (history_of script)
   -- so its answer is that of the Reply's part after its client's own done calls above the seal, whichever of those entries take effect
   pub stands : AnswersStandIn (group_of script) (history_of script)
+  -- and, unless a tag was forged or two listed texts collide, that of what the calls up to the seal leave, after the same
+  pub sealed : SealedAnswersStandIn (group_of script) (history_of script)
+  -- a call is aborted exactly by the least entry of another client, above the seal of its Reply and below the call, that conflicts with it
+  pub aborts : AbortedByConflictIn (group_of script) (history_of script)
   -- each call that stands in two clients' views stands within the number that is printed for the two
   pub agreed : AgreementsCountIn (group_of script) (history_of script)
   -- the test that decides between the statuses 0 and 1, and that the print tells, is true exactly where a tag is forged

@@ -19,13 +19,13 @@ pub record Taken : Type 0 where
 abbrev pub taken_of : Option (List ℕ) → Option (List ℕ) → ℕ → ℕ → Bool → Taken
 taken_of old new before now ended = record { old = old; new = new; before = before; now = now; ended = ended }
 
--- it was read to its end
+-- it was read to its end, and no read failed
 abbrev pub IsReadWhole : Taken → Type 0
-IsReadWhole t = (t.ended ≡ true) × IsSpent t.new
+IsReadWhole t = (t.now ≡ t.before) × ((t.ended ≡ true) × IsSpent t.new)
 
--- more was taken than a script may have
+-- more was taken than a script may have, and no read failed
 abbrev pub IsReadPast : Taken → Type 0
-IsReadPast t = (bytes : List ℕ) × ((limit < length bytes) × LeavesBehind bytes t.old t.new)
+IsReadPast t = (t.now ≡ t.before) × ((bytes : List ℕ) × ((limit < length bytes) × LeavesBehind bytes t.old t.new))
 
 -- what is told of a sink before and after
 pub record Given : Type 0 where
@@ -42,8 +42,20 @@ abbrev pub text_bytes : Text → List ℕ
 text_bytes (text.Fixed line) = line.now
 text_bytes (text.Made bytes) = bytes
 
+-- a text was written whole, and no write failed
+abbrev pub WroteAll : List ℕ → Given → Type 0
+WroteAll text k = (k.now ≡ k.before) × AppendedAll text k.old k.new
+
+-- a front of a text was written, where the sink found no memory; no write failed
+abbrev pub WroteFront : List ℕ → Given → Type 0
+WroteFront text k = (k.now ≡ k.before) × AppendedFront text k.old k.new
+
+-- a front of a text was written, and then a write failed
+abbrev pub FailedBehind : List ℕ → Given → Type 0
+FailedBehind text k = Rose k.before k.now × AppendedFront text k.old k.new
+
 -- a text was written whole, or the sink failed or found no memory
 abbrev pub Finishes : Status → List ℕ → Given → Status → Type 0
-Finishes planned line k result =
-    ((result ≡ planned) × AppendedAll line k.old k.new)
-    ⊎ (((result ≡ status.WriteFault) × (Rose k.before k.now × AppendedFront line k.old k.new)) ⊎ ((result ≡ status.NoMemory) × AppendedFront line k.old k.new))
+Finishes planned text k result =
+    ((result ≡ planned) × WroteAll text k)
+    ⊎ (((result ≡ status.WriteFault) × FailedBehind text k) ⊎ ((result ≡ status.NoMemory) × WroteFront text k))

@@ -1,6 +1,7 @@
 //! The command on a script: it reads the script, runs it and writes what it prints.
 
-ghost use Rattle.std.specs.Prelude.{◌≡◌, ◌≢◌, ◌⊎◌, IfSome, Some, None, true, drop, map, string_bytes};
+ghost use Rattle.std.specs.Prelude.{◌≡◌, ◌≢◌, ◌⊎◌, ℕ, List, Some, None, true, false, drop, map, string_bytes};
+ghost use Rattle.vic_ports.specs.InputGives.{TakesAtMost, most_taken};
 ghost use Rattle.vic_script.specs.Run.{bad_line_of, group_of, history_of};
 ghost use Rattle.vic_script.specs.Print.{is_forged};
 ghost use Rattle.vic_cli.specs.Words.{is_group};
@@ -42,9 +43,11 @@ fn compose_run(alloc: Global, script: &[u8]) -> Composed
     }
 }
 
-/// Reads a script and runs it, where the words are right.
+/// Reads a script and runs it, where the words are right; else nothing is read.
 fn compose<S: Source>(alloc: Global, right: bool, source: &mut S) -> Composed
-    ensures { Composes right (taken_of (S.left source.old) (S.left source.new) (S.faults source.old) (S.faults source.new) (S.ended source.new)) result.status (text_bytes result.text) }
+    ensures given { Composes right (taken_of (S.left source.old) (S.left source.new) (S.faults source.old) (S.faults source.new) (S.ended source.new)) result.status (text_bytes result.text) }
+    ensures unread { right ≡ false → source.new ≡ source.old }
+    ensures taken { TakesAtMost most_taken (S.left source.old) (S.left source.new) }
 {
     if !right {
         return Composed::of(Status::Usage);
@@ -59,7 +62,8 @@ fn compose<S: Source>(alloc: Global, right: bool, source: &mut S) -> Composed
 
 /// The command on a script: reads it to its end, runs it, and writes what it prints.
 ///
-/// It takes memory for the script, for what the script prints, and for the world in which its lines happen.
+/// It takes memory for the script, for what the script prints, and for the world in which its lines happen. What it claims of a
+/// script holds of every script, whatever the source tells of itself.
 pub fn run_group<S: Source, K: Sink>(
     alloc: Global,
     words: &[String],
@@ -67,8 +71,10 @@ pub fn run_group<S: Source, K: Sink>(
     sink: &mut K,
 ) -> Status
     ensures ends { Ends (is_group (map string_bytes words.now)) (taken_of (S.left source.old) (S.left source.new) (S.faults source.old) (S.faults source.new) (S.ended source.new)) (given_of (K.held sink.old) (K.held sink.new) (K.faults sink.old) (K.faults sink.new)) result }
-    ensures claim { IfSome (S.left source.old) IsAsClaimed }
+    ensures claim { (script : List ℕ) → IsAsClaimed script }
     ensures complete { IsComplete (is_group (map string_bytes words.now)) (taken_of (S.left source.old) (S.left source.new) (S.faults source.old) (S.faults source.new) (S.ended source.new)) (given_of (K.held sink.old) (K.held sink.new) (K.faults sink.old) (K.faults sink.new)) result }
+    ensures unread { is_group (map string_bytes words.now) ≡ false → source.new ≡ source.old }
+    ensures taken { TakesAtMost most_taken (S.left source.old) (S.left source.new) }
 {
     let composed = compose(alloc, is_right(words), source);
     finish(sink, composed.status, composed.text.as_slice())

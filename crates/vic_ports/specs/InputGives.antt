@@ -4,9 +4,18 @@ use Rattle.vic_ports.specs.declared.reading.Input.{Input}
 use Rattle.vic_ports.specs.declared.reading.Input.TheVariants as input
 use Rattle.vic_ports.specs.Causes.{Rose, LeavesBehind, IsSpent}
 
--- all of it with its end, or its front past the limit, and then no read failed; a fault only where the count rose
+-- the most bytes that are taken: those of the limit, and of one read more
+abbrev pub most_taken : ℕ
+most_taken = 16781312
+
+-- at most so many bytes were taken
+abbrev pub TakesAtMost : ℕ → Option (List ℕ) → Option (List ℕ) → Type 0
+TakesAtMost most old new = (bytes : List ℕ) × ((length bytes ≤ most) × LeavesBehind bytes old new)
+
+-- all of it with its end, or its front past the limit, and then no read failed; a fault only where the count rose, and nothing is read
+-- behind it. What was taken before a fault, or before memory ran out, is gone
 abbrev pub InputGives : Option (List ℕ) → Option (List ℕ) → ℕ → ℕ → Bool → Input → Type 0
 InputGives old new before now ended (input.Whole bytes) = LeavesBehind bytes old new × IsSpent new × (ended ≡ true) × (length bytes ≤ 16777216) × (now ≡ before)
-InputGives old new before now ended (input.TooLong bytes) = LeavesBehind bytes old new × (16777216 < length bytes) × (now ≡ before)
-InputGives old new before now ended input.Fault = Rose before now
-InputGives old new before now ended input.NoMemory = now ≡ before
+InputGives old new before now ended (input.TooLong bytes) = LeavesBehind bytes old new × (16777216 < length bytes) × (now ≡ before) × (length bytes ≤ most_taken)
+InputGives old new before now ended input.Fault = Rose before now × TakesAtMost 16777216 old new
+InputGives old new before now ended input.NoMemory = (now ≡ before) × TakesAtMost most_taken old new

@@ -2,7 +2,9 @@ pub mod Causes
 pub mod Failing
 pub mod InputGives
 pub mod Written
+pub mod Answers
 pub mod Coming
 pub mod Links
+pub mod Lines
 pub mod Memory
 pub mod Sending

@@ -1,9 +1,11 @@
 //! Doors in memory, through which the lines of a list come, one after the other.
 
-ghost use Rattle.std.specs.Prelude.{◌≡◌, ◌+◌, ◌-◌, ◌^◌, ◌<◌, ◌≤◌, [], ◌∷◌, ◌++◌, length, Some, IfOk, OnOk, OnErr, slice_get, take, map, min};
+ghost use Rattle.std.specs.Prelude.{◌≡◌, ◌+◌, ◌-◌, ◌^◌, ◌<◌, ◌≤◌, ◌⊎◌, ◌↔◌, [], ◌∷◌, ◌++◌, length, Some, IfOk, OnOk, OnErr, IsTrue, slice_get, take, map, min};
 ghost use Rattle.std.specs.Prelude.{vec_len, vec_capacity, reverse};
 ghost use Rattle.vic_ports.specs.Links.{Told, Accepts, GoesBack};
 ghost use Rattle.vic_ports.specs.Memory.{told_of};
+ghost use Rattle.vic_ports.specs.Failing.{is_to_fail};
+ghost use Rattle.vic_ports.specs.Coming.{line_of};
 
 use crate::doors::{Came, Doors};
 use crate::memory::Calls;
@@ -104,7 +106,15 @@ impl Doors for MemoryDoors {
 
     ghost faults = { λ d. d.faults };
 
-    fn accept(&mut self) -> Came<MemoryLink> {
+    fn accept(&mut self) -> Came<MemoryLink>
+        ensures given { Accepts (Some (record { came = map (λ s. told_of s.value) self.old.came.items; back = map told_of self.old.returned.items.items })) (Some (record { came = map (λ s. told_of s.value) self.new.came.items; back = map told_of self.new.returned.items.items })) self.old.faults self.new.faults (line_of told_of result) }
+        ensures later { self.old.faults ≤ self.new.faults }
+        ensures fails { self.new.fails ≡ self.old.fails }
+        ensures calls { self.new.calls ≡ min (self.old.calls + 1) (2 ^ 64 - 1) }
+        ensures planned { (result ≡ Came.Failed) ↔ (IsTrue (is_to_fail self.old.fails self.new.calls) ⊎ (self.old.waiting.items ≡ [])) }
+        ensures next { (line : MemoryLink) → result ≡ Came.Line line → self.old.waiting.items ≡ self.new.waiting.items ++ line ∷ [] }
+        ensures stays { result ≡ Came.Failed → self.new.waiting.items ≡ self.old.waiting.items }
+    {
         self.calls = self.calls.saturating_add(1);
         if self.fails.has(self.calls) {
             self.faults = self.faults.saturating_add(1);
@@ -122,7 +132,11 @@ impl Doors for MemoryDoors {
         }
     }
 
-    fn back(&mut self, line: MemoryLink) {
+    fn back(&mut self, line: MemoryLink)
+        ensures given { GoesBack (told_of line) (Some (record { came = map (λ s. told_of s.value) self.old.came.items; back = map told_of self.old.returned.items.items })) (Some (record { came = map (λ s. told_of s.value) self.new.came.items; back = map told_of self.new.returned.items.items })) }
+        ensures faults { self.new.faults ≡ self.old.faults }
+        ensures waiting { self.new.waiting.items ≡ self.old.waiting.items }
+    {
         if self.returned.items.len() < self.came.len() {
             self.returned.items.push_reserved(line);
         }

@@ -1,7 +1,7 @@
 //! Reading a whole source, up to a limit.
 
 ghost use Rattle.std.specs.Prelude.{◌≡◌, ◌≤◌, ◌<◌, ◌+◌, ◌++◌, length, OnOk, OnErr};
-ghost use Rattle.vic_ports.specs.InputGives.{InputGives};
+ghost use Rattle.vic_ports.specs.InputGives.{InputGives, TakesAtMost, most_taken};
 
 use crate::ports::{Got, Source};
 use std::alloc::Global;
@@ -10,6 +10,9 @@ use vic_dict::Bytes;
 /// The most bytes that an input may have.
 pub const LIMIT: usize = 16_777_216;
 
+/// The most bytes that one read takes.
+const ONE_READ: usize = 4096;
+
 /// What reading a source gave.
 #[derive(Debug, Drop)]
 pub enum Input {
@@ -17,18 +20,21 @@ pub enum Input {
     Whole(Bytes),
     /// The front of an input that goes on past the limit.
     TooLong(Bytes),
-    /// A read failed.
+    /// A read failed; what was taken before it is gone.
     Fault,
+    /// Memory ran out; what was taken is gone.
     NoMemory,
 }
 
-/// Reads a source to its end, or past the limit. Each read takes at least one byte, so it ends.
+/// Reads a source to its end, or past the limit, in reads of at most 4,096 bytes; so it takes at most so many past the limit. Each read
+/// takes at least one byte, so it ends.
 pub fn read_input<S: Source>(alloc: Global, source: &mut S) -> Input
     ensures given { InputGives (S.left source.old) (S.left source.new) (S.faults source.old) (S.faults source.new) (S.ended source.new) result }
+    ensures taken { TakesAtMost most_taken (S.left source.old) (S.left source.new) }
     ensures later { S.faults source.old ≤ S.faults source.new }
 {
     let mut all = Bytes::new(alloc);
-    let mut buffer = [0u8; 4096];
+    let mut buffer = [0u8; ONE_READ];
     while all.len() <= LIMIT {
         match source.read(&mut buffer) {
             Got::Bytes(n) => {

@@ -1,92 +1,96 @@
-//! The source and the sink over standard input and output. They tell no content; their counts of faults are their own.
+//! The source and the sink over a reader and a writer of std, as standard input and output. They tell no content by their traits;
+//! their own clauses say that no byte is lost, where the reader's or the writer's bytes are known.
 
-ghost use Rattle.std.specs.Prelude.{◌≡◌, ◌≢◌, ◌≤◌, ◌<◌, length, false, None};
-ghost use Rattle.vic_ports.specs.Causes.{WriteGives};
+ghost use Rattle.std.specs.Prelude.{◌≡◌, ◌≤◌, ◌<◌, length, false, None};
+ghost use Rattle.vic_ports.specs.Causes.{ReadGives, WriteGives};
+ghost use Rattle.vic_ports.specs.Answers.{TellsRead, TellsWrite, after_read, after_write};
 
+use crate::answers::{Tally, read_from, write_to};
 use crate::ports::{Got, Put, Sink, Source};
 use std::io::{Read, Stdin, Stdout, Write};
 
-/// Standard input.
+/// A source over a reader.
 #[derive(Drop)]
-pub struct StdSource {
-    input: Stdin,
-    faults: u64,
-    ended: bool,
+pub struct ReadSource<R> {
+    input: R,
+    pub(crate) tally: Tally,
 }
 
-impl StdSource {
+/// Standard input.
+pub type StdSource = ReadSource<Stdin>;
+
+impl<R: Read> ReadSource<R> {
     /// A source that hasn't ended, and at which no read has failed.
-    pub fn new(input: Stdin) -> StdSource
+    pub fn new(input: R) -> ReadSource<R>
         ensures input { result.input ≡ input }
-        ensures faults { result.faults ≡ 0 }
-        ensures ended { result.ended ≡ false }
+        ensures faults { result.tally.faults ≡ 0 }
+        ensures ended { result.tally.ended ≡ false }
     {
-        StdSource {
+        ReadSource {
             input,
-            faults: 0,
-            ended: false,
+            tally: Tally::new(),
         }
     }
 }
 
-impl Source for StdSource {
+impl<R: Read> Source for ReadSource<R> {
     ghost left = { λ _. None };
 
-    ghost faults = { λ s. s.faults };
+    ghost faults = { λ s. s.tally.faults };
 
-    ghost ended = { λ s. s.ended };
+    ghost ended = { λ s. s.tally.ended };
 
-    fn read(&mut self, into: &mut [u8]) -> Got {
-        match self.input.read(into) {
-            Ok(0) => {
-                self.ended = true;
-                Got::End
-            }
-            Ok(n) => Got::Bytes(n),
-            Err(_) => {
-                self.faults = self.faults.saturating_add(1);
-                Got::Failed
-            }
-        }
+    fn read(&mut self, into: &mut [u8]) -> Got
+        requires { 0 < length into.old }
+        ensures given { ReadGives into.new None None self.old.tally.faults self.new.tally.faults self.old.tally.ended self.new.tally.ended result }
+        ensures later { self.old.tally.faults ≤ self.new.tally.faults }
+        ensures bytes { TellsRead (R.remaining self.old.input) (R.remaining self.new.input) into.new result }
+        ensures noted { self.new.tally ≡ after_read self.old.tally result }
+    {
+        let got = read_from(&mut self.input, into);
+        self.tally.note_read(got);
+        got
     }
+}
+
+/// A sink over a writer.
+#[derive(Drop)]
+pub struct WriteSink<W> {
+    output: W,
+    pub(crate) tally: Tally,
 }
 
 /// Standard output.
-#[derive(Drop)]
-pub struct StdSink {
-    output: Stdout,
-    faults: u64,
-}
+pub type StdSink = WriteSink<Stdout>;
 
-impl StdSink {
+impl<W: Write> WriteSink<W> {
     /// A sink at which no write has failed.
-    pub fn new(output: Stdout) -> StdSink
+    pub fn new(output: W) -> WriteSink<W>
         ensures output { result.output ≡ output }
-        ensures faults { result.faults ≡ 0 }
+        ensures faults { result.tally.faults ≡ 0 }
     {
-        StdSink { output, faults: 0 }
+        WriteSink {
+            output,
+            tally: Tally::new(),
+        }
     }
 }
 
-impl Sink for StdSink {
+impl<W: Write> Sink for WriteSink<W> {
     ghost held = { λ _. None };
 
-    ghost faults = { λ s. s.faults };
+    ghost faults = { λ s. s.tally.faults };
 
-    // It takes no memory.
+    // It takes no memory, so it never answers that there is none.
     fn write(&mut self, piece: &[u8]) -> Put
         requires { 0 < length piece.now }
-        ensures given { WriteGives piece.now None None self.old.faults self.new.faults result }
-        ensures later { self.old.faults ≤ self.new.faults }
-        ensures works { result ≢ Put.NoMemory }
+        ensures given { WriteGives piece.now None None self.old.tally.faults self.new.tally.faults result }
+        ensures later { self.old.tally.faults ≤ self.new.tally.faults }
+        ensures bytes { TellsWrite (W.contents self.old.output) (W.contents self.new.output) piece.now result }
+        ensures noted { self.new.tally ≡ after_write self.old.tally result }
     {
-        match self.output.write(piece) {
-            // A write that takes nothing is a fault.
-            Ok(0) | Err(_) => {
-                self.faults = self.faults.saturating_add(1);
-                Put::Failed
-            }
-            Ok(n) => Put::Took(n),
-        }
+        let put = write_to(&mut self.output, piece);
+        self.tally.note_write(put);
+        put
     }
 }

@@ -1,20 +1,23 @@
 //! A link and doors over TCP. They tell no content; their counts of faults are their own.
 
-ghost use Rattle.std.specs.Prelude.{◌≡◌, None, false};
+ghost use Rattle.std.specs.Prelude.{◌≡◌, ◌≢◌, ◌≤◌, ◌<◌, length, None, false};
+ghost use Rattle.vic_ports.specs.Answers.{after_read, after_write};
+ghost use Rattle.vic_ports.specs.Links.{LinkReads, LinkWrites};
+ghost use Rattle.vic_ports.specs.Lines.{told_of_tally};
 
+use crate::answers::{TRIES, Tally, read_from, write_to};
 use crate::doors::{Came, Doors};
 use crate::link::Link;
 use crate::ports::{Got, Put};
 use std::alloc::Global;
-use std::io::{Read, Write};
+use std::io::ErrorKind;
 use std::net::{Net, TcpListener, TcpStream};
 
 /// One end of a TCP connection; none where it couldn't be opened, and then every call fails.
 #[derive(Drop)]
 pub struct TcpLine {
     stream: Option<TcpStream>,
-    faults: u64,
-    ended: bool,
+    tally: Tally,
 }
 
 impl TcpLine {
@@ -23,15 +26,15 @@ impl TcpLine {
         rt: &R,
         address: &str,
     ) -> TcpLine
-        ensures faults { result.faults ≡ 0 }
-        ensures ended { result.ended ≡ false }
+        ensures faults { result.tally.faults ≡ 0 }
+        ensures ended { result.tally.ended ≡ false }
     {
         TcpLine::over(TcpStream::connect(rt, address).ok())
     }
 
     fn over(stream: Option<TcpStream>) -> TcpLine
-        ensures faults { result.faults ≡ 0 }
-        ensures ended { result.ended ≡ false }
+        ensures faults { result.tally.faults ≡ 0 }
+        ensures ended { result.tally.ended ≡ false }
     {
         if let Some(open) = &stream {
             // Answers are small and awaited; where the system doesn't know the option, they are only later.
@@ -39,50 +42,49 @@ impl TcpLine {
         }
         TcpLine {
             stream,
-            faults: 0,
-            ended: false,
+            tally: Tally::new(),
         }
     }
 }
 
 impl Link for TcpLine {
-    ghost told = { λ l. record { left = None; written = None; faults = l.faults; ended = l.ended } };
+    ghost told = { λ l. told_of_tally l.tally };
 
-    fn read(&mut self, into: &mut [u8]) -> Got {
-        let answer = match &mut self.stream {
-            Some(stream) => stream.read(into).ok(),
-            None => None,
+    fn read(&mut self, into: &mut [u8]) -> Got
+        requires { 0 < length into.old }
+        ensures given { LinkReads into.new (told_of_tally self.old.tally) (told_of_tally self.new.tally) result }
+        ensures later { self.old.tally.faults ≤ self.new.tally.faults }
+        ensures noted { self.new.tally ≡ after_read self.old.tally result }
+        ensures unopened { self.old.stream ≡ None → result ≡ Got.Failed }
+    {
+        let got = match &mut self.stream {
+            Some(stream) => read_from(stream, into),
+            None => Got::Failed,
         };
-        match answer {
-            Some(0) => {
-                self.ended = true;
-                Got::End
-            }
-            Some(n) => Got::Bytes(n),
-            None => {
-                self.faults = self.faults.saturating_add(1);
-                Got::Failed
-            }
-        }
+        self.tally.note_read(got);
+        got
     }
 
-    fn write(&mut self, piece: &[u8]) -> Put {
-        let answer = match &mut self.stream {
-            Some(stream) => stream.write(piece).ok(),
-            None => None,
+    fn write(&mut self, piece: &[u8]) -> Put
+        requires { 0 < length piece.now }
+        ensures given { LinkWrites piece.now (told_of_tally self.old.tally) (told_of_tally self.new.tally) result }
+        ensures later { self.old.tally.faults ≤ self.new.tally.faults }
+        ensures noted { self.new.tally ≡ after_write self.old.tally result }
+        ensures unopened { self.old.stream ≡ None → result ≡ Put.Failed }
+        ensures works { result ≢ Put.NoMemory }
+    {
+        let put = match &mut self.stream {
+            Some(stream) => write_to(stream, piece),
+            None => Put::Failed,
         };
-        match answer {
-            // A write that takes nothing is a fault.
-            None | Some(0) => {
-                self.faults = self.faults.saturating_add(1);
-                Put::Failed
-            }
-            Some(n) => Put::Took(n),
-        }
+        self.tally.note_write(put);
+        put
     }
 }
 
-/// A TCP port that takes connections; none where it couldn't be opened, and then every accept fails.
+/// A TCP port that takes connections; none where it couldn't be opened, and then every accept fails. A connection that is closed
+/// before it is taken is no line, and the next one is waited for, at most [`TRIES`] times. Connections that are never taken stay open
+/// at their other end.
 #[derive(Drop)]
 pub struct TcpDoors {
     listener: Option<TcpListener>,
@@ -102,6 +104,21 @@ impl TcpDoors {
             faults: 0,
         }
     }
+}
+
+/// The next connection, but for those that were closed before they were taken.
+fn next_stream(listener: &TcpListener) -> Option<TcpStream> {
+    for _ in 0..TRIES {
+        match listener.accept() {
+            Ok((stream, _)) => return Some(stream),
+            Err(fault) => {
+                if fault.kind() != ErrorKind::ConnectionAborted {
+                    return None;
+                }
+            }
+        }
+    }
+    None
 }
 
 #[cfg(test)]
@@ -126,12 +143,12 @@ impl Doors for TcpDoors {
     ghost faults = { λ d. d.faults };
 
     fn accept(&mut self) -> Came<TcpLine> {
-        let answer = match &self.listener {
-            Some(listener) => listener.accept().ok(),
+        let taken = match &self.listener {
+            Some(listener) => next_stream(listener),
             None => None,
         };
-        match answer {
-            Some((stream, _)) => Came::Line(TcpLine::over(Some(stream))),
+        match taken {
+            Some(stream) => Came::Line(TcpLine::over(Some(stream))),
             None => {
                 self.faults = self.faults.saturating_add(1);
                 Came::Failed

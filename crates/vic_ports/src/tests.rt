@@ -1,10 +1,112 @@
-//! The links and doors over TCP, over the loopback address.
+//! The forms over the system: a source and a sink over a stream that answers as it is told, and links and doors over the loopback
+//! address.
 
+ghost use Rattle.std.specs.Prelude.{◌≤◌, IfOk};
+
+use crate::answers::TRIES;
 use crate::doors::{Came, Doors};
 use crate::link::Link;
-use crate::ports::{Got, Put};
+use crate::ports::{Got, Put, Sink, Source};
+use crate::system::{ReadSource, WriteSink};
 use crate::tcp::{TcpDoors, TcpLine};
+use std::io;
+use std::io::{ErrorKind, Read, Write};
 use std::test::*;
+
+/// What a stream answers once no signal cuts its calls short any more.
+#[derive(Clone, Copy)]
+enum Then {
+    /// Two bytes, or as many as there is room for.
+    Two,
+    Nothing,
+    Fails,
+}
+
+/// A stream whose first calls, so many, are cut short by signals.
+#[derive(Drop)]
+struct Stream {
+    cut: u32,
+    then: Then,
+}
+
+impl Stream {
+    fn answer(&mut self, most: usize) -> io::Result<usize>
+        ensures { IfOk result (λ n. n ≤ most) }
+    {
+        if self.cut > 0 {
+            self.cut -= 1;
+            return Err(ErrorKind::Interrupted.into());
+        }
+        match self.then {
+            Then::Two => Ok(most.min(2)),
+            Then::Nothing => Ok(0),
+            Then::Fails => Err(ErrorKind::BrokenPipe.into()),
+        }
+    }
+}
+
+impl Read for Stream {
+    fn read(&mut self, buf: &mut [u8]) -> io::Result<usize> {
+        self.answer(buf.len())
+    }
+}
+
+impl Write for Stream {
+    fn write(&mut self, buf: &[u8]) -> io::Result<usize> {
+        self.answer(buf.len())
+    }
+
+    fn flush(&mut self) -> io::Result<()> {
+        Ok(())
+    }
+}
+
+/// How often a call is cut short, what comes then, and what the call is told as.
+type Row<T> = (u32, Then, T);
+
+const READS: [Row<Got>; 6] = [
+    (0, Then::Two, Got::Bytes(2)),
+    (0, Then::Nothing, Got::End),
+    (0, Then::Fails, Got::Failed),
+    (TRIES - 1, Then::Two, Got::Bytes(2)),
+    (TRIES - 1, Then::Nothing, Got::End),
+    (TRIES, Then::Two, Got::Failed),
+];
+
+const WRITES: [Row<Put>; 6] = [
+    (0, Then::Two, Put::Took(2)),
+    (0, Then::Nothing, Put::Failed),
+    (0, Then::Fails, Put::Failed),
+    (TRIES - 1, Then::Two, Put::Took(2)),
+    (TRIES - 1, Then::Fails, Put::Failed),
+    (TRIES, Then::Two, Put::Failed),
+];
+
+#[test]
+fn reads_as_answered(rt: HostRuntime) -> Result<(), Fail> {
+    let mut into = [0u8; 8];
+    for (cut, then, want) in READS {
+        let mut source = ReadSource::new(Stream { cut, then });
+        assert_eq!(rt; source.read(&mut into), want, "{cut}");
+        assert_eq!(rt;
+            source.tally.faults,
+            u64::from(want == Got::Failed),
+            "{cut}"
+        );
+        assert_eq!(rt; source.tally.ended, want == Got::End, "{cut}");
+    }
+    Ok(())
+}
+
+#[test]
+fn writes_as_answered(rt: HostRuntime) -> Result<(), Fail> {
+    for (cut, then, want) in WRITES {
+        let mut sink = WriteSink::new(Stream { cut, then });
+        assert_eq!(rt; sink.write(b"abc"), want, "{cut}");
+        assert_eq!(rt; sink.tally.faults, u64::from(want == Put::Failed), "{cut}");
+    }
+    Ok(())
+}
 
 #[test]
 fn loops_back(rt: HostRuntime) -> Result<(), Fail> {

@@ -4,27 +4,11 @@
 //! for the words, the program ends as the command does for want of memory.
 #![tactic(auto)]
 
-use std::alloc::Global;
 use std::process::ExitCode;
-use std::{env, io};
-use vic_cli::{finish, run_client, run_group};
+use vic_cli::{code_of, finish, run_client, run_group, words_of};
 use vic_dict::NoMemory;
 use vic_ports::{Sink, Source, StdSink, StdSource, TcpLine};
 use vic_text::Status;
-
-/// The words behind the program's name; none where they aren't all text.
-fn words_of(alloc: Global, rt: &HostRuntime) -> Result<Vec<String>, NoMemory> {
-    match env::args(rt) {
-        Ok(words) => Ok(words.skip(1).collect(alloc)?),
-        Err(fault) => {
-            if fault.kind() == io::ErrorKind::OutOfMemory {
-                Err(NoMemory)
-            } else {
-                Ok(Vec::new(alloc))
-            }
-        }
-    }
-}
 
 /// The word at a place; the empty text where there is none.
 fn word_at(words: &[String], place: usize) -> &str {
@@ -38,25 +22,23 @@ fn word_at(words: &[String], place: usize) -> &str {
 /// word behind the command's own, before the words are looked at: what fails there shows at its first call.
 fn run<S: Source, K: Sink>(
     rt: &HostRuntime,
-    alloc: Global,
     words: &[String],
     source: &mut S,
     sink: &mut K,
 ) -> Status {
     if word_at(words, 0) == "client" {
         let mut link = TcpLine::open(rt, word_at(words, 1));
-        return run_client(alloc, words, source, &mut link, sink);
+        return run_client(rt.alloc(), words, source, &mut link, sink);
     }
-    run_group(alloc, words, source, sink)
+    run_group(rt.alloc(), words, source, sink)
 }
 
 fn main(rt: HostRuntime) -> ExitCode {
-    let alloc = rt.alloc();
     let mut source = StdSource::new(rt.stdin());
     let mut sink = StdSink::new(rt.stdout());
-    let status = match words_of(alloc, &rt) {
-        Ok(words) => run(&rt, alloc, words.as_slice(), &mut source, &mut sink),
+    let status = match words_of(&rt) {
+        Ok(words) => run(&rt, words.as_slice(), &mut source, &mut sink),
         Err(NoMemory) => finish(&mut sink, Status::NoMemory, Status::NoMemory.line()),
     };
-    ExitCode::from(status.number())
+    code_of(status)
 }
