@@ -5,3 +5,5 @@ pub mod GroupOutput
 pub mod Telling
 pub mod ClientWords
 pub mod ClientEnds
+pub mod Arguments
+pub mod Serving

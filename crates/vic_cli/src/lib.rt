@@ -2,14 +2,17 @@
 //!
 //! Each composes what it prints in memory, and writes it at the end by [`finish`]. The contract of [`run_group`] carries `Ends`,
 //! `IsAsClaimed` and `IsComplete` of `specs/GroupEnds.antt`; that of [`run_client`] carries `ClientEnds` and
-//! `IsClientComplete` of `specs/ClientEnds.antt`. A program ends with [`code_of`] its command's status.
+//! `IsClientComplete` of `specs/ClientEnds.antt`; that of [`run_serve`] carries `Ends` and `IsComplete` of `specs/Serving.antt`. A
+//! program ends with [`code_of`] its command's status.
 #![tactic(auto)]
 
+mod arguments;
 pub mod client;
 pub mod client_words;
 mod exit;
 pub mod group;
 mod output;
+pub mod serve;
 pub mod session;
 mod words;
 
@@ -17,10 +20,13 @@ pub use client::run_client;
 pub use exit::code_of;
 pub use group::{run_group, run_in_memory};
 pub use output::{Composed, Text, finish};
+pub use serve::run_serve;
 pub use vic_text::Status;
 pub use words::words_of;
 
 #[cfg(test)]
 mod client_tests;
+#[cfg(test)]
+mod serve_tests;
 #[cfg(test)]
 mod tests;

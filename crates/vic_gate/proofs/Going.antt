@@ -76,7 +76,7 @@ module _ {A G P : Type 0} (manner : Manner A G) (answers : P → ℕ → List �
     all_read = behind_more i.read piece old.left now.left new.left i.took took
 
     -- the worker ended, with no whole frame left
-    ended_so : (end : WorkEnd) → LastStep manner answers end g q q → frames_of (i.read ++ piece) ≡ (map (λ x. x.payload) i.handled, left ++ piece) → EndsBy manner end old new i.handled [] (left ++ piece) → IsWorked manner answers old p end new q
+    ended_so : (end : WorkEnd) → LastStep manner answers end [] g q q → frames_of (i.read ++ piece) ≡ (map (λ x. x.payload) i.handled, left ++ piece) → EndsBy manner end old new i.handled [] (left ++ piece) → IsWorked manner answers old p end new q
     ended_so end stops split so = record {
       read = i.read ++ piece;
       took = all_read;
@@ -91,7 +91,7 @@ module _ {A G P : Type 0} (manner : Manner A G) (answers : P → ℕ → List �
     }
 
     -- or with whatever is left
-    stopped_so : (end : WorkEnd) → LastStep manner answers end g q q → EndsBy manner end old new i.handled (frames_of (left ++ piece)).0 (frames_of (left ++ piece)).1 → IsWorked manner answers old p end new q
+    stopped_so : (end : WorkEnd) → LastStep manner answers end (frames_of (left ++ piece)).0 g q q → EndsBy manner end old new i.handled (frames_of (left ++ piece)).0 (frames_of (left ++ piece)).1 → IsWorked manner answers old p end new q
     stopped_so end stops so =
         let split = splits_any (i.read ++ piece) (map (λ x. x.payload) i.handled) (left ++ piece) fed in
         record {
@@ -130,7 +130,7 @@ module _ {A G P : Type 0} (manner : Manner A G) (answers : P → ℕ → List �
           (inl (subst (λ (n : ℕ). Rose n new.faults) i.quiet rose, all_is_front (frames manner i.handled) old.written new.written (written_on now new q g left i w.1.1.0)))
       by_fault (inr s) =
           ended_so now new q g left w.0 i w.1.0 w.1.1.0 ends.LinkFault refl (splits_waits one_by_one (i.read ++ w.0) (map (λ x. x.payload) i.handled) (left ++ w.0) (fed now new q g left w.0 i w.1.0 w.1.1.0) s.1.0)
-          (inr (refl, (s.0, (s.1.1.0, (s.1.1.1 ∙ i.quiet, written_on now new q g left i w.1.1.0)))))
+          (inr (refl, (s.0, (s.1.0, (s.1.1.0, (s.1.1.1 ∙ i.quiet, written_on now new q g left i w.1.1.0))))))
   worked_none now new q g left after ends.NoMemory i w =
       stopped_so now new q g left w.0 i w.1.0 w.1.1.0 ends.NoMemory (inl refl) (w.1.1.1 ∙ i.quiet, all_is_front (frames manner i.handled) old.written new.written (written_on now new q g left i w.1.1.0))
 
@@ -149,7 +149,7 @@ module _ {A G P : Type 0} (manner : Manner A G) (answers : P → ℕ → List �
       front a f = subst (λ (t : List ℕ). AppendedFront t old.written new.written) (sym (frames_more manner i.handled (record { who = manner.asks g; payload = payload; answer = a })))
           (all_front (frames manner i.handled) (frame_text (manner.text a)) old.written mid.written new.written (written_on now mid q g left i w.1.1.0) f)
 
-      answered : (end : WorkEnd) (a : A) → answers q (manner.asks g) payload (Some a) r → LastStep manner answers end (manner.after g payload a) r r → new.left ≡ mid.left
+      answered : (end : WorkEnd) (a : A) → answers q (manner.asks g) payload (Some a) r → LastStep manner answers end (frames_of after).0 (manner.after g payload a) r r → new.left ≡ mid.left
           → EndsBy manner end old new (i.handled ++ record { who = manner.asks g; payload = payload; answer = a } ∷ []) (frames_of after).0 (frames_of after).1 → IsWorked manner answers old p end new r
       answered end a s stops same so = record {
         read = i.read ++ w.0;
@@ -174,7 +174,7 @@ module _ {A G P : Type 0} (manner : Manner A G) (answers : P → ℕ → List �
         known = g;
         last = q;
         chain = i.chain;
-        stops = inr (payload, s);
+        stops = inr (payload, ((frames_of after).0, (refl, s)));
         ends_so = (ap (λ (t : Told). t.faults) same ∙ w.1.1.1.0 ∙ i.quiet, all_is_front (frames manner i.handled) old.written new.written (written_on now new q g left i (ap (λ (t : Told). t.written) same ∙ w.1.1.0)));
       }
 

@@ -9,7 +9,7 @@ use Rattle.vic_wire.specs.declared.message.ToClient.TheVariants as say
 use Rattle.vic_wire.specs.Messages.{answer_text}
 use Rattle.vic_wire.specs.Reading.{read_request}
 use Rattle.vic_conn.specs.Frames.{Waits, Whole, Broken, front_of, frame_text, frames_of}
-use Rattle.vic_ports.specs.Causes.{Rose, LeavesBehind}
+use Rattle.vic_ports.specs.Causes.{Rose, LeavesBehind, IsSpent}
 use Rattle.vic_ports.specs.Written.{AppendedAll, AppendedFront}
 use Rattle.vic_ports.specs.Links.{Told}
 use Rattle.vic_gate.specs.declared.worker.WorkEnd.{WorkEnd}
@@ -57,12 +57,17 @@ Chain manner answers known p [] after q = (p ≡ q) × (known ≡ after)
 Chain {P = P} manner answers known p (x ∷ xs) after q =
     (m : P) × ((x.who ≡ manner.asks known) × (answers p x.who x.payload (Some x.answer) m × Chain manner answers (manner.after known x.payload x.answer) m xs after q))
 
--- the last step of a worker: none, or one that found no memory for a request
-abbrev pub LastStep : {A G P : Type 0} → Manner A G → (P → ℕ → List ℕ → Option A → P → Type 0) → WorkEnd → G → P → P → Type 0
-LastStep manner answers ends.NoMemory known p q = (p ≡ q) ⊎ ((payload : List ℕ) × answers p (manner.asks known) payload None q)
-LastStep manner answers end known p q = p ≡ q
+-- the last step of a worker, by the whole frames that it read besides: none, or one that found no memory for the first of them
+abbrev pub LastStep : {A G P : Type 0} → Manner A G → (P → ℕ → List ℕ → Option A → P → Type 0) → WorkEnd → List (List ℕ) → G → P → P → Type 0
+LastStep manner answers ends.NoMemory more known p q =
+    (p ≡ q) ⊎ ((payload : List ℕ) × ((others : List (List ℕ)) × ((more ≡ payload ∷ others) × answers p (manner.asks known) payload None q)))
+LastStep manner answers end more known p q = p ≡ q
 
 -- ---- the link
+
+-- a read has answered that nothing is left, and nothing is, where the link tells it
+abbrev pub IsOver : Told → Type 0
+IsOver t = (t.ended ≡ true) × IsSpent t.left
 
 -- the frames of answers
 abbrev pub frames : {A G : Type 0} → Manner A G → List (Handled A) → List ℕ
@@ -71,12 +76,12 @@ frames manner handled = flat_map (λ x. frame_text (manner.text x.answer)) handl
 -- how the worker ended, by what its link tells before and after, what it handled, the whole frames that it read besides, and the
 -- bytes behind them
 abbrev pub EndsBy : {A G : Type 0} → Manner A G → WorkEnd → Told → Told → List (Handled A) → List (List ℕ) → List ℕ → Type 0
-EndsBy manner ends.Ended old new handled more rest = (more ≡ []) × ((rest ≡ []) × ((new.ended ≡ true) × ((new.faults ≡ old.faults) × AppendedAll (frames manner handled) old.written new.written)))
+EndsBy manner ends.Ended old new handled more rest = (more ≡ []) × ((rest ≡ []) × (IsOver new × ((new.faults ≡ old.faults) × AppendedAll (frames manner handled) old.written new.written)))
 EndsBy manner ends.BadFrame old new handled more rest =
     (more ≡ []) × ((n : ℕ) × ((front_of rest ≡ Broken n) × ((new.faults ≡ old.faults) × AppendedAll (frames manner handled) old.written new.written)))
 EndsBy manner ends.LinkFault old new handled more rest =
     (Rose old.faults new.faults × AppendedFront (frames manner handled) old.written new.written)
-    ⊎ ((more ≡ []) × ((rest ≢ []) × ((new.ended ≡ true) × ((new.faults ≡ old.faults) × AppendedAll (frames manner handled) old.written new.written))))
+    ⊎ ((more ≡ []) × ((rest ≢ []) × ((front_of rest ≡ Waits) × (IsOver new × ((new.faults ≡ old.faults) × AppendedAll (frames manner handled) old.written new.written)))))
 EndsBy manner ends.NoMemory old new handled more rest = (new.faults ≡ old.faults) × AppendedFront (frames manner handled) old.written new.written
 
 -- what a worker did: it read bytes, handled their frames in order, and sent the answers. `read` is known where the link tells it
@@ -89,16 +94,16 @@ pub record IsWorked {A G P : Type 0} (manner : Manner A G) (answers : P → ℕ 
   pub known : G
   pub last : P
   pub chain : Chain manner answers manner.first p handled known last
-  pub stops : LastStep manner answers end known last q
+  pub stops : LastStep manner answers end more known last q
   pub ends_so : EndsBy manner end old new handled more (frames_of read).1
 
 -- ---- the parts of a worker
 
 -- why no frame came, of what the link tells before and after and of the bytes that are left
 abbrev pub StopsBy : WorkEnd → Told → Told → List ℕ → Type 0
-StopsBy ends.Ended old new left = (left ≡ []) × ((new.ended ≡ true) × (new.faults ≡ old.faults))
+StopsBy ends.Ended old new left = (left ≡ []) × (IsOver new × (new.faults ≡ old.faults))
 StopsBy ends.BadFrame old new left = ((n : ℕ) × (front_of left ≡ Broken n)) × (new.faults ≡ old.faults)
-StopsBy ends.LinkFault old new left = Rose old.faults new.faults ⊎ ((left ≢ []) × ((front_of left ≡ Waits) × ((new.ended ≡ true) × (new.faults ≡ old.faults))))
+StopsBy ends.LinkFault old new left = Rose old.faults new.faults ⊎ ((left ≢ []) × ((front_of left ≡ Waits) × (IsOver new × (new.faults ≡ old.faults))))
 StopsBy ends.NoMemory old new left = new.faults ≡ old.faults
 
 -- bytes were read and nothing was written; then the next frame was taken, or none came

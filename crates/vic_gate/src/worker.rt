@@ -2,6 +2,7 @@
 
 ghost use Rattle.std.specs.Prelude.{◌≡◌, ◌<◌, ◌≤◌, length, IfOk, nat_eq, if◌then◌else◌};
 ghost use Rattle.vic_wire.specs.Messages.{HasSpelling, answer_text};
+ghost use Rattle.vic_conn.specs.Frames.{frame_text};
 ghost use Rattle.vic_gate.specs.Workers.{IsWorked, Waited, Handles, SendsAnswer, greeted_after, by_hello};
 
 use crate::desk::Desk;
@@ -88,19 +89,28 @@ fn greet(
     }
 }
 
-// Sends an answer, as its frame.
-#[tactic(auto, using(crate::proofs::Told::none_sent, vic_bounds::proofs::Lengths::answer_some))]
-fn send_answer<L: Link>(alloc: Global, link: &mut L, answer: &ToClient) -> Result<(), WorkEnd>
+// The frame of an answer.
+#[tactic(auto, using(vic_bounds::proofs::Lengths::answer_some))]
+fn framed(alloc: Global, answer: &ToClient) -> Result<Bytes, NoMemory>
     requires spelled { HasSpelling answer.now }
     requires short { length (answer_text answer.now) ≤ 16777211 }
-    ensures { SendsAnswer answer.now (L.told link.old) result (L.told link.new) }
+    ensures { IfOk result (λ text. text ≡ frame_text (answer_text answer.now)) }
 {
-    let Ok(bytes) = encode_answer(alloc, answer) else {
+    let bytes = encode_answer(alloc, answer)?;
+    frame(alloc, bytes.as_slice())
+}
+
+// Sends an answer, as its frame; the answer itself is let go before.
+#[tactic(auto, using(crate::proofs::Told::none_sent))]
+fn send_answer<L: Link>(alloc: Global, link: &mut L, answer: ToClient) -> Result<(), WorkEnd>
+    requires spelled { HasSpelling answer }
+    requires short { length (answer_text answer) ≤ 16777211 }
+    ensures { SendsAnswer answer (L.told link.old) result (L.told link.new) }
+{
+    let Ok(text) = framed(alloc, &answer) else {
         return Err(WorkEnd::NoMemory);
     };
-    let Ok(text) = frame(alloc, bytes.as_slice()) else {
-        return Err(WorkEnd::NoMemory);
-    };
+    drop(answer);
     match send(link, text.as_slice()) {
         Written::All => Ok(()),
         Written::Fault => Err(WorkEnd::LinkFault),
@@ -134,14 +144,17 @@ fn handle<L: Link, D: Desk, G: Gate, R: Wait>(
     let Ok(next) = greet(alloc, greeted, payload, &answer) else {
         return Err(WorkEnd::NoMemory);
     };
-    match send_answer(alloc, link, &answer) {
+    match send_answer(alloc, link, answer) {
         Ok(()) => Ok(next),
         Err(end) => Err(end),
     }
 }
 
 /// Answers the frames of a link by a desk, one after the other, until the link ends. Whatever the end is, what was read,
-/// served and sent stays. It keeps what is not yet a whole frame, a buffer, and one answer.
+/// served and sent stays.
+///
+/// It keeps what is not yet a whole frame or the frame in hand, a buffer of 4,096 bytes, and the frame of an answer while that is
+/// sent; while an answer is formed, its parts stand beside. A frame is sent by one write, where the link takes it whole.
 pub fn work<L: Link, D: Desk, G: Gate, R: Wait>(
     rt: &R,
     alloc: Global,

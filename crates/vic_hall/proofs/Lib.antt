@@ -1,4 +1,4 @@
 mod Crossing
-pub mod Lones
 pub mod Places
 pub mod Recorded
+pub mod Visits

@@ -1,4 +1,5 @@
-pub mod Lones
+pub mod Hosting
+pub mod Jobs
 pub mod Recording
 pub mod Runs
 pub mod Steps

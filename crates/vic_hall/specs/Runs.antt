@@ -1,15 +1,14 @@
 -- What connections asked of one server: each answer stands at a front of the one history that the server keeps at the end.
 use Rattle.std.specs.Prelude.{◌≡◌, ℕ, ◌+◌, ◌<◌, ◌≤◌, List, [], ◌∷◌, ◌++◌, length, take, drop, Option, Some, None, slice_get, true, false}
-use Rattle.std.specs.List.{AllByRecursion}
-use Rattle.vic_dict.specs.declared.op.Mode.{Mode}
 use Rattle.vic_wire.specs.declared.message.ToClient.{ToClient}
 use Rattle.vic_change.specs.declared.Change.{Change}
 use Rattle.vic_change.specs.Changes.{of_seat}
 use Rattle.vic_order.specs.Order.{Server, Answered, serve}
+use Rattle.vic_turn.specs.Changes.{Each}
 use Rattle.vic_ports.specs.Links.{Told, Lines}
 use Rattle.vic_gate.specs.declared.worker.WorkEnd.{WorkEnd}
 use Rattle.vic_gate.specs.Workers.{IsWorked, by_hello}
-use Rattle.vic_server.specs.Replay.{Kept, replay, made, opening}
+use Rattle.vic_server.specs.Replay.{Kept, replay, made}
 
 -- how far a connection has come: the place in the history up to which it has seen it, and the changes that its requests made
 pub record Place : Type 0 where
@@ -47,12 +46,13 @@ pub record Attends (k : Kept) (seat : ℕ) (old : Told) (end : WorkEnd) (new : T
   pub worked : IsWorked by_hello (answers_at k seat) old start end new last
   pub own : of_seat seat k.changes ≡ last.mine
 
--- so many lines came and were given back in order, one worker for each; and the server keeps one history
-pub record IsRun (count : ℕ) (kind : Mode) (clients : ℕ) (lines : Lines) (ends : List WorkEnd) (k : Kept) : Type 0 where
-  pub opening_is : k.opening ≡ opening kind clients false
+-- so many lines came to a server and were given back in order, one worker for each; and the server keeps one history
+pub record IsRun (count : ℕ) (opening : Server) (lines : Lines) (ends : List WorkEnd) (k : Kept) : Type 0 where
+  pub opening_is : k.opening ≡ opening
   pub server_is : k.server ≡ replay k.opening k.changes
   pub came : length lines.came ≡ count
   pub back : length lines.back ≡ count
   pub workers : length ends ≡ count
-  pub each : (i : ℕ) (old new : Told) (end : WorkEnd) → slice_get lines.came i ≡ Some old → slice_get lines.back i ≡ Some new → slice_get ends i ≡ Some end → Attends k (i + 1) old end new
-  pub nothing_else : AllByRecursion (λ c. (0 < c.seat) × (c.seat ≤ count)) k.changes
+  pub each : (i : ℕ) (old new : Told) (end : WorkEnd) → slice_get lines.came i ≡ Some old
+      → slice_get lines.back i ≡ Some new → slice_get ends i ≡ Some end → Attends k (i + 1) old end new
+  pub nothing_else : Each (λ c. (0 < c.seat) × (c.seat ≤ count)) k.changes

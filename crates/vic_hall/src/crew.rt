@@ -2,8 +2,7 @@
 
 ghost use Rattle.std.specs.Prelude.{◌≡◌, ℕ, ◌<◌, All, length, slice_index_or};
 ghost use Rattle.vic_turn.specs.Passes.{IsPassOf};
-ghost use Rattle.vic_gate.specs.Workers.{IsWorked, by_hello};
-ghost use Rattle.vic_hall.specs.Steps.{HallStep};
+ghost use Rattle.vic_hall.specs.Jobs.{Worked};
 
 use crate::hall::Hall;
 use crate::recorder::Recorder;
@@ -18,16 +17,15 @@ use vic_turn::pass::Pass;
 /// The most threads that work at once.
 const MOST_THREADS: usize = 64;
 
-/// A connection at work: its pass, its link, its number, and how its worker ended.
+/// A connection at work: its pass, its link, and how its worker ended, once it did.
 #[derive(Drop)]
 pub struct Job<L> {
     pub pass: Pass<Recorder>,
     pub link: L,
-    pub number: u32,
     pub end: WorkEnd,
 }
 
-// The worker of one connection.
+// The worker of one connection; the gate is told the number of its pass.
 fn work_one<L: Link, G: Gate, R: Wait>(
     rt: &R,
     alloc: Global,
@@ -35,11 +33,11 @@ fn work_one<L: Link, G: Gate, R: Wait>(
     gate: &G,
     job: &mut Job<L>,
 )
-    requires { IsPassOf hall.now.lock job.old.pass }
-    ensures own { IsPassOf hall.now.lock job.new.pass }
-    ensures worked { IsWorked by_hello (HallStep hall.now.lock.fixed) (L.told job.old.link) job.old.pass job.new.end (L.told job.new.link) job.new.pass }
-    ensures number { job.new.number ≡ job.old.number }
+    requires { IsPassOf hall.now job.old.pass }
+    ensures own { IsPassOf hall.now job.new.pass }
+    ensures worked { Worked hall.now.fixed L.told job.old job.new }
 {
+    let connection = job.pass.number();
     job.end = work(
         rt,
         alloc,
@@ -47,31 +45,49 @@ fn work_one<L: Link, G: Gate, R: Wait>(
         hall,
         &mut job.pass,
         gate,
-        job.number,
+        connection,
     );
 }
 
-/// One worker for each job, in threads of their own; where no thread can be made, one after the other.
-pub fn work_all<L: Link + Send, G: Gate + Sync, R: Threads + Wait + Sync>(
+// One worker for each job, in threads of their own; where no thread can be made, one after the other.
+fn work_each<L: Link + Send, G: Gate + Sync, R: Threads + Wait + Sync>(
     rt: &R,
     alloc: Global,
     hall: &Hall,
     gate: &G,
     jobs: &mut [Job<L>],
 )
-    requires { All (λ j. IsPassOf hall.now.lock j.pass) jobs.old }
-    ensures own { All (λ j. IsPassOf hall.now.lock j.pass) jobs.new }
+    requires { All (λ j. IsPassOf hall.now j.pass) jobs.old }
+    ensures own { All (λ j. IsPassOf hall.now j.pass) jobs.new }
     ensures len { length jobs.new ≡ length jobs.old }
-    ensures each { (k : ℕ) (d : _) → k < length jobs.new → IsWorked by_hello (HallStep hall.now.lock.fixed) (L.told (slice_index_or jobs.old k d).link) (slice_index_or jobs.old k d).pass (slice_index_or jobs.new k d).end (L.told (slice_index_or jobs.new k d).link) (slice_index_or jobs.new k d).pass }
+    ensures each { (k : ℕ) (d : _) → k < length jobs.new → Worked hall.now.fixed L.told (slice_index_or jobs.old k d) (slice_index_or jobs.new k d) }
 {
     thread::for_each_mut(
         rt,
         jobs,
         MOST_THREADS,
         &|_, job: &mut Job<L>|
-            requires { IsPassOf hall.now.lock job.old.pass }
-            ensures own { IsPassOf hall.entry.now.lock job.new.pass }
-            ensures worked { IsWorked by_hello (HallStep hall.entry.now.lock.fixed) (L.told job.old.link) job.old.pass job.new.end (L.told job.new.link) job.new.pass }
+            requires { IsPassOf hall.now job.old.pass }
+            ensures own { IsPassOf hall.entry.now job.new.pass }
+            ensures worked { Worked hall.entry.now.fixed L.told job.old job.new }
         { work_one(rt, alloc, hall, gate, job) },
     );
+}
+
+/// One worker for each job, in threads of their own, and the jobs once all workers have ended; where no thread can be made, the
+/// workers run one after the other.
+pub(crate) fn work_all<L: Link + Send, G: Gate + Sync, R: Threads + Wait + Sync>(
+    rt: &R,
+    alloc: Global,
+    hall: &Hall,
+    gate: &G,
+    mut jobs: Vec<Job<L>>,
+) -> Vec<Job<L>>
+    requires { All (λ j. IsPassOf hall.now j.pass) jobs.items }
+    ensures own { All (λ j. IsPassOf hall.now j.pass) result.items }
+    ensures len { length result.items ≡ length jobs.items }
+    ensures each { (k : ℕ) (d : _) → k < length result.items → Worked hall.now.fixed L.told (slice_index_or jobs.items k d) (slice_index_or result.items k d) }
+{
+    work_each(rt, alloc, hall, gate, jobs.as_mut_slice());
+    jobs
 }

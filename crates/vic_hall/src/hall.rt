@@ -1,34 +1,52 @@
-//! The hall: a turn lock as a desk.
+//! The hall: a server behind a turn lock, as a desk.
+
 ghost use Rattle.std.specs.Prelude.{◌≡◌, ◌<◌, ◌≤◌, [], IfOk, All, map, length};
-ghost use mathlib.Core.List.{IsPrefix};
 ghost use Rattle.std.specs.List.{range_with_len};
+ghost use mathlib.Core.List.{IsPrefix};
 ghost use Rattle.vic_change.specs.Changes.{of_seat};
+ghost use Rattle.vic_server.specs.Replay.{replay};
 ghost use Rattle.vic_turn.specs.Changes.{Each};
 ghost use Rattle.vic_turn.specs.Passes.{IsPassOf, IsFresh};
 ghost use Rattle.vic_hall.specs.Steps.{HallStep};
 
 use crate::recorder::Recorder;
 use std::alloc::Global;
+use std::marker::Model;
 use std::sync::Wait;
 use vic_dict::NoMemory;
 use vic_gate::Desk;
+use vic_server::Served;
 use vic_turn::lock::TurnLock;
 use vic_turn::pass::Pass;
 use vic_turn::passes::Passes;
-use vic_turn::recorded::Recorded;
 use vic_wire::ToClient;
 
+/// A server that several connections ask, one request at a time. Contracts see which lock it is, the server before all changes and
+/// the number of connections.
 #[derive(Drop)]
 pub struct Hall {
-    pub(crate) lock: TurnLock<Recorder>,
+    lock: TurnLock<Recorder>,
+}
+
+impl Model for Hall {
+    ghost use Rattle.std.specs.Coded.{codes};
+    ghost use Rattle.vic_server.specs.Keeping.{dictionary_code};
+    ghost use Rattle.vic_server.specs.Replay.{Kept};
+    ghost use Rattle.vic_turn.specs.Passes.{LockView, lock_code};
+
+    ghost Value = { LockView Kept };
+
+    ghost coded = { lock_code (Prim.hlevel (codes, dictionary_code)) };
+
+    ghost view = { λ h. h.lock };
 }
 
 impl Desk for Hall {
     type Pass = Pass<Recorder>;
 
-    ghost owns = { λ hall pass. IsPassOf hall.lock pass };
+    ghost owns = { λ hall pass. IsPassOf hall pass };
 
-    ghost answers = { λ hall old who payload answer new. HallStep hall.lock.fixed old who payload answer new };
+    ghost answers = { λ hall old who payload answer new. HallStep hall.fixed old who payload answer new };
 
     fn answer<R: Wait>(
         &self,
@@ -43,28 +61,38 @@ impl Desk for Hall {
 }
 
 impl Hall {
+    /// A hall over a server that nothing has changed yet, and a pass for each connection, with the numbers from 1 on. It takes memory
+    /// for the passes and for the lock, and none later on but what the server's own steps take.
     pub fn new(
         alloc: Global,
-        value: Recorder,
+        served: Served,
         connections: u32,
     ) -> Result<(Hall, Passes<Recorder>), NoMemory>
-        requires empty { value.served.changes ≡ [] }
+        requires empty { served.changes ≡ [] }
         requires connections { (0 < connections) × (connections ≤ 64) }
-        ensures lock { IfOk result (λ r. r.0.lock.count ≡ connections) }
+        ensures opening { IfOk result (λ r. r.0.fixed.opening ≡ served.opening) }
+        ensures count { IfOk result (λ r. r.0.count ≡ connections) }
         ensures numbers { IfOk result (λ r. map (λ p. p.number) r.1 ≡ range_with_len 1 connections) }
-        ensures passes { IfOk result (λ r. All (IsFresh r.0.lock) r.1) }
+        ensures passes { IfOk result (λ r. All (IsFresh r.0) r.1) }
     {
-        let (lock, passes) = TurnLock::new(alloc, value, connections)?;
+        let (lock, passes) = TurnLock::new(alloc, Recorder { served }, connections)?;
         Ok((Hall { lock }, passes))
     }
 
-    pub fn close(self, passes: Passes<Recorder>) -> Recorder
-        requires count { length passes ≡ self.lock.count }
-        requires own { All (λ p. p.lock ≡ self.lock.id) passes }
-        ensures passes { All (λ p. (of_seat p.number result.served.changes ≡ p.mine) × IsPrefix p.seen result.served.changes) passes }
-        ensures seats { Each (λ c. (0 < c.seat) × (c.seat ≤ self.lock.count)) result.served.changes }
+    /// The server, once all passes have come back: it keeps one history, which begins with all that each pass has seen, and in which
+    /// the changes with a pass's number are those that its own requests made.
+    pub fn close(self, passes: Passes<Recorder>) -> Served
+        requires count { length passes ≡ self.count }
+        requires own { All (λ p. p.lock ≡ self.id) passes }
+        ensures opening { result.opening ≡ self.fixed.opening }
+        ensures history { result.server ≡ replay result.opening result.changes }
+        ensures own { All (λ p. of_seat p.number result.changes ≡ p.mine) passes }
+        ensures seen { All (λ p. IsPrefix p.seen result.changes) passes }
+        ensures seats { Each (λ c. (0 < c.seat) × (c.seat ≤ self.count)) result.changes }
     {
         let Hall { lock } = self;
-        lock.close(passes)
+        let Recorder { served } = lock.close(passes);
+        served.keeps_history();
+        served
     }
 }

@@ -24,7 +24,8 @@ const TICKET: usize = 0;
 
 const SERVING: usize = 1;
 
-/// A value that keeps its history, for several passes that take turns. Contracts see which lock it is, the value's fixed part and the number of passes.
+/// A value that keeps its history, for several passes that take turns. Contracts see which lock it is, the value's fixed part and
+/// the number of passes.
 #[derive(Drop)]
 pub struct TurnLock<V: Recorded> {
     table: Table<V, View<V::Fixed>, About<V>, Turns, Global>,
@@ -112,7 +113,8 @@ impl<V: Recorded> TurnLock<V> {
         self.table.shared.wake_all(SERVING);
     }
 
-    /// A step of the value.
+    /// A step of the value, in its turn: it waits until those that came before have handed the value on. The lock itself takes no
+    /// memory for that; `alloc` is for the value's own step. After `NoMemory` no change was made.
     pub fn step_as<R: Wait>(
         &self,
         rt: &R,
@@ -135,7 +137,7 @@ impl<V: Recorded> TurnLock<V> {
         reply
     }
 
-    /// A copy of what the pass has seen.
+    /// A copy of what the pass has seen, to be handed to the holder of another pass. It takes no memory and doesn't wait.
     pub fn note(&self, pass: &mut Pass<V>) -> Note<V>
         requires { IsPassOf self.now pass.old }
         ensures own { IsPassOf self.now pass.new × (pass.new.number ≡ pass.old.number) }
@@ -146,7 +148,7 @@ impl<V: Recorded> TurnLock<V> {
         Note { seat }
     }
 
-    /// Of what the two had seen one begins the other, and the pass has then seen the longer.
+    /// Of what the two had seen one begins the other, and the pass has then seen the longer. It takes no memory and doesn't wait.
     pub fn meet(&self, pass: &mut Pass<V>, note: Note<V>)
         requires pass { IsPassOf self.now pass.old }
         requires note { IsNoteOf self.now note }
@@ -209,7 +211,8 @@ impl<V: Recorded> TurnLock<V> {
         all
     }
 
-    /// The value, once all passes have come back.
+    /// The value, once all passes have come back: in its one history the changes with a pass's number are those that the pass made,
+    /// each once, in order, and what each pass has seen begins it. It takes no memory.
     pub fn close(self, passes: Passes<V>) -> V
         requires count { length passes ≡ self.count }
         requires own { All (λ p. p.lock ≡ self.id) passes }
@@ -227,6 +230,8 @@ impl<V: Recorded> TurnLock<V> {
 }
 
 impl<V: Recorded + Drop> TurnLock<V> {
+    /// A lock over a value whose list of changes is empty, and so many passes, with the numbers from 1 on. It takes memory for the
+    /// passes and for a table of two words and one slot; after `NoMemory` the value is gone.
     pub fn new(alloc: Global, value: V, count: u32) -> Result<(TurnLock<V>, Passes<V>), NoMemory>
         requires empty { V.changes value ≡ [] }
         requires count { (0 < count) × (count ≤ 64) }

@@ -44,6 +44,7 @@ impl<V: Recorded> Model for Note<V> {
 }
 
 impl<V: Recorded> Pass<V> {
+    /// Its number, counted from 1; the changes that it makes have it as their seat.
     pub fn number(&self) -> u32
         ensures { result ≡ self.now.number }
     {

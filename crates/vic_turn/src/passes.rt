@@ -8,7 +8,7 @@ use crate::pass::Pass;
 use crate::recorded::Recorded;
 use std::marker::Model;
 
-/// Contracts see the list.
+/// The passes of a lock, as it made them or in another order. Contracts see the list.
 #[derive(Drop)]
 pub struct Passes<V: Recorded> {
     passes: Vec<Pass<V>>,
@@ -27,12 +27,14 @@ impl<V: Recorded> Model for Passes<V> {
 }
 
 impl<V: Recorded> Passes<V> {
+    /// The passes of a `Vec`; it takes no memory.
     pub fn of(passes: Vec<Pass<V>>) -> Passes<V>
         ensures { result ≡ passes.items }
     {
         Passes { passes }
     }
 
+    /// The passes, each to be handed to whoever steps with it; it takes no memory.
     pub fn into_vec(self) -> Vec<Pass<V>>
         ensures { result.items ≡ self }
     {
@@ -46,6 +48,7 @@ impl<V: Recorded> Passes<V> {
         self.passes.len()
     }
 
+    /// The pass at a place, counted from 0.
     pub fn at(&self, place: usize) -> &Pass<V>
         requires { place < length self.now }
         ensures { result.now ≡ slice_index_or self.now place result.now }

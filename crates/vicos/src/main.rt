@@ -1,13 +1,15 @@
 //! `vicos group` reads a script from standard input, runs it, and writes what it prints to standard output. `vicos client` reads the
-//! script of one client, does it over a connection to a server, and writes what it prints. The exit status is the number of the
-//! `Status` that `run_group` or `run_client` answers, and its contract says what that number stands for. Where there is no memory
-//! for the words, the program ends as the command does for want of memory.
+//! script of one client, does it over a connection to a server, and writes what it prints. `vicos serve` is such a server, of so many
+//! connections; it prints nothing before the last of them has ended. The exit status is the number of the `Status` that `run_group`,
+//! `run_client` or `run_serve` answers, and its contract says what that number stands for. Where there is no memory for the words,
+//! the program ends as the command does for want of memory.
 #![tactic(auto)]
 
 use std::process::ExitCode;
-use vic_cli::{code_of, finish, run_client, run_group, words_of};
+use vic_cli::{code_of, finish, run_client, run_group, run_serve, words_of};
 use vic_dict::NoMemory;
-use vic_ports::{Sink, Source, StdSink, StdSource, TcpLine};
+use vic_gate::OpenGate;
+use vic_ports::{Sink, Source, StdSink, StdSource, TcpDoors, TcpLine};
 use vic_text::Status;
 
 /// The word at a place; the empty text where there is none.
@@ -18,8 +20,8 @@ fn word_at(words: &[String], place: usize) -> &str {
     }
 }
 
-/// Does the command that the first word names; any other first word goes to the command on a script. The link is opened from the
-/// word behind the command's own, before the words are looked at: what fails there shows at its first call.
+/// Does the command that the first word names; any other first word goes to the command on a script. The link or the doors
+/// are opened from the word behind the command's own, before the words are looked at: what fails there shows at their first call.
 fn run<S: Source, K: Sink>(
     rt: &HostRuntime,
     words: &[String],
@@ -29,6 +31,19 @@ fn run<S: Source, K: Sink>(
     if word_at(words, 0) == "client" {
         let mut link = TcpLine::open(rt, word_at(words, 1));
         return run_client(rt.alloc(), words, source, &mut link, sink);
+    }
+    if word_at(words, 0) == "serve" {
+        let mut doors = TcpDoors::open(rt, word_at(words, 1));
+        let mut kept = None;
+        return run_serve(
+            rt,
+            rt.alloc(),
+            words,
+            &mut doors,
+            &OpenGate,
+            sink,
+            &mut kept,
+        );
     }
     run_group(rt.alloc(), words, source, sink)
 }

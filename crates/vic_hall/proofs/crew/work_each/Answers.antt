@@ -2,7 +2,7 @@ use denote.Param.Send.{sendable}
 use Rattle.std.proofs.Crossing.{crosses}
 use Rattle.vic_turn.proofs.pass.Pass.TheSendSync as passes
 use Rattle.vic_hall.proofs.Crossing.{recorder_send, hall_sync}
-use Rattle.vic_hall.proofs.crew.work_all.Goals as goal
+use Rattle.vic_hall.proofs.crew.work_each.Goals as goal
 
 pub for_each_mut-requires-send-T : goal.for_each_mut-requires-send-T
 for_each_mut-requires-send-T g c κs within =

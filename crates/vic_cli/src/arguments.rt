@@ -1,0 +1,37 @@
+//! Single words of a command line.
+
+ghost use Rattle.std.specs.Prelude.{◌≡◌, ◌<◌, ◌≤◌, IfSome};
+ghost use Rattle.vic_cli.specs.Arguments.{is_address as address_test, small_number as small_number_by, mode_of as mode_by};
+
+use vic_dict::Mode;
+use vic_text::word::{is_name, number_of};
+
+/// Whether a word may be an address: it has 1 to 255 bytes. What they mean is the adapter's.
+pub fn is_address(word: &[u8]) -> bool
+    ensures { result ≡ address_test word.now }
+{
+    1 <= word.len() && word.len() <= 255
+}
+
+/// The number that a word spells in decimal, where that is 1 to 64.
+pub fn small_number(word: &[u8]) -> Option<u8>
+    ensures is { result ≡ small_number_by word.now }
+    ensures range { IfSome result (λ n. (0 < n) × (n ≤ 64)) }
+{
+    match number_of(word) {
+        Some(n) if 1 <= n && n <= 64 => Some(n as u8),
+        _ => None,
+    }
+}
+
+/// The kind of a group: `plain`. This is the one place that `objects` is to join, once there is a server for them.
+pub fn mode_of(word: &[u8]) -> Option<Mode>
+    ensures is { result ≡ mode_by word.now }
+    ensures plain { IfSome result (λ kind. kind ≡ Mode.Plain) }
+{
+    if is_name(word, b"plain") {
+        Some(Mode::Plain)
+    } else {
+        None
+    }
+}
