@@ -7,9 +7,8 @@
 
 use std::process::ExitCode;
 use vic_cli::{code_of, finish, run_client, run_group, run_serve, words_of};
-use vic_dict::NoMemory;
 use vic_gate::OpenGate;
-use vic_ports::{Sink, Source, StdSink, StdSource, TcpDoors, TcpLine};
+use vic_ports::{StdSink, StdSource, TcpDoors, TcpLine};
 use vic_text::Status;
 
 /// The word at a place; the empty text where there is none.
@@ -22,38 +21,27 @@ fn word_at(words: &[String], place: usize) -> &str {
 
 /// Does the command that the first word names; any other first word goes to the command on a script. The link or the doors
 /// are opened from the word behind the command's own, before the words are looked at: what fails there shows at their first call.
-fn run<S: Source, K: Sink>(
-    rt: &HostRuntime,
-    words: &[String],
-    source: &mut S,
-    sink: &mut K,
-) -> Status {
-    if word_at(words, 0) == "client" {
-        let mut link = TcpLine::open(rt, word_at(words, 1));
-        return run_client(rt.alloc(), words, source, &mut link, sink);
-    }
-    if word_at(words, 0) == "serve" {
-        let mut doors = TcpDoors::open(rt, word_at(words, 1));
-        let mut kept = None;
-        return run_serve(
-            rt,
-            rt.alloc(),
-            words,
-            &mut doors,
-            &OpenGate,
-            sink,
-            &mut kept,
-        );
-    }
-    run_group(rt.alloc(), words, source, sink)
-}
-
 fn main(rt: HostRuntime) -> ExitCode {
+    let alloc = rt.alloc();
     let mut source = StdSource::new(rt.stdin());
     let mut sink = StdSink::new(rt.stdout());
-    let status = match words_of(&rt) {
-        Ok(words) => run(&rt, words.as_slice(), &mut source, &mut sink),
-        Err(NoMemory) => finish(&mut sink, Status::NoMemory, Status::NoMemory.line()),
+    let Ok(given) = words_of(&rt) else {
+        return code_of(finish(&mut sink, Status::NoMemory, Status::NoMemory.line()));
+    };
+    let words = given.as_slice();
+    let command = word_at(words, 0);
+    let address = word_at(words, 1);
+    let status = if command == "client" {
+        let mut link = TcpLine::open(&rt, address);
+        run_client(alloc, words, &mut source, &mut link, &mut sink)
+    } else if command == "serve" {
+        let mut doors = TcpDoors::open(&rt, address);
+        let mut kept = None;
+        run_serve(
+            &rt, alloc, words, &mut doors, &OpenGate, &mut sink, &mut kept,
+        )
+    } else {
+        run_group(alloc, words, &mut source, &mut sink)
     };
     code_of(status)
 }
