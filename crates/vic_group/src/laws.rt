@@ -2,6 +2,7 @@
 //! use alone. They are laws over the definitions; the functions do nothing.
 
 ghost use Rattle.vic_laws.specs.Claims.{HashesTellPaths, SealsHold, ViewsAreLegal};
+ghost use Rattle.vic_laws.specs.Meanings.{AbortedByConflict, SealedAnswersStand};
 ghost use Rattle.vic_laws.specs.OrderClaims.{AnswersStand, CompletedOnce, DoneMeetsNoConflict, ViewsAgree, ViewsInRealTime, ViewsComplete, ViewsShowOnlyCalls};
 
 /// One hash tells one path, or two different listed texts have one hash.
@@ -25,11 +26,14 @@ pub fn order()
 
 /// Unless a tag was forged or two texts collide, each view is legal. It holds all completed calls of its client, and only calls. A call
 /// that returned done meets no conflict: it conflicts with no entry of another client above the seal of its Reply and below the call;
-/// so its answer is the same, whichever of those entries take effect.
+/// so its answer is the same, whichever of those entries take effect, and is that of what the calls up to that seal leave. A call is
+/// aborted exactly by the least such entry that conflicts with it.
 pub fn legal()
     ensures legal { ViewsAreLegal }
     ensures done { DoneMeetsNoConflict }
     ensures stands { AnswersStand }
+    ensures sealed { SealedAnswersStand }
+    ensures aborts { AbortedByConflict }
     ensures complete { ViewsComplete }
     ensures only_calls { ViewsShowOnlyCalls }
 {}
