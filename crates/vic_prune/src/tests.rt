@@ -1,6 +1,5 @@
-ghost use Rattle.std.specs.Prelude.{◌≡◌, ◌<◌, ◌≤◌, ◌+◌, ◌*◌, length, IfOk, OnOk};
+ghost use Rattle.std.specs.Prelude.{◌≡◌, ◌<◌, length, IfOk};
 ghost use Rattle.vic_dict.specs.Dictionary.{Fits, IsKey};
-ghost use Rattle.vic_trie.specs.Weights.{weight_of};
 
 use super::*;
 use std::alloc::Global;
@@ -31,20 +30,19 @@ const NOTHING: [u8; 32] = [
     0x25, 0xf6, 0x5d, 0xb0, 0xfe, 0x3e, 0x24, 0x49, 0x4b, 0x76, 0xea, 0x98, 0x64, 0x57, 0xd9, 0x86,
 ];
 
-fn put(trie: &mut Trie, key: &[u8], value: &[u8]) -> Result<(), NoMemory>
+fn put<R: Abort>(rt: &R, trie: &mut Trie, key: &[u8], value: &[u8]) -> Result<(), NoMemory>
     requires key { IsKey key.now }
     requires value { length value.now < 65 }
-    requires room { weight_of trie.old ≤ 4294967295 }
-    ensures { OnOk result (weight_of trie.new ≤ weight_of trie.old + 335) }
 {
+    assert!(rt; trie.weight() < 1000);
     trie.put(key, value)
 }
 
 // `a` = `x` and `b` = `y`: the bits of the keys part at 7.
-fn pair(alloc: Global) -> Result<Trie, NoMemory> {
+fn pair<R: Abort>(rt: &R, alloc: Global) -> Result<Trie, NoMemory> {
     let mut trie = Trie::new(alloc);
-    put(&mut trie, b"a", b"x")?;
-    put(&mut trie, b"b", b"y")?;
+    put(rt, &mut trie, b"a", b"x")?;
+    put(rt, &mut trie, b"b", b"y")?;
     Ok(trie)
 }
 
@@ -72,7 +70,7 @@ fn del(alloc: Global, key: &[u8]) -> Result<Op, NoMemory>
 /// Calls of the dictionary of two pairs.
 #[test]
 fn two_pairs(rt: HostRuntime) -> Result<(), Fail> {
-    let mut trie = pair(rt.alloc())?;
+    let mut trie = pair(&rt, rt.alloc())?;
     assert!(rt; trie.root().bytes == BOTH && trie.len() == 2 && trie.weight() == 36);
     let names = trie.list(b"")?;
     assert!(rt; names.len() == 2 && names.at(0).as_slice() == b"a".as_slice());
@@ -89,7 +87,7 @@ fn two_pairs(rt: HostRuntime) -> Result<(), Fail> {
 #[test]
 fn parts_of_two(rt: HostRuntime) -> Result<(), Fail> {
     let alloc = rt.alloc();
-    let trie = pair(alloc)?;
+    let trie = pair(&rt, alloc)?;
     let found = get(alloc, b"a")?;
     let part = cut_for(alloc, &trie, &found)?;
     assert!(rt; part.root().bytes == BOTH && part.reaches(&found));
@@ -112,7 +110,7 @@ fn parts_of_two(rt: HostRuntime) -> Result<(), Fail> {
 #[test]
 fn changed_back(rt: HostRuntime) -> Result<(), Fail> {
     let alloc = rt.alloc();
-    let mut trie = pair(alloc)?;
+    let mut trie = pair(&rt, alloc)?;
     assert!(rt; trie.weight() < 1000);
     let gone = del(alloc, b"a")?;
     let undo = trie.change(&gone)?;
@@ -140,8 +138,8 @@ fn longest_keys(rt: HostRuntime) -> Result<(), Fail> {
     let alloc = rt.alloc();
     let long = [0x61u8; 255];
     let mut trie = Trie::new(alloc);
-    put(&mut trie, &long[..254], b"")?;
-    put(&mut trie, &long, b"")?;
+    put(&rt, &mut trie, &long[..254], b"")?;
+    put(&rt, &mut trie, &long, b"")?;
     match trie.top() {
         Some(Node::Inner(index, _, left, right)) => {
             assert_eq!(rt; *index, 2286);
