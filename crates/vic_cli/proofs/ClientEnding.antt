@@ -96,7 +96,7 @@ composes_session w c t script old new s text is read whole tells =
 
 pub composes_whole : (w : ClientWords) (c : Kept) (t : Taken) (script : List ℕ) (old new : Told) (s : Status) (text : List ℕ) → IsClientOf (Some w) (Some c)
     → InputGives t.old t.new t.before t.now t.ended (input.Whole script) → TellsSession (group_of c) c.id script old new s text → Composes (Some w) t old new s text
-composes_whole w c t script old new s text is read tells = composes_session w c t script old new s text is (read.0, inl (read.2, read.1)) (λ few. (read.2, read.1)) tells
+composes_whole w c t script old new s text is read tells = composes_session w c t script old new s text is (read.0, inl (read.4, (read.2, read.1))) (λ few. (read.4, (read.2, read.1))) tells
 
 pub composes_long : (w : ClientWords) (c : Kept) (t : Taken) (script : List ℕ) (old new : Told) (s : Status) (text : List ℕ) → IsClientOf (Some w) (Some c)
     → InputGives t.old t.new t.before t.now t.ended (input.TooLong script) → TellsSession (group_of c) c.id script old new s text → Composes (Some w) t old new s text
@@ -151,7 +151,7 @@ read_whole t script given is told few = by_end is.1
 
     by_end : IsReadWhole t ⊎ (limit < length script) → given ≡ script
     by_end (inl whole) =
-        let none : took.0 ≡ [] = nothing took.0 (subst (λ (l : Option (List ℕ)). IsSpent l) took.1 whole.1) in
+        let none : took.0 ≡ [] = nothing took.0 (subst (λ (l : Option (List ℕ)). IsSpent l) took.1 whole.1.1) in
         took.2 ∙ ap (λ (l : List ℕ). script ++ l) none ∙ append-nil script
     by_end (inr long) = let size = ap length took.2 ∙ length-append script took.0 in absurd (omega (arith, long, few, size))
 
