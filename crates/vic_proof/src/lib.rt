@@ -11,6 +11,3 @@ pub mod writing;
 pub use cutting::{bare_bytes, cut_bytes};
 pub use reading::{ProofFault, part_of};
 pub use writing::part_bytes;
-
-#[cfg(test)]
-mod tests;

@@ -10,6 +10,3 @@ mod pruned;
 
 pub use cut::{cut_for, cut_none};
 pub use pruned::{PruneFault, Pruned};
-
-#[cfg(test)]
-mod tests;

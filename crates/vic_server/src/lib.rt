@@ -16,6 +16,3 @@ pub mod served;
 
 pub use serve::Serve;
 pub use served::Served;
-
-#[cfg(test)]
-mod tests;
