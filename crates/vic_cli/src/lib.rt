@@ -25,8 +25,4 @@ pub use vic_text::Status;
 pub use words::words_of;
 
 #[cfg(test)]
-mod client_tests;
-#[cfg(test)]
 mod serve_tests;
-#[cfg(test)]
-mod tests;

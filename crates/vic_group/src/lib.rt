@@ -19,6 +19,3 @@ pub mod world;
 pub use play::{End, Played};
 pub use vic_view::Printed;
 pub use world::{World, WorldFault};
-
-#[cfg(test)]
-mod tests;
