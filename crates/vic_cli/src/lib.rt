@@ -23,6 +23,3 @@ pub use output::{Composed, Text, finish};
 pub use serve::run_serve;
 pub use vic_text::Status;
 pub use words::words_of;
-
-#[cfg(test)]
-mod serve_tests;

@@ -19,6 +19,3 @@ pub use client::Client;
 pub use pending::Pending;
 pub use sending::request_payload;
 pub use step::Step;
-
-#[cfg(test)]
-mod tests;
