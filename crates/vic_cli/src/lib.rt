@@ -23,3 +23,10 @@ pub use output::{Composed, Text, finish};
 pub use serve::run_serve;
 pub use vic_text::Status;
 pub use words::words_of;
+
+#[cfg(test)]
+mod client_tests;
+#[cfg(test)]
+mod serve_tests;
+#[cfg(test)]
+mod tests;

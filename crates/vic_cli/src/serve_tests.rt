@@ -1,0 +1,192 @@
+//! The command of a server over lines in memory: its status, what it prints, and whether it keeps the server.
+
+use crate::serve::run_serve;
+use std::alloc::Global;
+use std::sync::Wait;
+use std::sync::atomic::{AtomicU64, Ordering};
+use std::test::*;
+use std::thread;
+use std::thread::Threads;
+use vic_dict::{Bytes, NoMemory};
+use vic_gate::{Gate, OpenGate};
+use vic_ports::{Calls, Lines, MemoryDoors, MemoryLink, MemorySink};
+use vic_text::Status;
+
+/// A client comes in and leaves.
+const COMES_AND_LEAVES: &[u8] = b"\0\0\0\x04\x21\x01\0\x01\0\0\0\x01\x29";
+
+/// Somebody who hasn't come in asks for a turn.
+const ASKS: &[u8] = b"\0\0\0\x01\x24";
+
+/// The words, what the one line gives, the write of the sink that fails (0: none), the status, and what is printed.
+type Row = (&'static str, &'static [u8], u64, Status, &'static [u8]);
+
+const ROWS: [Row; 11] = [
+    (
+        "serve h:1 1 plain 1",
+        COMES_AND_LEAVES,
+        0,
+        Status::Ok,
+        b"connections 1\nordered 0\nsealed 0\nchanges 2\nlink faults 0\nbad frames 0\nno memory 0\n",
+    ),
+    (
+        "serve h:1 1 plain 1",
+        ASKS,
+        0,
+        Status::Ok,
+        b"connections 1\nordered 0\nsealed 0\nchanges 0\nlink faults 0\nbad frames 0\nno memory 0\n",
+    ),
+    (
+        "serve h:1 1 plain 1",
+        b"\0\0\0",
+        0,
+        Status::Ok,
+        b"connections 1\nordered 0\nsealed 0\nchanges 0\nlink faults 1\nbad frames 0\nno memory 0\n",
+    ),
+    (
+        "serve h:1 1 plain 1",
+        b"\0\0\0\0",
+        0,
+        Status::Ok,
+        b"connections 1\nordered 0\nsealed 0\nchanges 0\nlink faults 0\nbad frames 1\nno memory 0\n",
+    ),
+    // There is one line, and two are wanted.
+    (
+        "serve h:1 1 plain 2",
+        ASKS,
+        0,
+        Status::LinkFault,
+        b"link fault\n",
+    ),
+    ("serve h:1 1 plain 1", ASKS, 1, Status::WriteFault, b""),
+    ("serve h:1 65 plain 1", ASKS, 0, Status::Usage, USAGE),
+    ("serve h:1 1 plain 0", ASKS, 0, Status::Usage, USAGE),
+    ("serve h:1 1 plain 01", ASKS, 0, Status::Usage, USAGE),
+    ("serve h:1 1 plane 1", ASKS, 0, Status::Usage, USAGE),
+    ("serve h:1 1 plain", ASKS, 0, Status::Usage, USAGE),
+];
+
+const USAGE: &[u8] =
+    b"usage: vicos group | client ADDRESS ID COUNT KEY MODE | serve ADDRESS COUNT MODE CONNECTIONS\n";
+
+fn words_of(alloc: Global, text: &str) -> Result<Vec<String>, NoMemory> {
+    let mut words = Vec::new(alloc);
+    for word in text.split(' ') {
+        words.push(word.to_string(alloc)?)?;
+    }
+    Ok(words)
+}
+
+fn calls_of(alloc: Global, fails: u64) -> Result<Calls, NoMemory> {
+    let mut calls = Calls::new(alloc);
+    if fails > 0 {
+        calls.push(fails)?;
+    }
+    Ok(calls)
+}
+
+fn doors_of(alloc: Global, bytes: &[u8], count: u32) -> Result<MemoryDoors, NoMemory> {
+    let mut lines = Lines::new(alloc);
+    for _ in 0..count {
+        let given = Bytes::of(alloc, bytes)?;
+        lines.push(MemoryLink::new(alloc, given, Calls::new(alloc)))?;
+    }
+    MemoryDoors::new(alloc, lines, Calls::new(alloc))
+}
+
+/// Whether the command goes so.
+fn goes_so<R: Threads + Wait + Sync>(rt: &R, alloc: Global, row: &Row) -> Result<bool, NoMemory> {
+    let words = words_of(alloc, row.0)?;
+    let mut doors = doors_of(alloc, row.1, 1)?;
+    let mut sink = MemorySink::new(alloc, calls_of(alloc, row.2)?);
+    let mut kept = None;
+    let status = run_serve(
+        rt,
+        alloc,
+        words.as_slice(),
+        &mut doors,
+        &OpenGate,
+        &mut sink,
+        &mut kept,
+    );
+    Ok(
+        status == row.3
+            && sink.held().as_slice() == row.4
+            && kept.is_some() == (status == Status::Ok),
+    )
+}
+
+#[test]
+fn commands_go_so(rt: HostRuntime) -> Result<(), Fail> {
+    for (place, row) in ROWS.iter().enumerate() {
+        assert!(rt;
+            goes_so(&rt, rt.alloc(), row).ok().ok_or("memory")?,
+            "row {place}"
+        );
+    }
+    Ok(())
+}
+
+/// Holds the first request of each of two connections until the other one has come to its own, or for so many looks.
+#[derive(Drop)]
+struct Meeting {
+    entered: [AtomicU64; 2],
+    left: AtomicU64,
+    used_up: AtomicU64,
+}
+
+const LOOKS: u32 = 50_000_000;
+
+impl Gate for Meeting {
+    fn enter(&self, connection: u32) {
+        let [one, two] = &self.entered;
+        let (mine, other) = if connection == 1 {
+            (one, two)
+        } else {
+            (two, one)
+        };
+        if mine.fetch_add(1, Ordering::SeqCst) > 0 {
+            return;
+        }
+        for _ in 0..LOOKS {
+            if other.load(Ordering::SeqCst) > 0 {
+                return;
+            }
+            thread::yield_now();
+        }
+        self.used_up.fetch_add(1, Ordering::SeqCst);
+    }
+
+    fn leave(&self, _connection: u32) {
+        self.left.fetch_add(1, Ordering::SeqCst);
+    }
+}
+
+fn meets<R: Threads + Wait + Sync>(rt: &R, alloc: Global) -> Result<bool, NoMemory> {
+    let meeting = Meeting {
+        entered: [AtomicU64::new(0), AtomicU64::new(0)],
+        left: AtomicU64::new(0),
+        used_up: AtomicU64::new(0),
+    };
+    let words = words_of(alloc, "serve h:1 1 plain 2")?;
+    let mut doors = doors_of(alloc, ASKS, 2)?;
+    let mut sink = MemorySink::new(alloc, Calls::new(alloc));
+    let mut kept = None;
+    let status = run_serve(
+        rt,
+        alloc,
+        words.as_slice(),
+        &mut doors,
+        &meeting,
+        &mut sink,
+        &mut kept,
+    );
+    let used_up = meeting.used_up.load(Ordering::SeqCst);
+    Ok(status == Status::Ok && used_up == 0 && meeting.left.load(Ordering::SeqCst) == 2)
+}
+
+#[test]
+fn connections_are_served_at_once(rt: HostRuntime) -> Result<(), Fail> {
+    assert!(rt; meets(&rt, rt.alloc()).ok().ok_or("memory")?);
+    Ok(())
+}
