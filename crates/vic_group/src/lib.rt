@@ -19,3 +19,6 @@ pub mod world;
 pub use play::{End, Played};
 pub use vic_view::Printed;
 pub use world::{World, WorldFault};
+
+#[cfg(test)]
+mod tests;
