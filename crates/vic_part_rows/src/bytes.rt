@@ -5,9 +5,10 @@ use std::alloc::Global;
 use std::test::*;
 use std::thread;
 use std::thread::Threads;
-use vic_dict::{Bytes, NoMemory, Op};
+use vic_dict::{Answer, Bytes, NoMemory, Op};
+use vic_hash::Digest32;
 use vic_proof::{ProofFault, bare_bytes, cut_bytes, part_bytes, part_of};
-use vic_prune::{cut_for, cut_none};
+use vic_prune::{PruneFault, cut_for, cut_none};
 use vic_trie::Trie;
 
 // `a` = `x` and `b` = `y`: the bits of the keys part at 7.
@@ -18,6 +19,18 @@ const ONE: [u8; 42] = [
     1, 2, 0, 7, 1, 1, 0x61, 1, 0x78, 3, 0x99, 0xdb, 0xee, 0x3b, 0x08, 0x25, 0x04, 0x33, 0x14, 0x74,
     0xa0, 0x24, 0x97, 0x4e, 0x58, 0x5b, 0x6c, 0xc2, 0xb8, 0x41, 0xe5, 0xe2, 0xac, 0x13, 0x00, 0xf4,
     0x01, 0xc7, 0xd2, 0x8d, 0x8f, 0x6a,
+];
+
+/// Roots of the part that `walks_down` makes once its key has the value `y`, and without the key. Python's hashlib gave them, from the
+/// texts of leaves and inner nodes, from the bottom up.
+const LOWEST_PUT: [u8; 32] = [
+    0xfd, 0x15, 0x0f, 0x76, 0x42, 0xc8, 0x04, 0x5d, 0x2a, 0x81, 0xa2, 0x5e, 0x17, 0xc6, 0x23, 0xe7,
+    0xef, 0x53, 0x0c, 0x9b, 0xa3, 0xea, 0x15, 0x65, 0x0a, 0x22, 0xa0, 0x4a, 0x76, 0x33, 0xa3, 0xb2,
+];
+
+const LOWEST_GONE: [u8; 32] = [
+    0x09, 0x4b, 0x07, 0xa7, 0x99, 0x84, 0xd6, 0xb1, 0x8b, 0xcf, 0x42, 0x74, 0x00, 0x18, 0x97, 0xd5,
+    0xec, 0x65, 0x7e, 0x2f, 0xc8, 0xb6, 0x32, 0x8d, 0x3a, 0x4e, 0xe7, 0xb8, 0x9d, 0xdb, 0xef, 0x5a,
 ];
 
 /// Bytes that are no part, and the first fault of each.
@@ -105,24 +118,25 @@ fn first_faults(rt: HostRuntime) -> Result<(), Fail> {
     Ok(())
 }
 
-// The deepest part: 2,296 inner nodes, one below the other, with a stub beside each.
-fn deep(alloc: Global) -> Result<Bytes, NoMemory> {
+// A part of so many inner nodes, each on the right of the one above and with a stub on its left; then these bytes, and a stub.
+fn deep(alloc: Global, levels: u16, last: &[u8]) -> Result<Bytes, NoMemory> {
     let mut out = Bytes::new(alloc);
     out.push(1)?;
-    for index in 0..2296u16 {
+    for index in 0..levels {
         out.push(2)?;
         out.append(&index.to_be_bytes())?;
         out.push(3)?;
         out.append(&[0u8; 32])?;
     }
+    out.append(last)?;
     out.push(3)?;
     out.append(&[0u8; 32])?;
     Ok(out)
 }
 
-// Whether the deepest part is read and written again, hashed and walked over.
+// Whether the deepest part, of 2,296 inner nodes, is read and written again, hashed and walked over.
 fn goes_deep(alloc: Global) -> Result<bool, NoMemory> {
-    let bytes = deep(alloc)?;
+    let bytes = deep(alloc, 2296, &[])?;
     let op = Op::Get(Bytes::of(alloc, b"a")?);
     match part_of(alloc, bytes.as_slice()) {
         Ok(part) => {
@@ -136,8 +150,40 @@ fn goes_deep(alloc: Global) -> Result<bool, NoMemory> {
     }
 }
 
+// Whether operations walk such a part down to its bottom. The key's bits are 1 but for the last one, 2,295: there its leaf stands on
+// the left, and the stub that a list meets on the right.
+fn walks_down(alloc: Global) -> Result<bool, NoMemory> {
+    let key = [0xffu8; 255];
+    let mut last = Bytes::of(alloc, &[2, 0x08, 0xf7, 1, 255])?;
+    last.append(&key)?;
+    last.append(&[1, 0x78])?;
+    let bytes = deep(alloc, 2295, last.as_slice())?;
+    let get = Op::Get(Bytes::of(alloc, &key)?);
+    let put = Op::Put(Bytes::of(alloc, &key)?, Bytes::of(alloc, b"y")?);
+    let del = Op::Del(Bytes::of(alloc, &key)?);
+    let list = Op::List(Bytes::of(alloc, &key)?);
+    if !(get.fits() && put.fits() && del.fits() && list.fits()) {
+        return Ok(false);
+    }
+    match part_of(alloc, bytes.as_slice()) {
+        Ok(part) => {
+            let answer = part.try_op(alloc, &get);
+            let found = match &answer {
+                Ok(Answer::Found(value)) => value.as_slice() == b"x".as_slice(),
+                _ => false,
+            };
+            let changed = part.after(&put) == Ok(Digest32 { bytes: LOWEST_PUT })
+                && part.after(&del) == Ok(Digest32 { bytes: LOWEST_GONE });
+            let names = part.try_op(alloc, &list);
+            let stopped = matches!(&names, Err(PruneFault::Stub));
+            Ok(part.reaches(&get) && found && changed && stopped)
+        }
+        Err(_) => Ok(false),
+    }
+}
+
 fn go_deep(alloc: Global, found: &mut bool) {
-    *found = goes_deep(alloc) == Ok(true);
+    *found = goes_deep(alloc) == Ok(true) && walks_down(alloc) == Ok(true);
 }
 
 // In threads, as those of connections are.
@@ -148,7 +194,7 @@ fn in_threads<R: Threads + Sync>(rt: &R, alloc: Global, found: &mut [bool]) {
 #[test]
 fn deepest_part(rt: HostRuntime) -> Result<(), Fail> {
     let alloc = rt.alloc();
-    assert!(rt; goes_deep(alloc)?);
+    assert!(rt; goes_deep(alloc)? && walks_down(alloc)?);
     let mut found = [false; 2];
     in_threads(&rt, alloc, &mut found);
     assert!(rt; found[0] && found[1]);
