@@ -109,8 +109,17 @@ impl<V: Recorded> TurnLock<V> {
         ensures own { (seat.new.table_id ≡ seat.old.table_id) × (seat.new.id ≡ seat.old.id) }
         ensures over { (y : V) (k d : List Change) → seat.old.me.1 ≡ (0, y) ∷ [] → seat.old.me.0.known ≡ Some k → V.changes y ≡ k ++ d → seat.new.me ≡ (turn_over seat.old.me.0 (V.changes y) d, []) }
     {
-        self.table.shared.fetch_add::<HandOn>(seat, SERVING, 1);
-        self.table.shared.wake_all(SERVING);
+        let served = self.table.shared.fetch_add::<HandOn>(seat, SERVING, 1);
+        self.wake(served);
+    }
+
+    // Wakes those who wait, if any may, once the word that is served is one more than `served`. The tickets are read only then: who
+    // draws one later sees the new word, so it never sleeps on the old one.
+    fn wake(&self, served: u64) {
+        let drawn = self.table.shared.peek(TICKET);
+        if drawn != served.wrapping_add(1) {
+            self.table.shared.wake_all(SERVING);
+        }
     }
 
     /// A step of the value, in its turn: it waits until those that came before have handed the value on. The lock itself takes no
