@@ -1,4 +1,4 @@
-//! The command of a server over lines in memory: its status, what it prints, and whether it keeps the server.
+//! The command of a server over lines in memory: its status, what it prints and sends, and whether it keeps the server.
 
 use crate::serve::run_serve;
 use std::alloc::Global;
@@ -15,61 +15,137 @@ use vic_text::Status;
 /// A client comes in and leaves.
 const COMES_AND_LEAVES: &[u8] = b"\0\0\0\x04\x21\x01\0\x01\0\0\0\x01\x29";
 
+/// What it is sent: Hi, and Gone.
+const HI_AND_GONE: &[u8] = b"\0\0\0\x01\x41\0\0\0\x01\x49";
+
 /// Somebody who hasn't come in asks for a turn.
 const ASKS: &[u8] = b"\0\0\0\x01\x24";
 
-/// The words, what the one line gives, the write of the sink that fails (0: none), the status, and what is printed.
-type Row = (&'static str, &'static [u8], u64, Status, &'static [u8]);
+/// What is sent to whoever hasn't come in: Refused 6.
+const REFUSED: &[u8] = b"\0\0\0\x02\x46\x06";
 
-const ROWS: [Row; 11] = [
+/// The words, what each line gives, the write of the sink that fails (0: none), the status, what is printed, and what is sent on
+/// each line that goes back.
+type Row = (
+    &'static str,
+    &'static [&'static [u8]],
+    u64,
+    Status,
+    &'static [u8],
+    &'static [&'static [u8]],
+);
+
+const ROWS: [Row; 15] = [
     (
         "serve h:1 1 plain 1",
-        COMES_AND_LEAVES,
+        &[COMES_AND_LEAVES],
         0,
         Status::Ok,
         b"connections 1\nordered 0\nsealed 0\nchanges 2\nlink faults 0\nbad frames 0\nno memory 0\n",
+        &[HI_AND_GONE],
     ),
     (
         "serve h:1 1 plain 1",
-        ASKS,
+        &[ASKS],
         0,
         Status::Ok,
         b"connections 1\nordered 0\nsealed 0\nchanges 0\nlink faults 0\nbad frames 0\nno memory 0\n",
+        &[REFUSED],
     ),
+    // Nothing comes before the end.
     (
         "serve h:1 1 plain 1",
-        b"\0\0\0",
+        &[b""],
+        0,
+        Status::Ok,
+        b"connections 1\nordered 0\nsealed 0\nchanges 0\nlink faults 0\nbad frames 0\nno memory 0\n",
+        &[b""],
+    ),
+    // Half of a length, and half of a payload.
+    (
+        "serve h:1 1 plain 1",
+        &[b"\0\0\0"],
         0,
         Status::Ok,
         b"connections 1\nordered 0\nsealed 0\nchanges 0\nlink faults 1\nbad frames 0\nno memory 0\n",
+        &[b""],
     ),
     (
         "serve h:1 1 plain 1",
-        b"\0\0\0\0",
+        &[b"\0\0\0\x04\x21"],
+        0,
+        Status::Ok,
+        b"connections 1\nordered 0\nsealed 0\nchanges 0\nlink faults 1\nbad frames 0\nno memory 0\n",
+        &[b""],
+    ),
+    // A frame of no bytes, and one of 16,777,217.
+    (
+        "serve h:1 1 plain 1",
+        &[b"\0\0\0\0"],
         0,
         Status::Ok,
         b"connections 1\nordered 0\nsealed 0\nchanges 0\nlink faults 0\nbad frames 1\nno memory 0\n",
+        &[b""],
+    ),
+    (
+        "serve h:1 1 plain 1",
+        &[b"\x01\0\0\x01"],
+        0,
+        Status::Ok,
+        b"connections 1\nordered 0\nsealed 0\nchanges 0\nlink faults 0\nbad frames 1\nno memory 0\n",
+        &[b""],
+    ),
+    // A bad frame ends its own line alone.
+    (
+        "serve h:1 1 plain 2",
+        &[b"\0\0\0\0", COMES_AND_LEAVES],
+        0,
+        Status::Ok,
+        b"connections 2\nordered 0\nsealed 0\nchanges 2\nlink faults 0\nbad frames 1\nno memory 0\n",
+        &[b"", HI_AND_GONE],
     ),
     // There is one line, and two are wanted.
     (
         "serve h:1 1 plain 2",
-        ASKS,
+        &[ASKS],
         0,
         Status::LinkFault,
         b"link fault\n",
+        &[b""],
     ),
-    ("serve h:1 1 plain 1", ASKS, 1, Status::WriteFault, b""),
-    ("serve h:1 65 plain 1", ASKS, 0, Status::Usage, USAGE),
-    ("serve h:1 1 plain 0", ASKS, 0, Status::Usage, USAGE),
-    ("serve h:1 1 plain 01", ASKS, 0, Status::Usage, USAGE),
-    ("serve h:1 1 plane 1", ASKS, 0, Status::Usage, USAGE),
-    ("serve h:1 1 plain", ASKS, 0, Status::Usage, USAGE),
+    (
+        "serve h:1 1 plain 1",
+        &[ASKS],
+        1,
+        Status::WriteFault,
+        b"",
+        &[REFUSED],
+    ),
+    (
+        "serve h:1 65 plain 1",
+        &[ASKS],
+        0,
+        Status::Usage,
+        USAGE,
+        &[],
+    ),
+    ("serve h:1 1 plain 0", &[ASKS], 0, Status::Usage, USAGE, &[]),
+    (
+        "serve h:1 1 plain 01",
+        &[ASKS],
+        0,
+        Status::Usage,
+        USAGE,
+        &[],
+    ),
+    ("serve h:1 1 plane 1", &[ASKS], 0, Status::Usage, USAGE, &[]),
+    ("serve h:1 1 plain", &[ASKS], 0, Status::Usage, USAGE, &[]),
 ];
 
 const USAGE: &[u8] =
     b"usage: vicos group | client ADDRESS ID COUNT KEY MODE | serve ADDRESS COUNT MODE CONNECTIONS\n";
 
-fn words_of(alloc: Global, text: &str) -> Result<Vec<String>, NoMemory> {
+pub(crate) fn words_of(alloc: Global, text: &str) -> Result<Vec<String>, NoMemory> {
     let mut words = Vec::new(alloc);
     for word in text.split(' ') {
         words.push(word.to_string(alloc)?)?;
@@ -85,19 +161,35 @@ fn calls_of(alloc: Global, fails: u64) -> Result<Calls, NoMemory> {
     Ok(calls)
 }
 
-fn doors_of(alloc: Global, bytes: &[u8], count: u32) -> Result<MemoryDoors, NoMemory> {
-    let mut lines = Lines::new(alloc);
-    for _ in 0..count {
+fn doors_of(alloc: Global, lines: &[&[u8]]) -> Result<MemoryDoors, NoMemory> {
+    let mut links = Lines::new(alloc);
+    for bytes in lines {
         let given = Bytes::of(alloc, bytes)?;
-        lines.push(MemoryLink::new(alloc, given, Calls::new(alloc)))?;
+        links.push(MemoryLink::new(alloc, given, Calls::new(alloc)))?;
     }
-    MemoryDoors::new(alloc, lines, Calls::new(alloc))
+    MemoryDoors::new(alloc, links, Calls::new(alloc))
+}
+
+/// Whether a line went back at this place, with this text written on it.
+fn is_sent(back: &Lines, place: usize, text: &[u8]) -> bool {
+    place < back.len() && back.at(place).written().as_slice() == text
+}
+
+/// Whether the lines that went back are as many as these texts, each with its text written on it.
+fn sent_so(doors: &MemoryDoors, texts: &[&[u8]]) -> bool {
+    let back = doors.returned();
+    for (place, text) in texts.iter().enumerate() {
+        if !is_sent(back, place, text) {
+            return false;
+        }
+    }
+    back.len() == texts.len()
 }
 
 /// Whether the command goes so.
 fn goes_so<R: Threads + Wait + Sync>(rt: &R, alloc: Global, row: &Row) -> Result<bool, NoMemory> {
     let words = words_of(alloc, row.0)?;
-    let mut doors = doors_of(alloc, row.1, 1)?;
+    let mut doors = doors_of(alloc, row.1)?;
     let mut sink = MemorySink::new(alloc, calls_of(alloc, row.2)?);
     let mut kept = None;
     let status = run_serve(
@@ -112,6 +204,7 @@ fn goes_so<R: Threads + Wait + Sync>(rt: &R, alloc: Global, row: &Row) -> Result
     Ok(
         status == row.3
             && sink.held().as_slice() == row.4
+            && sent_so(&doors, row.5)
             && kept.is_some() == (status == Status::Ok),
     )
 }
@@ -169,7 +262,7 @@ fn meets<R: Threads + Wait + Sync>(rt: &R, alloc: Global) -> Result<bool, NoMemo
         used_up: AtomicU64::new(0),
     };
     let words = words_of(alloc, "serve h:1 1 plain 2")?;
-    let mut doors = doors_of(alloc, ASKS, 2)?;
+    let mut doors = doors_of(alloc, &[ASKS, ASKS])?;
     let mut sink = MemorySink::new(alloc, Calls::new(alloc));
     let mut kept = None;
     let status = run_serve(
