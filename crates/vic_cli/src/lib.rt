@@ -30,3 +30,5 @@ mod client_tests;
 mod serve_tests;
 #[cfg(test)]
 mod tests;
+#[cfg(test)]
+mod together_tests;
