@@ -12,12 +12,14 @@ use Rattle.vic_script.specs.declared.line.Line.{Line}
 use Rattle.vic_script.specs.declared.line.Line.TheVariants as line
 use Rattle.vic_script.specs.Lines.{lines_of, line_of}
 use Rattle.vic_order.specs.Scenes.{Scene, opening}
-use Rattle.vic_script.specs.Run.{limit, Bad, Played as Run, stops, printed_before, plain_group, Tried, Fails, Does, try_line, follow, place_behind, play, run_of, group_in, history_in}
+use Rattle.vic_script.specs.Run.{limit, Bad, Header as Told, group_by, Place, Before, Heads, Stands, scene_in, Played as Run, stops, printed_before, Tried, Fails, Does, try_line, mode_in, follow, place_behind, bad_end, play, run_of, group_in, history_in}
 use Rattle.vic_script.specs.Print.{bad_line, end_text, print_of, is_forged}
 use Rattle.vic_runs.proofs.Words.{text_fits}
+use Rattle.vic_runs.specs.Claims.{FitsLine}
 use Rattle.vic_runs.specs.Reached.{IsReached}
-use Rattle.vic_runs.proofs.Reached.{reached-more, reached-opening}
-use Rattle.vic_runs.proofs.Runs.{TriedReaches, tried}
+use Rattle.vic_runs.proofs.Runs.{TriedReaches, opens_reached, tried}
+use Rattle.vic_group.specs.declared.header.Header.{Header}
+use Rattle.vic_group.specs.declared.header.Headed.TheVariants as headed
 use Rattle.vic_group.specs.declared.play.BadLine.{BadLine}
 use Rattle.vic_group.specs.declared.play.End.TheVariants as end
 use Rattle.vic_group.specs.declared.play.Played.{Played}
@@ -26,7 +28,7 @@ use Rattle.vic_group.specs.declared.play.Ran.TheVariants as ran
 use Rattle.vic_group.specs.declared.world.World.{World}
 use Rattle.vic_group.specs.World.{MemberStands, ShowsScene, MayDo}
 use Rattle.vic_server.specs.Replay.{Kept}
-use Rattle.vic_group.specs.Playing.{state, scene_of, Shows, Opens, Tries, tried_at, Follows, Leaves, ended_by, end_of}
+use Rattle.vic_group.specs.Playing.{state, scene_of, Shows, header_by, Leads, Tries, tried_at, Follows, Leaves, ended_by, end_of}
 use Rattle.vic_group.proofs.Members.{stand_at}
 use Rattle.vic_group.proofs.Scenes.{same_scene}
 
@@ -57,14 +59,14 @@ may_of w n (line.Copy k t) shows r few = tt
 may_of w n (line.Move i k) shows r few = tt
 may_of w n line.Skip shows r few = tt
 
--- ---- the first line
+-- ---- the header's lines
 
 pub known_all : (n : ℕ) (script : List ℕ) → length script ≤ n → script ≡ take (n + 1) script
 known_all n script few = sym (take_all (n + 1) script (omega (arith, few)))
 
-pub opens_clients : (l : Option Line) (count : ℕ) (w : World Kept) → l ≡ Some (line.Clients count) → 0 < count → count ≤ 64 → ShowsScene state w (opening (plain_group count)) → Opens (try_line None l) (Some w)
-opens_clients l count w e above upto shows =
-    subst (λ o. Opens (try_line None o) (Some w)) (sym e) (refl, (shows, reached-more (opening (plain_group count)) 0 1 (omega arith) (reached-opening count above upto)))
+-- a line that begins a header
+pub leads_clients : (l : Option Line) (count : ℕ) → l ≡ Some (line.Clients count) → FitsLine (line.Clients count) → Leads Before l (headed.Goes (Some (record { count = count; key = None })))
+leads_clients l count e fits = subst (λ (o : Option Line). Leads Before o (headed.Goes (Some (record { count = count; key = None })))) (sym e) (refl, fits)
 
 -- ---- a line
 
@@ -73,131 +75,159 @@ none-some kind e = absurd cc
 
 follows-tried : (n : ℕ) (t : Tried) (w : World Kept) (old new : List ℕ) → TriedReaches t (n + 1) → Tries t w old new None → Follows n t w old new None
 follows-tried n (Fails kind) w old new r h = absurd (none-some kind h.0)
-follows-tried n (Does s text) w old new r h = (refl, (h.1.0, (h.1.1, r)))
+follows-tried n (Does Before text) w old new r h = absurd h.1.1
+follows-tried n (Does (Heads header) text) w old new r h = absurd h.1.1
+follows-tried n (Does (Stands s) text) w old new r h = (refl, (h.1.0, (h.1.1, r)))
 
 -- a line within the limit that was done
-pub follows_none : (place n : ℕ) (s : Scene) (text : List ℕ) (w : World Kept) (old new : List ℕ) → place ≤ limit → IsReached s n → n + 1 < 2 ^ 32
-    → Tries (try_line (Some s) (line_of (Some mode.Plain) text)) w old new None → Follows n (tried_at place s text) w old new None
-follows_none place n s text w old new within r few h =
-    let t : Tried = try_line (Some s) (line_of (Some s.group.mode) text) in
-    let done : Tries t w old new None = subst (λ (m : Mode). Tries (try_line (Some s) (line_of (Some m) text)) w old new None) (sym r.plain) h in
-    let reaches : TriedReaches t (n + 1) = tried (Some s) (line_of (Some s.group.mode) text) n r few (text_fits (Some s.group.mode) text) in
-    subst (λ (b : Bool). Follows n (if b then Fails 7 else t) w old new None) (sym (le-ltb limit place within)) (follows-tried n t w old new reaches done)
+pub follows_none : (behind n : ℕ) (s : Scene) (text : List ℕ) (w : World Kept) (old new : List ℕ) → behind ≤ limit → IsReached s n → n + 1 < 2 ^ 32
+    → Tries (try_line (Stands s) (line_of (Some mode.Plain) text)) w old new None → Follows n (tried_at behind (Stands s) text) w old new None
+follows_none behind n s text w old new within r few h =
+    let t : Tried = try_line (Stands s) (line_of (Some s.group.mode) text) in
+    let done : Tries t w old new None = subst (λ (m : Mode). Tries (try_line (Stands s) (line_of (Some m) text)) w old new None) (sym r.plain) h in
+    let reaches : TriedReaches t (n + 1) = tried (Stands s) (line_of (Some s.group.mode) text) n r few (text_fits (Some s.group.mode) text) in
+    subst (λ (b : Bool). Follows n (if b then Fails 7 else t) w old new None) (sym (le-ltb limit behind within)) (follows-tried n t w old new reaches done)
 
--- ---- the lines behind the first one
+-- ---- the next line
 
-follow-either : (b : Bool) (n kind : ℕ) (scene : Option Scene) (t : Tried) (rest : Scene → Run) → (if b then stops scene n kind else follow n scene t rest) ≡ follow n scene (if b then Fails kind else t) rest
-follow-either true n kind scene t rest = refl
-follow-either false n kind scene t rest = refl
+follow-either : (b : Bool) (n kind : ℕ) (place : Place) (t : Tried) (rest : Place → Run) → (if b then stops place n kind else follow n place t rest) ≡ follow n place (if b then Fails kind else t) rest
+follow-either true n kind place t rest = refl
+follow-either false n kind place t rest = refl
 
-pub play_line : (total before n : ℕ) (s : Scene) (text : List ℕ) (texts : List (List ℕ))
-    → play total before n (Some s) (text ∷ texts) ≡ follow n (Some s) (tried_at (place_behind total before text) s text) (λ t. play total (place_behind total before text) (n + 1) (Some t) texts)
+pub play_line : (total before n : ℕ) (place : Place) (text : List ℕ) (texts : List (List ℕ))
+    → play total before n place (text ∷ texts) ≡ follow n place (tried_at (place_behind total before text) place text) (λ next. play total (place_behind total before text) (n + 1) next texts)
 unfolding play
-play_line total before n s text texts =
-    let place : ℕ = place_behind total before text in
-    follow-either (nat_lt limit place) n 7 (Some s) (try_line (Some s) (line_of (Some s.group.mode) text)) (λ t. play total place (n + 1) (Some t) texts)
+play_line total before n place text texts =
+    let behind : ℕ = place_behind total before text in
+    follow-either (nat_lt limit behind) n 7 place (try_line place (line_of (mode_in (scene_in place)) text)) (λ next. play total behind (n + 1) next texts)
+
+pub tried_long : (behind : ℕ) (place : Place) (text : List ℕ) → limit < behind → tried_at behind place text ≡ Fails 7
+tried_long behind place text long = ap (λ (b : Bool). if b then Fails 7 else try_line place (line_of (mode_in (scene_in place)) text)) (lt-ltb limit behind long)
+
+pub tried_short : (behind : ℕ) (place : Place) (text : List ℕ) → behind ≤ limit → tried_at behind place text ≡ try_line place (line_of (mode_in (scene_in place)) text)
+tried_short behind place text within = ap (λ (b : Bool). if b then Fails 7 else try_line place (line_of (mode_in (scene_in place)) text)) (le-ltb limit behind within)
 
 printed-twice : (a b : List ℕ) (p : Run) → printed_before a (printed_before b p) ≡ printed_before (a ++ b) p
 printed-twice a b p = ap (λ (t : List ℕ). record { scene = p.scene; text = t; bad = p.bad }) (sym (append_assoc a b p.text))
 
+printed-nothing : (p : Run) → printed_before [] p ≡ p
+printed-nothing p = refl
+
 -- a line was done, and the run goes on from there
-pub goes_on : (n : ℕ) (run : Run) (scene : Option Scene) (t : Tried) (rest : Scene → Run) (w : World Kept) (old new : List ℕ) → run ≡ printed_before old (follow n scene t rest) → Follows n t w old new None
-    → (Shows w × IsReached (scene_of w) (n + 1)) × (run ≡ printed_before new (rest (scene_of w)))
-goes_on n run scene (Fails kind) rest w old new e h = absurd cc
-goes_on n run scene (Does s text) rest w old new e h =
+pub goes_on : (n : ℕ) (run : Run) (place : Place) (t : Tried) (rest : Place → Run) (w : World Kept) (old new : List ℕ) → run ≡ printed_before old (follow n place t rest) → Follows n t w old new None
+    → (Shows w × IsReached (scene_of w) (n + 1)) × (run ≡ printed_before new (rest (Stands (scene_of w))))
+goes_on n run place (Fails kind) rest w old new e h = absurd cc
+goes_on n run place (Does Before text) rest w old new e h = absurd h.1.1
+goes_on n run place (Does (Heads header) text) rest w old new e h = absurd h.1.1
+goes_on n run place (Does (Stands s) text) rest w old new e h =
     let same : s ≡ scene_of w = scene_same w s h.1.1.0 in (
       (subst (λ (x : Scene). ShowsScene state w x) same h.1.1.0, subst (λ (x : Scene). IsReached x (n + 1)) same h.1.1.1),
-      e ∙ printed-twice old text (rest s) ∙ ap (λ (o : List ℕ). printed_before o (rest s)) (sym h.1.0) ∙ ap (λ (x : Scene). printed_before new (rest x)) same,
+      e ∙ printed-twice old text (rest (Stands s)) ∙ ap (λ (o : List ℕ). printed_before o (rest (Stands s))) (sym h.1.0) ∙ ap (λ (x : Scene). printed_before new (rest (Stands x))) same,
     )
 
 -- the run, with its next line before the others
-pub run_line : (run : Run) (total before n place : ℕ) (s : Scene) (out rest text others : List ℕ) → run ≡ printed_before out (play total before n (Some s) (lines_of rest))
-    → lines_of rest ≡ text ∷ lines_of others → place ≡ place_behind total before text
-    → run ≡ printed_before out (follow n (Some s) (tried_at place s text) (λ t. play total place (n + 1) (Some t) (lines_of others)))
-run_line run total before n place s out rest text others e lines is =
-    e ∙ ap (λ (texts : List (List ℕ)). printed_before out (play total before n (Some s) texts)) lines ∙ ap (printed_before out) (play_line total before n s text (lines_of others))
-    ∙ ap (λ (k : ℕ). printed_before out (follow n (Some s) (tried_at k s text) (λ t. play total k (n + 1) (Some t) (lines_of others)))) (sym is)
+pub run_line : (run : Run) (total before n behind : ℕ) (place : Place) (out rest text others : List ℕ) → run ≡ printed_before out (play total before n place (lines_of rest))
+    → lines_of rest ≡ text ∷ lines_of others → behind ≡ place_behind total before text
+    → run ≡ printed_before out (follow n place (tried_at behind place text) (λ next. play total behind (n + 1) next (lines_of others)))
+run_line run total before n behind place out rest text others e lines is =
+    e ∙ ap (λ (texts : List (List ℕ)). printed_before out (play total before n place texts)) lines ∙ ap (printed_before out) (play_line total before n place text (lines_of others))
+    ∙ ap (λ (k : ℕ). printed_before out (follow n place (tried_at k place text) (λ next. play total k (n + 1) next (lines_of others)))) (sym is)
 
 -- ---- what the lines come to
 
-stopped-so : (run : Run) (out : List ℕ) (scene : Option Scene) (n kind : ℕ) → run ≡ printed_before out (stops scene n kind) → Leaves run (ran.Stopped out (record { number = n; kind = kind }))
-stopped-so run out scene n kind e = (ap (λ (r : Run). r.bad) e, ap (λ (r : Run). r.text) e ∙ append-nil out)
+stopped-so : (run : Run) (out : List ℕ) (place : Place) (n kind : ℕ) → run ≡ printed_before out (stops place n kind) → Leaves run (ran.Stopped out (record { number = n; kind = kind }))
+stopped-so run out place n kind e = (ap (λ (r : Run). r.bad) e, ap (λ (r : Run). r.text) e ∙ append-nil out)
 
 -- a line was bad
-pub leaves_stop : (n : ℕ) (run : Run) (scene : Option Scene) (t : Tried) (rest : Scene → Run) (w : World Kept) (old new : List ℕ) (b : BadLine) → run ≡ printed_before old (follow n scene t rest)
+pub leaves_stop : (n : ℕ) (run : Run) (place : Place) (t : Tried) (rest : Place → Run) (w : World Kept) (old new : List ℕ) (b : BadLine) → run ≡ printed_before old (follow n place t rest)
     → Follows n t w old new (Some b) → Leaves run (ran.Stopped new b)
-leaves_stop n run scene (Does s made) rest w old new b e h = absurd cc
-leaves_stop n run scene (Fails kind) rest w old new b e h =
+leaves_stop n run place (Does next made) rest w old new b e h = absurd cc
+leaves_stop n run place (Fails kind) rest w old new b e h =
     let bad : BadLine = record { number = n; kind = kind } in
     let same : b ≡ bad = cc in
-    subst (λ (x : BadLine). Leaves run (ran.Stopped new x)) (sym same) (subst (λ (o : List ℕ). Leaves run (ran.Stopped o bad)) (sym h.1) (stopped-so run old scene n kind e))
+    subst (λ (x : BadLine). Leaves run (ran.Stopped new x)) (sym same) (subst (λ (o : List ℕ). Leaves run (ran.Stopped o bad)) (sym h.1) (stopped-so run old place n kind e))
 
-play-nil : (total before n : ℕ) (s : Scene) → play total before n (Some s) [] ≡ record { scene = Some s; text = []; bad = None }
+pub play_nil : (total before n : ℕ) (place : Place) → play total before n place [] ≡ record { scene = scene_in place; text = []; bad = bad_end n place }
 unfolding play
-play-nil total before n s = refl
+play_nil total before n place = refl
 
 -- no line is left
-pub leaves_end : (total before n : ℕ) (run : Run) (w : World Kept) (out : List ℕ) → run ≡ printed_before out (play total before n (Some (scene_of w)) []) → Shows w → Leaves run (ran.Whole w out)
+pub leaves_end : (total before n : ℕ) (run : Run) (w : World Kept) (out : List ℕ) → run ≡ printed_before out (play total before n (Stands (scene_of w)) []) → Shows w → Leaves run (ran.Whole w out)
 leaves_end total before n run w out e shows =
-    let done : run ≡ printed_before out (record { scene = Some (scene_of w); text = []; bad = None }) = e ∙ ap (printed_before out) (play-nil total before n (scene_of w)) in
+    let done : run ≡ printed_before out (record { scene = Some (scene_of w); text = []; bad = None }) = e ∙ ap (printed_before out) (play_nil total before n (Stands (scene_of w))) in
     (ap (λ (r : Run). r.bad) done, (ap (λ (r : Run). r.text) done ∙ append-nil out, (ap (λ (r : Run). r.scene) done, shows)))
 
+-- ---- the header
+
+-- the run of a script stands here, with these lines left, and nothing was printed
+abbrev pub Heading : Run → ℕ → ℕ → ℕ → Place → List (List ℕ) → Type 0
+Heading run total before n place texts = run ≡ play total before n place texts
+
+-- the same with the next line before the others
+pub heading_line : (run : Run) (total before n behind : ℕ) (place : Place) (rest text others : List ℕ) → Heading run total before n place (lines_of rest) → lines_of rest ≡ text ∷ lines_of others → behind ≡ place_behind total before text
+    → run ≡ follow n place (tried_at behind place text) (λ next. play total behind (n + 1) next (lines_of others))
+heading_line run total before n behind place rest text others e lines is =
+    e ∙ ap (λ (texts : List (List ℕ)). play total before n place texts) lines ∙ play_line total before n place text (lines_of others)
+    ∙ ap (λ (k : ℕ). follow n place (tried_at k place text) (λ next. play total k (n + 1) next (lines_of others))) (sym is)
+
+-- its next line is bad
+pub head_stops : (run : Run) (n kind : ℕ) (place : Place) (t : Tried) (rest : Place → Run) → run ≡ follow n place t rest → t ≡ Fails kind → Leaves run (ran.Stopped [] (record { number = n; kind = kind }))
+head_stops run n kind place t rest e is =
+    let stopped : run ≡ stops place n kind = e ∙ ap (λ (x : Tried). follow n place x rest) is in
+    (ap (λ (r : Run). r.bad) stopped, ap (λ (r : Run). r.text) stopped)
+
+-- or leads on
+pub head_goes : (run : Run) (n : ℕ) (place next : Place) (t : Tried) (rest : Place → Run) → run ≡ follow n place t rest → t ≡ Does next [] → run ≡ rest next
+head_goes run n place next t rest e is = e ∙ ap (λ (x : Tried). follow n place x rest) is ∙ printed-nothing (rest next)
+
+follow-same : (n : ℕ) (h : Told) (t : Tried) (rest : Place → Run) → follow n (Heads h) t rest ≡ follow n (Stands (opening (group_by h))) t rest
+follow-same n h (Fails kind) rest = refl
+follow-same n h (Does next text) rest = refl
+
+play-ends : (total before n : ℕ) (h : Told) (text : List ℕ) (texts : List (List ℕ)) → place_behind total before text ≤ limit
+    → try_line (Heads h) (line_of (Some h.mode) text) ≡ try_line (Stands (opening (group_by h))) (line_of (Some h.mode) text)
+    → play total before n (Heads h) (text ∷ texts) ≡ play total before n (Stands (opening (group_by h))) (text ∷ texts)
+play-ends total before n h text texts within same =
+    let behind : ℕ = place_behind total before text in
+    let s : Scene = opening (group_by h) in
+    let rest : Place → Run = λ next. play total behind (n + 1) next texts in
+    play_line total before n (Heads h) text texts ∙ ap (λ (t : Tried). follow n (Heads h) t rest) (tried_short behind (Heads h) text within ∙ same) ∙ follow-same n h (try_line (Stands s) (line_of (Some h.mode) text)) rest
+    ∙ ap (λ (t : Tried). follow n (Stands s) t rest) (sym (tried_short behind (Stands s) text within)) ∙ sym (play_line total before n (Stands s) text texts)
+
+-- or it isn't of the header, and is tried in the scene that a world shows
+pub head_ends : (run : Run) (total before n : ℕ) (place : Place) (h : Header) (w : World Kept) (rest text others : List ℕ) → Heading run total before n place (lines_of rest) → lines_of rest ≡ text ∷ lines_of others
+    → place_behind total before text ≤ limit → Leads place (line_of (mode_in (scene_in place)) text) (headed.Ends h) → ShowsScene state w (opening (group_by (header_by h)))
+    → Heading run total before n (Stands (scene_of w)) (lines_of rest)
+head_ends run total before n place h w rest text others e lines within leads shows =
+    let told : Told = header_by h in
+    let texts : List (List ℕ) = lines_of others in
+    let same = subst (λ (p : Place). try_line p (line_of (mode_in (scene_in p)) text) ≡ try_line (Stands (opening (group_by told))) (line_of (mode_in (scene_in p)) text)) leads.0 leads.1.0 in
+    e ∙ ap (λ (xs : List (List ℕ)). play total before n place xs) lines ∙ ap (λ (p : Place). play total before n p (text ∷ texts)) leads.0 ∙ play-ends total before n told text texts within same
+    ∙ ap (λ (s : Scene). play total before n (Stands s) (text ∷ texts)) (scene_same w (opening (group_by told)) shows) ∙ ap (λ (xs : List (List ℕ)). play total before n (Stands (scene_of w)) xs) (sym lines)
+
+-- the world that a header opens
+pub opened_shows : (w : World Kept) (g : Group) → ShowsScene state w (opening g) → Shows w
+opened_shows w g shows = subst (λ (s : Scene). ShowsScene state w s) (scene_same w (opening g) shows) shows
+
+pub opened_reached : (w : World Kept) (h : Header) (n : ℕ) → ShowsScene state w (opening (group_by (header_by h))) → IsReached (scene_of w) n
+opened_reached w h n shows =
+    let g : Group = group_by (header_by h) in
+    subst (λ (s : Scene). IsReached s n) (scene_same w (opening g) shows) (opens_reached g n shows.lawful.group refl)
+
 -- ---- the whole script
-
-first_bad : (kind : ℕ) → Leaves (stops None 1 kind) (ran.Stopped [] (record { number = 1; kind = kind }))
-first_bad kind = (refl, refl)
-
-pub leaves_empty : (total : ℕ) → Leaves (play total 0 1 None []) (ran.Stopped [] (record { number = 1; kind = 1 }))
-unfolding play
-leaves_empty total = first_bad 1
-
-pub leaves_long : (total : ℕ) (text : List ℕ) (texts : List (List ℕ)) → limit < place_behind total 0 text → Leaves (play total 0 1 None (text ∷ texts)) (ran.Stopped [] (record { number = 1; kind = 7 }))
-unfolding play
-leaves_long total text texts long =
-    let place : ℕ = place_behind total 0 text in
-    let other : Run = follow 1 None (try_line None (line_of None text)) (λ s. play total place 2 (Some s) texts) in
-    subst (λ (b : Bool). Leaves (if b then stops None 1 7 else other) (ran.Stopped [] (record { number = 1; kind = 7 }))) (sym (lt-ltb limit place long)) (first_bad 7)
-
-follows-opened : (t : Tried) (rest : Scene → Run) (w : World Kept) (r : Ran) → Opens t (Some w) → Leaves (rest (scene_of w)) r → Leaves (follow 1 None t rest) r
-follows-opened (Fails kind) rest w r h leaves = absurd cc
-follows-opened (Does s text) rest w r h leaves =
-    let same : scene_of w ≡ s = sym (scene_same w s h.1.0) in
-    subst (λ (o : List ℕ). Leaves (printed_before o (rest s)) r) (sym h.0) (subst (λ (x : Scene). Leaves (rest x) r) same leaves)
-
-follows-unopened : (t : Tried) (rest : Scene → Run) → Opens t None → Leaves (follow 1 None t rest) (ran.Stopped [] (record { number = 1; kind = 1 }))
-follows-unopened (Fails kind) rest h = subst (λ (k : ℕ). Leaves (stops None 1 k) (ran.Stopped [] (record { number = 1; kind = 1 }))) (sym h.0) (first_bad 1)
-follows-unopened (Does s made) rest h = absurd h
-
-pub leaves_opened : (total : ℕ) (text : List ℕ) (texts : List (List ℕ)) (w : World Kept) (r : Ran) → place_behind total 0 text ≤ limit → Opens (try_line None (line_of None text)) (Some w)
-    → Leaves (play total (place_behind total 0 text) 2 (Some (scene_of w)) texts) r → Leaves (play total 0 1 None (text ∷ texts)) r
-unfolding play
-leaves_opened total text texts w r within h leaves =
-    let place : ℕ = place_behind total 0 text in
-    let rest : Scene → Run = λ s. play total place 2 (Some s) texts in
-    subst (λ (b : Bool). Leaves (if b then stops None 1 7 else follow 1 None (try_line None (line_of None text)) rest) r) (sym (le-ltb limit place within))
-    (follows-opened (try_line None (line_of None text)) rest w r h leaves)
-
-pub leaves_unopened : (total : ℕ) (text : List ℕ) (texts : List (List ℕ)) → place_behind total 0 text ≤ limit → Opens (try_line None (line_of None text)) None
-    → Leaves (play total 0 1 None (text ∷ texts)) (ran.Stopped [] (record { number = 1; kind = 1 }))
-unfolding play
-leaves_unopened total text texts within h =
-    let place : ℕ = place_behind total 0 text in
-    let rest : Scene → Run = λ s. play total place 2 (Some s) texts in
-    subst (λ (b : Bool). Leaves (if b then stops None 1 7 else follow 1 None (try_line None (line_of None text)) rest) (ran.Stopped [] (record { number = 1; kind = 1 }))) (sym (le-ltb limit place within))
-    (follows-unopened (try_line None (line_of None text)) rest h)
 
 pub lines_none : (rest : List ℕ) → length rest ≡ 0 → lines_of rest ≡ []
 unfolding lines_of
 lines_none [] e = refl
 lines_none (b ∷ bs) e = absurd (omega (arith, e))
 
-pub leaves_lines : (lines others : List (List ℕ)) (total : ℕ) (r made : Ran) → lines ≡ others → made ≡ r → Leaves (play total 0 1 None others) r → Leaves (play total 0 1 None lines) made
-leaves_lines lines others total r made e is h =
-    subst (λ (x : Ran). Leaves (play total 0 1 None lines) x) (sym is) (subst (λ (texts : List (List ℕ)). Leaves (play total 0 1 None texts) r) (sym e) h)
-
-pub run_known : (script known : List ℕ) → known ≡ take (limit + 1) script → play (length known) 0 1 None (lines_of known) ≡ run_of script
+pub run_known : (script known : List ℕ) → known ≡ take (limit + 1) script → play (length known) 0 1 Before (lines_of known) ≡ run_of script
 unfolding run_of
-run_known script known e = ap (λ (bytes : List ℕ). play (length bytes) 0 1 None (lines_of bytes)) e
+run_known script known e = ap (λ (bytes : List ℕ). play (length bytes) 0 1 Before (lines_of bytes)) e
+
+-- no event came
+pub closed_whole : (w : World Kept) (h : Header) (n : ℕ) → ShowsScene state w (opening (group_by (header_by h))) → Leaves (record { scene = Some (opening (group_by (header_by h))); text = []; bad = None }) (ran.Whole w [])
+closed_whole w h n shows = (refl, (refl, (ap (λ (s : Scene). Some s) (scene_same w (opening (group_by (header_by h))) shows), opened_shows w (group_by (header_by h)) shows)))
 
 -- what holds of a value of a result
 pub if_ok-map : {A E : Type 0} (r : Result A E) (P Q : A → Type 0) → ((a : A) → P a → Q a) → IfOk r P → IfOk r Q

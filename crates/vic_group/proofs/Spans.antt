@@ -1,11 +1,10 @@
 -- A script that is too long: only its front matters, and it has a bad line.
-use Rattle.std.proofs.Common.{◌≡◌, ℕ, suc, ◌+◌, ◌<◌, ◌≤◌, Bool, true, false, List, [], ◌∷◌, ◌++◌, length, take, Option, Some, None, is_some, refl, ap, arith}
+use Rattle.std.proofs.Common.{◌≡◌, ℕ, suc, ◌+◌, ◌<◌, ◌≤◌, Bool, true, false, List, [], ◌∷◌, ◌++◌, length, take, is_some, refl, ap, arith}
 use Rattle.std.specs.Prelude.{if◌then◌else◌, nat_eq, nat_lt, min}
 use Rattle.std.proofs.lemmas.Bool.{ltb-false}
 use Rattle.std.proofs.lemmas.List.{take-append-le, length-take}
 use Rattle.vic_script.specs.Lines.{put_first, lines_of, line_of}
-use Rattle.vic_order.specs.Scenes.{Scene}
-use Rattle.vic_script.specs.Run.{limit, Played, stops, Tried, Fails, Does, try_line, mode_in, follow, place_behind, play, run_of, bad_line_of}
+use Rattle.vic_script.specs.Run.{limit, Place, Before, scene_in, Played, stops, Tried, Fails, Does, try_line, mode_in, follow, place_behind, play, run_of, bad_line_of}
 
 -- ---- only the front matters
 
@@ -14,7 +13,7 @@ taken-same n bytes rest more = take-append-le (n + 1) bytes rest (omega (arith, 
 
 pub run-front : (bytes rest : List ℕ) → limit < length bytes → run_of (bytes ++ rest) ≡ run_of bytes
 unfolding run_of
-run-front bytes rest more = ap (λ (known : List ℕ). play (length known) 0 1 None (lines_of known)) (taken-same limit bytes rest more)
+run-front bytes rest more = ap (λ (known : List ℕ). play (length known) 0 1 Before (lines_of known)) (taken-same limit bytes rest more)
 
 -- ---- the bytes of lines, each with one that ends it
 
@@ -46,36 +45,28 @@ bad-either : (b : Bool) (x y : Played) → HasBad x → (b ≡ false → HasBad 
 bad-either true x y h k = h
 bad-either false x y h k = k refl
 
-bad-followed : (n : ℕ) (scene : Option Scene) (t : Tried) (rest : Scene → Played) → ((s : Scene) → HasBad (rest s)) → HasBad (follow n scene t rest)
-bad-followed n scene (Fails k) rest each = refl
-bad-followed n scene (Does s text) rest each = each s
+bad-followed : (n : ℕ) (place : Place) (t : Tried) (rest : Place → Played) → ((next : Place) → HasBad (rest next)) → HasBad (follow n place t rest)
+bad-followed n place (Fails k) rest each = refl
+bad-followed n place (Does next text) rest each = each next
 
 -- a line that doesn't reach past the limit ends where the next one begins
 place-within : (m total before n : ℕ) → m < total → nat_lt m (min (before + n + 1) total) ≡ false → (min (before + n + 1) total ≡ before + n + 1) × (before + n + 1 ≤ m)
 place-within m total before n more e = let within = ltb-false m (min (before + n + 1) total) e in (omega (arith, more, within), omega (arith, more, within))
 
-bad-play : (total before n : ℕ) (scene : Option Scene) (texts : List (List ℕ)) → limit < total → before ≤ limit → total ≤ before + span texts → HasBad (play total before n scene texts)
+bad-play : (total before n : ℕ) (place : Place) (texts : List (List ℕ)) → limit < total → before ≤ limit → total ≤ before + span texts → HasBad (play total before n place texts)
 unfolding play
-bad-play total before n None [] more few all = refl
-bad-play total before n (Some s) [] more few all = absurd (omega (arith, more, few, all))
-bad-play total before n None (text ∷ texts) more few all =
-    let place : ℕ = place_behind total before text in
-    let rest : Scene → Played = λ s. play total place (n + 1) (Some s) texts in
-    bad-either (nat_lt limit place) (stops None n 7) (follow n None (try_line None (line_of None text)) rest) refl
+bad-play total before n place [] more few all = absurd (omega (arith, more, few, all))
+bad-play total before n place (text ∷ texts) more few all =
+    let behind : ℕ = place_behind total before text in
+    let rest : Place → Played = λ next. play total behind (n + 1) next texts in
+    let t : Tried = try_line place (line_of (mode_in (scene_in place)) text) in
+    bad-either (nat_lt limit behind) (stops place n 7) (follow n place t rest) refl
     (λ e. let w = place-within limit total before (length text) more e in
-    bad-followed n None (try_line None (line_of None text)) rest
-    (λ s. bad-play total place (n + 1) (Some s) texts more (omega (arith, w.0, w.1)) (omega (arith, w.0, w.1, all))))
-bad-play total before n (Some was) (text ∷ texts) more few all =
-    let place : ℕ = place_behind total before text in
-    let rest : Scene → Played = λ s. play total place (n + 1) (Some s) texts in
-    let kind = mode_in (Some was) in
-    bad-either (nat_lt limit place) (stops (Some was) n 7) (follow n (Some was) (try_line (Some was) (line_of kind text)) rest) refl
-    (λ e. let w = place-within limit total before (length text) more e in
-    bad-followed n (Some was) (try_line (Some was) (line_of kind text)) rest
-    (λ s. bad-play total place (n + 1) (Some s) texts more (omega (arith, w.0, w.1)) (omega (arith, w.0, w.1, all))))
+    bad-followed n place t rest
+    (λ next. bad-play total behind (n + 1) next texts more (omega (arith, w.0, w.1)) (omega (arith, w.0, w.1, all))))
 
-bad-known : (known : List ℕ) → limit < length known → HasBad (play (length known) 0 1 None (lines_of known))
-bad-known known more = bad-play (length known) 0 1 None (lines_of known) more (omega arith) (omega (arith, span-lines_of known))
+bad-known : (known : List ℕ) → limit < length known → HasBad (play (length known) 0 1 Before (lines_of known))
+bad-known known more = bad-play (length known) 0 1 Before (lines_of known) more (omega arith) (omega (arith, span-lines_of known))
 
 length-known : (n : ℕ) (script : List ℕ) → n < length script → n < length (take (n + 1) script)
 length-known n script more = omega (arith, more, length-take (n + 1) script)

@@ -1,13 +1,18 @@
 -- What trying a line makes of a world, and what is then printed.
-use Rattle.std.specs.Prelude.{◌≡◌, ℕ, ◌+◌, Bool, true, false, List, [], ◌++◌, map, Option, Some, None, nat_lt, if◌then◌else◌}
+use Rattle.std.specs.Prelude.{◌≡◌, ℕ, ◌+◌, ◌<◌, ◌≤◌, Bool, true, false, List, [], ◌++◌, map, Option, Some, None, nat_lt, if◌then◌else◌}
+use Rattle.vic_dict.specs.declared.op.Mode.TheVariants as mode
 use Rattle.vic_order.specs.Order.{Server}
 use Rattle.vic_server.specs.Replay.{Kept}
 use Rattle.vic_view.specs.Transcripts.{history_of, group_of as transcript_group}
+use Rattle.vic_script.specs.declared.line.Line.{Line}
 use Rattle.vic_script.specs.Lines.{line_of}
-use Rattle.vic_order.specs.Scenes.{Scene}
-use Rattle.vic_script.specs.Run.{limit, Bad, Played as Run, Tried, Fails, Does, try_line, group_in, history_in}
+use Rattle.vic_order.specs.Scenes.{Scene, opening}
+use Rattle.vic_script.specs.Run.{limit, Bad, Header as Told, group_by, Place, Before, Heads, Stands, scene_in, Played as Run, Tried, Fails, Does, try_line, mode_in, group_in, history_in}
 use Rattle.vic_script.specs.Print.{is_forged}
 use Rattle.vic_runs.specs.Reached.{IsReached}
+use Rattle.vic_group.specs.declared.header.Header.{Header}
+use Rattle.vic_group.specs.declared.header.Headed.{Headed}
+use Rattle.vic_group.specs.declared.header.Headed.TheVariants as headed
 use Rattle.vic_group.specs.declared.play.BadLine.{BadLine}
 use Rattle.vic_group.specs.declared.play.End.{End}
 use Rattle.vic_group.specs.declared.play.End.TheVariants as end
@@ -35,25 +40,56 @@ scene_of w = record {
 abbrev pub Shows : World Kept → Type 0
 Shows w = ShowsScene state w (scene_of w)
 
--- a world came of trying the first line, where that opens one
-abbrev pub Opens : Tried → Option (World Kept) → Type 0
-Opens (Fails kind) w = (kind ≡ 1) × (w ≡ None)
-Opens (Does scene text) None = ⊥
-Opens (Does scene text) (Some w) = (text ≡ []) × (ShowsScene state w scene × IsReached scene 1)
+-- ---- the header
+
+-- the header that has been read, of a group without objects
+abbrev pub header_by : Header → Told
+header_by h = record { mode = mode.Plain; count = h.count; key = h.key }
+
+-- where it leaves a script, if it has begun
+abbrev pub place_by : Option Header → Place
+place_by None = Before
+place_by (Some h) = Heads (header_by h)
+
+-- its group has 1 to 64 clients
+abbrev pub HasFew : Option Header → Type 0
+HasFew None = Unit {0}
+HasFew (Some h) = (0 < h.count) × (h.count ≤ 64)
+
+-- what a line came to before the first event: tried in its place it leads on there, or is bad; or it is the same in the scene that the
+-- header opens
+abbrev pub Leads : Place → Option Line → Headed → Type 0
+Leads place l (headed.Goes next) = (try_line place l ≡ Does (place_by next) []) × HasFew next
+Leads place l (headed.Ends h) = (place ≡ Heads (header_by h)) × ((try_line place l ≡ try_line (Stands (opening (group_by (header_by h)))) l) × HasFew (Some h))
+Leads place l (headed.Bad kind) = try_line place l ≡ Fails kind
+
+-- ---- the lines behind it
+
+-- a world shows where a script stands behind its header
+abbrev pub ShowsPlace : World Kept → Place → Type 0
+ShowsPlace w Before = ⊥
+ShowsPlace w (Heads h) = ⊥
+ShowsPlace w (Stands s) = ShowsScene state w s
+
+-- and its scene is reached by so many lines
+abbrev pub ShowsReached : World Kept → Place → ℕ → Type 0
+ShowsReached w Before n = ⊥
+ShowsReached w (Heads h) n = ⊥
+ShowsReached w (Stands s) n = ShowsScene state w s × IsReached s n
 
 -- what trying a line made of a world and of what was printed before
 abbrev pub Tries : Tried → World Kept → List ℕ → List ℕ → Option ℕ → Type 0
 Tries (Fails kind) w old new bad = (bad ≡ Some kind) × (new ≡ old)
-Tries (Does scene text) w old new bad = (bad ≡ None) × ((new ≡ old ++ text) × ShowsScene state w scene)
+Tries (Does place text) w old new bad = (bad ≡ None) × ((new ≡ old ++ text) × ShowsPlace w place)
 
 -- a line that ends so far in a script is tried
-abbrev pub tried_at : ℕ → Scene → List ℕ → Tried
-tried_at place s text = if nat_lt limit place then Fails 7 else try_line (Some s) (line_of (Some s.group.mode) text)
+abbrev pub tried_at : ℕ → Place → List ℕ → Tried
+tried_at behind place text = if nat_lt limit behind then Fails 7 else try_line place (line_of (mode_in (scene_in place)) text)
 
 -- the same for the line of a number
 abbrev pub Follows : ℕ → Tried → World Kept → List ℕ → List ℕ → Option BadLine → Type 0
 Follows n (Fails kind) w old new bad = (bad ≡ Some (record { number = n; kind = kind })) × (new ≡ old)
-Follows n (Does scene text) w old new bad = (bad ≡ None) × ((new ≡ old ++ text) × (ShowsScene state w scene × IsReached scene (n + 1)))
+Follows n (Does place text) w old new bad = (bad ≡ None) × ((new ≡ old ++ text) × ShowsReached w place (n + 1))
 
 -- how a run ends: with a bad line, or else by whether a tag was taken that no client had made before
 abbrev pub ended_by : Option Bad → Bool → End

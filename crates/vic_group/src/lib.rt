@@ -6,6 +6,7 @@
 //! `IsLeft` says. [`laws`] has what holds of every lawful history, whatever the server sends.
 #![tactic(auto)]
 
+mod header;
 pub mod laws;
 mod member;
 mod opening;

@@ -1,6 +1,8 @@
-//! The clients with which a world opens, and the key of a script that names none.
+//! The clients with which a world opens, and the keys of groups.
 
-ghost use Rattle.std.specs.Prelude.{◌≡◌, ◌<◌, ◌≤◌, [], length, map, replicate, IfOk};
+ghost use Rattle.std.specs.Prelude.{◌≡◌, ◌<◌, ◌≤◌, [], length, map, replicate, IfOk, Some};
+ghost use Rattle.std.specs.Result.{result_ok};
+ghost use Rattle.hex.specs.Hex.{decode_of};
 ghost use Rattle.vic_group.specs.World.{MemberStands};
 ghost use Rattle.vic_group.specs.Members.{AllStand};
 
@@ -19,6 +21,19 @@ pub fn zero_key(alloc: Global) -> Result<GroupKey, NoMemory>
         alloc,
         "0000000000000000000000000000000000000000000000000000000000000000",
     ) {
+        Ok(key) => Ok(key),
+        Err(_) => Err(NoMemory),
+    }
+}
+
+/// The key that digits spell, capital or small.
+pub fn spelled_key(alloc: Global, digits: &[u8]) -> Result<GroupKey, NoMemory>
+    ensures { IfOk result (λ key. result_ok (decode_of digits.now) ≡ Some key) }
+{
+    let Ok(text) = str::from_utf8(digits) else {
+        return Err(NoMemory);
+    };
+    match GroupKey::from_hex(alloc, text) {
         Ok(key) => Ok(key),
         Err(_) => Err(NoMemory),
     }

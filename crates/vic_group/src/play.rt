@@ -1,20 +1,19 @@
 //! Running a script.
 
-ghost use Rattle.std.specs.Prelude.{◌≡◌, ◌<◌, ◌≤◌, ◌+◌, ◌++◌, ◌^◌, IfOk, length, take, Some, None, []};
+ghost use Rattle.std.specs.Prelude.{◌≡◌, ◌<◌, ◌≤◌, ◌+◌, ◌++◌, ◌^◌, IfOk, length, take, None, []};
 ghost use Rattle.vic_dict.specs.declared.op.Mode.TheVariants as mode;
 ghost use Rattle.vic_script.specs.declared.line.Line.{Line};
 ghost use Rattle.vic_script.specs.Lines.{line_of, lines_of};
 ghost use Rattle.vic_order.specs.Serving.{by_rule};
-ghost use Rattle.vic_order.specs.Scenes.{opening};
 ghost use Rattle.vic_script.specs.Scenes.{bad_kind, done_line};
-ghost use Rattle.vic_script.specs.Run.{limit, plain_group, run_of, try_line, tried_by, play as play_by};
+ghost use Rattle.vic_script.specs.Run.{limit, Before, Stands, scene_in, run_of, try_line, tried_by, bad_end, play as play_by};
 ghost use Rattle.vic_script.specs.Print.{print_of_script, bad_line, end_text, is_forged};
 ghost use Rattle.vic_view.specs.Transcripts.{group_of, history_of};
 ghost use Rattle.vic_runs.specs.Reached.{IsReached};
-ghost use Rattle.vic_group.specs.World.{MayDo, ShowsScene};
-ghost use Rattle.vic_group.specs.Playing.{state, scene_of, Shows, Opens, Tries, tried_at, Follows, Leaves, ended_by, end_of};
+ghost use Rattle.vic_group.specs.World.{MayDo};
+ghost use Rattle.vic_group.specs.Playing.{scene_of, place_by, HasFew, Shows, Tries, tried_at, Follows, Leaves, ended_by, end_of};
 
-use crate::opening::zero_key;
+use crate::header::{Headed, Header, head_line, opened};
 use crate::place::{first_line, place_behind};
 use crate::world::{World, WorldFault};
 use std::alloc::Global;
@@ -85,72 +84,76 @@ fn known_of(script: &[u8]) -> &[u8]
     }
 }
 
+/// Does the lines of the header, and then the others.
 fn run_known(alloc: Global, known: &[u8]) -> Result<Ran, NoMemory>
     requires { length known.now ≤ limit + 1 }
-    ensures { IfOk result (λ r. Leaves (play_by (length known.now) 0 1 None (lines_of known.now)) r) }
+    ensures { IfOk result (λ r. Leaves (play_by (length known.now) 0 1 Before (lines_of known.now)) r) }
 {
-    if known.is_empty() {
-        return Ok(unopened(alloc, 1));
+    let mut header: Option<Header> = None;
+    let mut before = 0;
+    let mut number = 1u32;
+    let mut rest = known;
+    while !rest.is_empty() {
+        let (text, others) = first_line(rest);
+        let behind = place_behind(known.len(), before, text);
+        if SCRIPT_LIMIT < behind {
+            return Ok(unopened(alloc, number, 7));
+        }
+        match head_line(alloc, header, text)? {
+            Headed::Goes(next) => {
+                header = next;
+                before = behind;
+                number += 1;
+                rest = others;
+            }
+            Headed::Ends(header) => {
+                let world = opened(alloc, header)?;
+                return run_on(alloc, world, known.len(), before, number, rest);
+            }
+            Headed::Bad(kind) => return Ok(unopened(alloc, number, kind)),
+        }
     }
-    let (text, rest) = first_line(known);
-    let place = place_behind(known.len(), 0, text);
-    if SCRIPT_LIMIT < place {
-        return Ok(unopened(alloc, 7));
-    }
-    match opened_by(alloc, text)? {
-        Some(world) => run_on(alloc, world, known.len(), place, rest),
-        None => Ok(unopened(alloc, 1)),
-    }
+    closed(alloc, header, number)
 }
 
-/// The run of a script whose first line is bad, by this kind.
-fn unopened(alloc: Global, kind: u8) -> Ran
-    ensures { result ≡ Ran.Stopped [] (record { number = 1; kind = kind }) }
+/// The run of a script that has no event, and whose last line is the one before this number.
+fn closed(alloc: Global, header: Option<Header>, number: u32) -> Result<Ran, NoMemory>
+    requires { HasFew header }
+    ensures { IfOk result (λ r. Leaves (record { scene = scene_in (place_by header); text = []; bad = bad_end number (place_by header) }) r) }
 {
-    Ran::Stopped(Bytes::new(alloc), BadLine { number: 1, kind })
-}
-
-/// A world of so many clients, all come in, with the key of a script that names none and one honest server.
-fn opened(alloc: Global, count: u8) -> Result<World<Served>, NoMemory>
-    requires some { 0 < count }
-    requires few { count ≤ 64 }
-    ensures { IfOk result (λ w. ShowsScene state w (opening (plain_group count))) }
-{
-    let key = zero_key(alloc)?;
-    let server = Served::gathered(alloc, Mode::Plain, count)?;
-    World::new(alloc, count, Mode::Plain, key, server)
-}
-
-/// The world that the first line opens, if it opens one.
-fn opened_by(alloc: Global, text: &[u8]) -> Result<Option<World<Served>>, NoMemory>
-    ensures { IfOk result (λ w. Opens (try_line None (line_of None text.now)) w) }
-{
-    match read_line(alloc, text, None) {
-        Ok(Line::Clients(count)) => Ok(Some(opened(alloc, count)?)),
-        Ok(_) | Err(LineFault::Grammar) => Ok(None),
-        Err(LineFault::NoMemory) => Err(NoMemory),
+    match header {
+        None => Ok(unopened(alloc, number, 1)),
+        Some(header) => Ok(Ran::Whole(opened(alloc, header)?, Bytes::new(alloc))),
     }
 }
 
-/// Does the lines behind the first one, up to the first bad one.
+/// The run of a script in which this line is bad, before any event.
+fn unopened(alloc: Global, number: u32, kind: u8) -> Ran
+    ensures { result ≡ Ran.Stopped [] (record { number = number; kind = kind }) }
+{
+    Ran::Stopped(Bytes::new(alloc), BadLine { number, kind })
+}
+
+/// Does the lines behind the header, the first of which has this number, up to the first bad one.
 fn run_on(
     alloc: Global,
     opened: World<Served>,
     total: usize,
     place: usize,
+    first: u32,
     lines: &[u8],
 ) -> Result<Ran, NoMemory>
     requires shows { Shows opened }
-    requires reached { IsReached (scene_of opened) 1 }
+    requires reached { IsReached (scene_of opened) first }
     requires place { place ≤ total }
     requires total { total ≤ limit + 1 }
-    requires few { length lines.now ≤ limit + 1 }
-    ensures { IfOk result (λ r. Leaves (play_by total place 2 (Some (scene_of opened)) (lines_of lines.now)) r) }
+    requires few { first + length lines.now ≤ limit + 2 }
+    ensures { IfOk result (λ r. Leaves (play_by total place first (Stands (scene_of opened)) (lines_of lines.now)) r) }
 {
     let mut world = opened;
     let mut out = Bytes::new(alloc);
     let mut before = place;
-    let mut number = 2u32;
+    let mut number = first;
     let mut rest = lines;
     while !rest.is_empty() {
         let (text, others) = first_line(rest);
@@ -179,7 +182,7 @@ fn do_line(
     requires shows { Shows world.old }
     requires reached { IsReached (scene_of world.old) number }
     requires few { number + 1 < 2 ^ 32 }
-    ensures { IfOk result (λ bad. Follows number (tried_at behind (scene_of world.old) text.now) world.new out.old out.new bad) }
+    ensures { IfOk result (λ bad. Follows number (tried_at behind (Stands (scene_of world.old)) text.now) world.new out.old out.new bad) }
 {
     if SCRIPT_LIMIT < behind {
         return Ok(Some(BadLine { number, kind: 7 }));
@@ -199,7 +202,7 @@ fn try_text(
 ) -> Result<Option<u8>, NoMemory>
     requires shows { Shows world.old }
     requires may { (l : Line) → line_of (Some mode.Plain) text.now ≡ Some l → MayDo world.old l }
-    ensures { IfOk result (λ bad. Tries (try_line (Some (scene_of world.old)) (line_of (Some mode.Plain) text.now)) world.new out.old out.new bad) }
+    ensures { IfOk result (λ bad. Tries (try_line (Stands (scene_of world.old)) (line_of (Some mode.Plain) text.now)) world.new out.old out.new bad) }
 {
     match read_line(alloc, text, Some(Mode::Plain)) {
         Ok(line) => try_line_on(alloc, world, &line, out),

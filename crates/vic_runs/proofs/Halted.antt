@@ -7,12 +7,13 @@ use Rattle.vic_order.specs.Honest.{IsSame}
 use Rattle.vic_script.specs.declared.line.Line.{Line}
 use Rattle.vic_script.specs.declared.line.Line.TheVariants as line
 use Rattle.vic_script.specs.Lines.{line_of}
-use Rattle.vic_order.specs.Scenes.{SceneOf, Scene, stands, is_client, waits_in}
+use Rattle.vic_order.specs.Scenes.{SceneOf, Scene, opening, stands, is_client, waits_in}
 use Rattle.vic_script.specs.Scenes.{Shown, done_line, is_plain_call, asked_tests, bad_kind, is_honest_line}
-use Rattle.vic_script.specs.Run.{Bad, Played, Tried, Fails, Does, tried_by, try_line, mode_in, run_of, is_honest_script}
+use Rattle.vic_script.specs.Run.{Bad, group_by, Place, Before, Heads, Stands, scene_in, Played, Tried, Fails, Does, tried_by, try_event, try_line, mode_in, bad_end, run_of, is_honest_script}
 use Rattle.vic_runs.specs.Claims.{NoLineIsHalted}
 use Rattle.vic_runs.specs.Reached.{IsHonestlyReached}
 use Rattle.vic_runs.proofs.Words.{text_fits}
+use Rattle.vic_runs.proofs.Headers.{first_so, header_so}
 use Rattle.vic_runs.proofs.Tests.{client_is}
 use Rattle.vic_runs.proofs.Plays.{GoesSo, EachLine, claimed-run}
 use Rattle.vic_runs.proofs.Runs.{holds_at, HonestIn, HonestFor, TriedHonest, honest_tried, IsHonestText, honest_for, honest-texts, StandsHonest}
@@ -80,29 +81,17 @@ fails_by (Some k) shown h = λ e. h (ap (λ n. Some n) e)
 one_is_other : (n : ℕ) → n ≡ 1 → n ≡ 3 → ⊥
 one_is_other n e f = omega (arith, e, f)
 
-fails_first : (l : Line) → FailsOtherwise (try_line None (Some l))
-fails_first (line.Clients count) = tt
-fails_first (line.Key digits) = one_is_other 1 refl
-fails_first (line.Hostile name k) = one_is_other 1 refl
-fails_first (line.Call i o) = one_is_other 1 refl
-fails_first (line.Poll i) = one_is_other 1 refl
-fails_first (line.Sync i) = one_is_other 1 refl
-fails_first (line.Serve i) = one_is_other 1 refl
-fails_first (line.Take i) = one_is_other 1 refl
-fails_first (line.Run i) = one_is_other 1 refl
-fails_first (line.Give i payload) = one_is_other 1 refl
-fails_first (line.Again i) = one_is_other 1 refl
-fails_first (line.Flip i k) = one_is_other 1 refl
-fails_first (line.Resend i) = one_is_other 1 refl
-fails_first (line.Copy k t) = one_is_other 1 refl
-fails_first (line.Move i k) = one_is_other 1 refl
-fails_first line.Skip = one_is_other 1 refl
+fails_event : (s : Scene) (l : Line) (n : ℕ) → IsHonestlyReached IsSame s n → is_honest_line l ≡ true → FailsOtherwise (try_event s l)
+fails_event s l n h honest = fails_by (bad_kind s l) (done_line by_rule s l) (never_three IsSame s n h l honest)
 
-fails : (scene : Option Scene) (l : Option Line) (n : ℕ) → HonestIn scene n → HonestFor scene l → FailsOtherwise (try_line scene l)
-fails None None n h honest = one_is_other 1 refl
-fails None (Some l) n h honest = fails_first l
-fails (Some s) None n h honest = one_is_other 1 refl
-fails (Some s) (Some l) n h honest = fails_by (bad_kind s l) (done_line by_rule s l) (never_three IsSame s n h l honest)
+fails : (place : Place) (l : Option Line) (n : ℕ) → HonestIn (scene_in place) n → HonestFor (scene_in place) l → FailsOtherwise (try_line place l)
+fails Before None n r honest = one_is_other 1 refl
+fails Before (Some l) n r honest = first_so (λ (x : Line) (t : Tried). FailsOtherwise t) (λ count. tt) tt (λ x. one_is_other 1 refl) l
+fails (Heads h) None n r honest = one_is_other 1 refl
+fails (Heads h) (Some l) n r honest =
+    header_so (λ (x : Line) (t : Tried). is_honest_line x ≡ true → FailsOtherwise t) h (λ digits so. tt) (λ digits so. one_is_other 1 refl) (λ so. tt) (λ x so. fails_event (opening (group_by h)) x n r so) l honest
+fails (Stands s) None n r honest = one_is_other 1 refl
+fails (Stands s) (Some l) n r honest = fails_event s l n r honest
 
 -- ---- all lines
 
@@ -110,21 +99,26 @@ abbrev IsOtherwise : Option Bad → Type 0
 IsOtherwise None = Unit {0}
 IsOtherwise (Some b) = b.kind ≡ 3 → ⊥
 
-abbrev LeavesOtherwise : Option Scene → Played → Type 0
-LeavesOtherwise scene p = IsOtherwise p.bad
+abbrev LeavesOtherwise : Place → Played → Type 0
+LeavesOtherwise place p = IsOtherwise p.bad
 
-goes : (n : ℕ) (scene : Option Scene) (t : Tried) → TriedHonest t (n + 1) → FailsOtherwise t → GoesSo IsHonestText StandsHonest LeavesOtherwise n scene t
-goes n scene (Fails kind) r h = λ number. h
-goes n scene (Does s text) r h = (r, λ p claim. claim)
+ends_otherwise : (number : ℕ) (place : Place) → IsOtherwise (bad_end number place)
+ends_otherwise number Before = one_is_other 1 refl
+ends_otherwise number (Heads h) = tt
+ends_otherwise number (Stands s) = tt
+
+goes : (n : ℕ) (place : Place) (t : Tried) → TriedHonest t (n + 1) → FailsOtherwise t → GoesSo IsHonestText StandsHonest LeavesOtherwise n place t
+goes n place (Fails kind) r h = λ number. h
+goes n place (Does next text) r h = (r, λ p claim. claim)
 
 each_line : EachLine IsHonestText StandsHonest LeavesOtherwise
 each_line = record {
-  closed = λ number. one_is_other 1 refl;
-  done = λ n s h. tt;
-  long = λ n number scene h. λ e. absurd (omega (arith, e));
-  line = λ n scene text h few good.
-      let honest : HonestFor scene (line_of (mode_in scene) text) = honest_for scene n text h good in
-      goes n scene (try_line scene (line_of (mode_in scene) text)) (honest_tried scene (line_of (mode_in scene) text) n h few (text_fits (mode_in scene) text) honest) (fails scene (line_of (mode_in scene) text) n h honest);
+  done = λ n number place h. ends_otherwise number place;
+  long = λ n number place h. λ e. absurd (omega (arith, e));
+  line = λ n place text h few good.
+      let l : Option Line = line_of (mode_in (scene_in place)) text in
+      let honest : HonestFor (scene_in place) l = honest_for (scene_in place) n text h good in
+      goes n place (try_line place l) (honest_tried place l n h few (text_fits (mode_in (scene_in place)) text) honest) (fails place l n h honest);
 }
 
 bad-run : (script : List ℕ) → is_honest_script script ≡ true → IsOtherwise (run_of script).bad

@@ -1,5 +1,6 @@
 pub mod Lists
 pub mod Words
+pub mod Headers
 pub mod Queues
 pub mod Servers
 pub mod Tests

@@ -8,15 +8,16 @@ use Rattle.vic_rules.specs.declared.trace.Input.TheVariants as input
 use Rattle.vic_rules.specs.declared.trace.TraceStep.{TraceStep}
 use Rattle.vic_order.specs.Serving.{Serving, by_rule}
 use Rattle.vic_script.specs.declared.line.Line.{Line}
-use Rattle.vic_script.specs.declared.line.Line.TheVariants as line
 use Rattle.vic_script.specs.Lines.{lines_of, line_of}
-use Rattle.vic_order.specs.Scenes.{Queue, SceneOf, Scene, queue_of, set_queue, server_at, server_of, steps, served, serves, taken, takes, unchanged, flipped, Event, Asks, Serves, Takes, Flips, Hears, Resends, Copies, Joins, happens, after_events, MayAsk, MayHappen, MayAllHappen}
+use Rattle.vic_order.specs.Scenes.{Queue, SceneOf, Scene, opening, queue_of, set_queue, server_at, server_of, steps, served, serves, taken, takes, unchanged, flipped, Event, Asks, Serves, Takes, Flips, Hears, Resends, Copies, Joins, happens, after_events, MayAsk, MayHappen, MayAllHappen}
 use Rattle.vic_script.specs.Scenes.{returned_in, said, print_of_event, print_of_events, Shown, events_of, done_line, bad_kind}
-use Rattle.vic_script.specs.Run.{limit, Played, Tried, Fails, Does, tried_by, try_line, mode_in, history_in}
-use Rattle.vic_runs.specs.Claims.{line_of_step, PrintsAreReturns}
+use Rattle.vic_script.specs.Run.{limit, group_by, Place, Before, Heads, Stands, scene_in, Played, Tried, Fails, Does, tried_by, try_event, try_line, mode_in, history_in}
+use Rattle.vic_runs.specs.Claims.{FitsLine, line_of_step, PrintsAreReturns}
+use Rattle.vic_runs.specs.Reached.{IsReached}
 use Rattle.vic_runs.proofs.Lists.{all_each}
 use Rattle.vic_runs.proofs.Scenes.{step_by}
 use Rattle.vic_runs.proofs.Words.{FitsIn, text_fits}
+use Rattle.vic_runs.proofs.Headers.{first_so, header_so}
 use Rattle.vic_runs.proofs.Reached.{reached-seated}
 use Rattle.vic_runs.proofs.Lines.{few_calls, line-may}
 use Rattle.vic_runs.proofs.Runs.{ReachedIn, TriedReaches, tried, StandsReached}
@@ -88,63 +89,50 @@ module _ {V : Type 0} (rule : Serving V) where
 
 -- ---- a line that was tried
 
--- what a line that was tried leads on to
+-- what a line that was tried in a scene leads on to
 abbrev TriedTells : Option Scene → Tried → Type 0
 TriedTells scene (Fails k) = Unit {0}
-TriedTells scene (Does s text) = told s.history ≡ told (history_in scene) ++ text
+TriedTells scene (Does next text) = told (history_in (scene_in next)) ≡ told (history_in scene) ++ text
 
 tells-by : (s : Scene) (bad : Option ℕ) (shown : Shown) → (bad ≡ None → told shown.scene.history ≡ told s.history ++ shown.text) → TriedTells (Some s) (tried_by bad shown)
 tells-by s None shown h = h refl
 tells-by s (Some k) shown h = tt
 
-tells-first : (l : Line) → TriedTells None (try_line None (Some l))
-tells-first (line.Clients n) = refl
-tells-first (line.Key digits) = tt
-tells-first (line.Hostile name k) = tt
-tells-first (line.Call i o) = tt
-tells-first (line.Poll i) = tt
-tells-first (line.Sync i) = tt
-tells-first (line.Serve i) = tt
-tells-first (line.Take i) = tt
-tells-first (line.Run i) = tt
-tells-first (line.Give i payload) = tt
-tells-first (line.Again i) = tt
-tells-first (line.Flip i k) = tt
-tells-first (line.Resend i) = tt
-tells-first (line.Copy k t) = tt
-tells-first (line.Move i k) = tt
-tells-first line.Skip = tt
-
-tells : (scene : Option Scene) (l : Option Line) (n : ℕ) → ReachedIn scene n → n + 1 < 2 ^ 32 → FitsIn l → TriedTells scene (try_line scene l)
-tells None None n h few fits = tt
-tells None (Some l) n h few fits = tells-first l
-tells (Some s) None n h few fits = tt
-tells (Some s) (Some l) n h few fits =
+tells-event : (s : Scene) (l : Line) (n : ℕ) → IsReached s n → n + 1 < 2 ^ 32 → FitsLine l → TriedTells (Some s) (try_event s l)
+tells-event s l n h few fits =
     tells-by s (bad_kind s l) (done_line by_rule s l) (λ good.
     told-after by_rule s (events_of by_rule s l) (line-may by_rule s l (reached-seated s n h) h.lawful h.plain (few_calls s n h.calls few l) good fits))
 
+tells : (place : Place) (l : Option Line) (n : ℕ) → ReachedIn (scene_in place) n → n + 1 < 2 ^ 32 → FitsIn l → TriedTells (scene_in place) (try_line place l)
+tells Before None n r few fits = tt
+tells Before (Some l) n r few fits = first_so (λ (x : Line) (t : Tried). TriedTells None t) (λ count. refl) refl (λ x. tt) l
+tells (Heads h) None n r few fits = tt
+tells (Heads h) (Some l) n r few fits =
+    header_so (λ (x : Line) (t : Tried). FitsLine x → TriedTells (Some (opening (group_by h))) t) h (λ digits is. refl) (λ digits is. tt) (λ is. refl) (λ x is. tells-event (opening (group_by h)) x n r few is) l fits
+tells (Stands s) None n r few fits = tt
+tells (Stands s) (Some l) n r few fits = tells-event s l n r few fits
+
 -- ---- all lines
 
--- what was printed from a scene on is what the steps since then tell
-abbrev PlayedTells : Option Scene → Played → Type 0
-PlayedTells scene p = told (history_in p.scene) ≡ told (history_in scene) ++ p.text
+-- what was printed from a place on is what the steps since then tell
+abbrev PlayedTells : Place → Played → Type 0
+PlayedTells place p = told (history_in p.scene) ≡ told (history_in (scene_in place)) ++ p.text
 
 nothing_told : (scene : Option Scene) → told (history_in scene) ≡ told (history_in scene) ++ []
 nothing_told scene = sym (append-nil (told (history_in scene)))
 
-goes : (n : ℕ) (scene : Option Scene) (t : Tried) → TriedReaches t (n + 1) → TriedTells scene t → GoesSo AnyText StandsReached PlayedTells n scene t
-goes n scene (Fails kind) h r = λ number. nothing_told scene
-goes n scene (Does s text) h r = (h, λ p later. later ∙ ap (λ front. front ++ p.text) r ∙ append_assoc (told (history_in scene)) text p.text)
+goes : (n : ℕ) (place : Place) (t : Tried) → TriedReaches t (n + 1) → TriedTells (scene_in place) t → GoesSo AnyText StandsReached PlayedTells n place t
+goes n place (Fails kind) h r = λ number. nothing_told (scene_in place)
+goes n place (Does next text) h r = (h, λ p later. later ∙ ap (λ front. front ++ p.text) r ∙ append_assoc (told (history_in (scene_in place))) text p.text)
 
 each_line : EachLine AnyText StandsReached PlayedTells
 each_line = record {
-  closed = λ number. nothing_told None;
-  done = λ n s h. nothing_told (Some s);
-  long = λ n number scene h. nothing_told scene;
-  line = λ n scene text h few good.
-      let l : Option Line = line_of (mode_in scene) text in
-      let fits : FitsIn l = text_fits (mode_in scene) text in
-      goes n scene (try_line scene l) (tried scene l n h few fits) (tells scene l n h few fits);
+  done = λ n number place h. nothing_told (scene_in place);
+  long = λ n number place h. nothing_told (scene_in place);
+  line = λ n place text h few good.
+      let l : Option Line = line_of (mode_in (scene_in place)) text in
+      let fits : FitsIn l = text_fits (mode_in (scene_in place)) text in
+      goes n place (try_line place l) (tried place l n h few fits) (tells place l n h few fits);
 }
 
 pub prints_returns : PrintsAreReturns

@@ -3,6 +3,8 @@ use Rattle.std.proofs.Common.{◌≡◌, ℕ, ◌+◌, ◌<◌, ◌≤◌, true,
 use Rattle.std.specs.List.{AllByRecursion}
 use Rattle.std.proofs.lemmas.List.{length-set}
 use Rattle.vic_dict.specs.Lists.{AreBytes}
+use Rattle.vic_dict.specs.declared.op.Mode.TheVariants as mode
+use Rattle.vic_wire.specs.Hashes.{Group, IsGroup}
 use Rattle.vic_wire.specs.Messages.{answer_text}
 use Rattle.vic_rules.specs.declared.trace.Input.{Input}
 use Rattle.vic_rules.specs.declared.trace.Input.TheVariants as input
@@ -14,7 +16,6 @@ use Rattle.vic_order.specs.Serving.{by_rule}
 use Rattle.vic_order.specs.Scenes.{Queue, Scene, opening, queue_of, set_queue, server_at, server_of, stands, steps, served, serves, taken, takes, unchanged, flipped, last_sent, resends, copies, joins, is_server, Event, Asks, Serves, Takes, Flips, Hears, Resends, Copies, Joins, happens, after_events, MayHappen, MayAllHappen}
 use Rattle.vic_script.specs.declared.line.Line.{Line}
 use Rattle.vic_script.specs.Scenes.{events_of, done_line, bad_kind}
-use Rattle.vic_script.specs.Run.{plain_group}
 use Rattle.vic_runs.specs.Claims.{FitsLine}
 use Rattle.vic_runs.specs.Reached.{ServerHolds, IfThere, HoldsBytes, IsReached}
 use Rattle.vic_runs.proofs.Lists.{all-set, all-replicate}
@@ -68,22 +69,23 @@ reached-more s n m more r = record {
 
 -- ---- the opening
 
-pub reached-opening : (count : ℕ) → 0 < count → count ≤ 64 → IsReached (opening (plain_group count)) 0
+-- any group without objects
+pub reached-opening : (g : Group) → IsGroup g → g.mode ≡ mode.Plain → IsReached (opening g) 0
 unfolding standing
-reached-opening count above upto =
-    let seats : IsSeated (opening (plain_group count)) = seated-opening (plain_group count) _ in
+reached-opening g is plain =
+    let seats : IsSeated (opening g) = seated-opening g _ in
     record {
-      plain = refl;
-      lawful = record { group = record { count = (above, upto); key = (omega arith, omega arith) }; steps = tt };
+      plain = plain;
+      lawful = record { group = is; steps = tt };
       calls = λ i. omega arith;
       up_count = seats.up_count;
       down_count = seats.down_count;
-      up_bytes = all-replicate HoldsBytes count [] tt;
-      down_bytes = all-replicate HoldsBytes count [] tt;
+      up_bytes = all-replicate HoldsBytes g.count [] tt;
+      down_bytes = all-replicate HoldsBytes g.count [] tt;
       by_count = seats.by_count;
       placed = seats.placed;
       servers_count = refl;
-      servers = (holds-fresh (plain_group count).mode count ready, (tt, (tt, (tt, tt))));
+      servers = (holds-fresh g.mode g.count ready, (tt, (tt, (tt, tt))));
     }
 
 -- ---- a client steps

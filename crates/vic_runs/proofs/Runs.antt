@@ -3,7 +3,7 @@ use Rattle.std.proofs.Common.{◌≡◌, ℕ, ◌+◌, ◌<◌, ◌≤◌, ◌^�
 use Rattle.std.specs.List.{AllByRecursion}
 use Rattle.std.proofs.lemmas.List.{length-take}
 use Rattle.vic_dict.specs.declared.op.Mode.TheVariants as mode
-use Rattle.vic_wire.specs.Hashes.{Group}
+use Rattle.vic_wire.specs.Hashes.{Group, IsGroup}
 use Rattle.vic_rules.specs.History.{IsLawful}
 use Rattle.vic_rules.specs.Trust.{IsForged}
 use Rattle.vic_honest.specs.Claims.{IsHonestScene}
@@ -14,16 +14,16 @@ use Rattle.vic_order.specs.Order.{Server, fresh_server, ready}
 use Rattle.vic_order.specs.Serving.{by_rule}
 use Rattle.vic_order.specs.Honest.{ruled, ComesHonestly, IsSame}
 use Rattle.vic_script.specs.declared.line.Line.{Line}
-use Rattle.vic_script.specs.declared.line.Line.TheVariants as line
 use Rattle.vic_script.specs.Lines.{lines_of, line_of}
 use Rattle.vic_order.specs.Scenes.{Scene, SceneOf, opening}
-use Rattle.vic_script.specs.Scenes.{Shown, done_line, bad_kind}
-use Rattle.vic_script.specs.Run.{limit, Played, plain_group, Tried, Fails, Does, tried_by, try_line, mode_in, run_of, is_honest, is_honest_script, group_in, history_in, group_of, history_of}
-use Rattle.vic_runs.specs.Claims.{RunsAreLawful, NothingIsForged, RunsAreHonest, ClaimsHold}
+use Rattle.vic_script.specs.Scenes.{Shown, done_line, bad_kind, is_honest_line}
+use Rattle.vic_script.specs.Run.{limit, plain_group, group_by, Place, Before, Heads, Stands, scene_in, Played, Tried, Fails, Does, tried_by, try_event, try_line, mode_in, run_of, is_honest, is_honest_script, group_in, history_in, group_of, history_of}
+use Rattle.vic_runs.specs.Claims.{FitsLine, RunsAreLawful, NothingIsForged, RunsAreHonest, ClaimsHold}
 use Rattle.vic_runs.specs.Reached.{IsReached, IsHonestlyReached}
 use Rattle.vic_script.proofs.Forged.{is_forged-none}
 use Rattle.vic_runs.proofs.Lists.{all_each}
 use Rattle.vic_runs.proofs.Words.{FitsIn, text_fits}
+use Rattle.vic_runs.proofs.Headers.{keyed, first_so, header_so, plain_is_group, keyed_is_group}
 use Rattle.vic_runs.proofs.Reached.{reached-more, reached-opening, reached-lawful, reached-line}
 use Rattle.vic_runs.proofs.Lines.{few_calls}
 use Rattle.vic_runs.proofs.Kept.{same_is_kept}
@@ -44,56 +44,52 @@ ReachedIn (Some s) n = IsReached s n
 -- a line that was tried is bad, or its scene is reached
 abbrev pub TriedReaches : Tried → ℕ → Type 0
 TriedReaches (Fails k) n = Unit {0}
-TriedReaches (Does s text) n = IsReached s n
+TriedReaches (Does next text) n = ReachedIn (scene_in next) n
 
 tried-by : (bad : Option ℕ) (shown : Shown) (n : ℕ) → (bad ≡ None → IsReached shown.scene n) → TriedReaches (tried_by bad shown) n
 tried-by None shown n h = h refl
 tried-by (Some k) shown n h = tt
 
-tried-first : (l : Line) (n : ℕ) → FitsIn (Some l) → TriedReaches (try_line None (Some l)) (n + 1)
-tried-first (line.Clients count) n fits = reached-more (opening (plain_group count)) 0 (n + 1) (omega arith) (reached-opening count fits.0 fits.1)
-tried-first (line.Key digits) n fits = tt
-tried-first (line.Hostile name k) n fits = tt
-tried-first (line.Call i o) n fits = tt
-tried-first (line.Poll i) n fits = tt
-tried-first (line.Sync i) n fits = tt
-tried-first (line.Serve i) n fits = tt
-tried-first (line.Take i) n fits = tt
-tried-first (line.Run i) n fits = tt
-tried-first (line.Give i payload) n fits = tt
-tried-first (line.Again i) n fits = tt
-tried-first (line.Flip i k) n fits = tt
-tried-first (line.Resend i) n fits = tt
-tried-first (line.Copy k t) n fits = tt
-tried-first (line.Move i k) n fits = tt
-tried-first line.Skip n fits = tt
+tried-event : (s : Scene) (l : Line) (n : ℕ) → IsReached s n → n + 1 < 2 ^ 32 → FitsLine l → TriedReaches (try_event s l) (n + 1)
+tried-event s l n h few fits = tried-by (bad_kind s l) (done_line by_rule s l) (n + 1) (λ good. reached-line s n l h (few_calls s n h.calls few l) good fits)
+
+-- a group without objects opens so
+pub opens_reached : (g : Group) (n : ℕ) → IsGroup g → g.mode ≡ mode.Plain → IsReached (opening g) n
+opens_reached g n is plain = reached-more (opening g) 0 n (omega arith) (reached-opening g is plain)
 
 -- a line that fits leads on to a scene that is reached, or is bad
-pub tried : (scene : Option Scene) (l : Option Line) (n : ℕ) → ReachedIn scene n → n + 1 < 2 ^ 32 → FitsIn l → TriedReaches (try_line scene l) (n + 1)
-tried None None n h few fits = tt
-tried None (Some l) n h few fits = tried-first l n fits
-tried (Some s) None n h few fits = tt
-tried (Some s) (Some l) n h few fits = tried-by (bad_kind s l) (done_line by_rule s l) (n + 1) (λ good. reached-line s n l h (few_calls s n h.calls few l) good fits)
+pub tried : (place : Place) (l : Option Line) (n : ℕ) → ReachedIn (scene_in place) n → n + 1 < 2 ^ 32 → FitsIn l → TriedReaches (try_line place l) (n + 1)
+tried Before None n r few fits = tt
+tried Before (Some l) n r few fits =
+    first_so (λ (x : Line) (t : Tried). FitsLine x → TriedReaches t (n + 1)) (λ count is. opens_reached (plain_group count) (n + 1) (plain_is_group count is.0 is.1) refl) (λ is. tt) (λ x is. tt) l fits
+tried (Heads h) None n r few fits = tt
+tried (Heads h) (Some l) n r few fits =
+    header_so (λ (x : Line) (t : Tried). FitsLine x → TriedReaches t (n + 1)) h
+    (λ digits is. opens_reached (group_by (keyed h digits)) (n + 1) (keyed_is_group h digits r.lawful.group is) r.plain) (λ digits is. tt)
+    (λ is. reached-more (opening (group_by h)) n (n + 1) (omega arith) r) (λ x is. tried-event (opening (group_by h)) x n r few is) l fits
+tried (Stands s) None n r few fits = tt
+tried (Stands s) (Some l) n r few fits = tried-event s l n r few fits
 
 -- ---- all lines
 
 -- where a script stands after n lines, and what its run leaves
-abbrev pub StandsReached : ℕ → Option Scene → Type 0
-StandsReached n scene = ReachedIn scene n
+abbrev pub StandsReached : ℕ → Place → Type 0
+StandsReached n place = ReachedIn (scene_in place) n
 
-abbrev LeavesReached : Option Scene → Played → Type 0
-LeavesReached scene p = (m : ℕ) × ReachedIn p.scene m
+abbrev LeavesReached : Place → Played → Type 0
+LeavesReached place p = (m : ℕ) × ReachedIn p.scene m
 
-goes : (n : ℕ) (scene : Option Scene) (t : Tried) → ReachedIn scene n → TriedReaches t (n + 1) → GoesSo AnyText StandsReached LeavesReached n scene t
-goes n scene (Fails kind) h r = λ number. (n, h)
-goes n scene (Does s text) h r = (r, λ p claim. claim)
+goes : (n : ℕ) (place : Place) (t : Tried) → ReachedIn (scene_in place) n → TriedReaches t (n + 1) → GoesSo AnyText StandsReached LeavesReached n place t
+goes n place (Fails kind) h r = λ number. (n, h)
+goes n place (Does next text) h r = (r, λ p claim. claim)
 
 each_line : EachLine AnyText StandsReached LeavesReached
 each_line = record {
-  closed = λ number. (0, tt);
-  done = λ n s h. (n, h);
-  long = λ n number scene h. (n, h);
-  line = λ n scene text h few good. goes n scene (try_line scene (line_of (mode_in scene) text)) h (tried scene (line_of (mode_in scene) text) n h few (text_fits (mode_in scene) text));
+  done = λ n number place h. (n, h);
+  long = λ n number place h. (n, h);
+  line = λ n place text h few good.
+      let l : Option Line = line_of (mode_in (scene_in place)) text in
+      goes n place (try_line place l) h (tried place l n h few (text_fits (mode_in (scene_in place)) text));
 }
 
 -- a script reaches the scene that it leaves
@@ -102,7 +98,7 @@ reached-run script = claimed-run AnyText StandsReached LeavesReached each_line t
 
 -- ---- what each run is
 
--- a script that never opened has made no step
+-- a script whose header never began has made no step
 lawful-in : (scene : Option Scene) (n : ℕ) → ReachedIn scene n → IsLawful (group_in scene) (history_in scene)
 lawful-in None n h = record { group = record { count = (omega arith, omega arith); key = (omega arith, omega arith) }; steps = tt }
 lawful-in (Some s) n h = reached-lawful s n h
@@ -130,42 +126,31 @@ HonestFor (Some s) l = is_honest l ≡ true
 -- a line that was tried is bad, or its scene is such a one
 abbrev pub TriedHonest : Tried → ℕ → Type 0
 TriedHonest (Fails k) n = Unit {0}
-TriedHonest (Does s text) n = IsHonestlyReached IsSame s n
+TriedHonest (Does next text) n = HonestIn (scene_in next) n
 
 honest_tried-by : (bad : Option ℕ) (shown : Shown) (n : ℕ) → (bad ≡ None → IsHonestlyReached IsSame shown.scene n) → TriedHonest (tried_by bad shown) n
 honest_tried-by None shown n h = h refl
 honest_tried-by (Some k) shown n h = tt
 
-honest_opens : (count n : ℕ) → 0 < count → count ≤ 64 → IsHonestlyReached IsSame (opening (plain_group count)) n
-honest_opens count n above upto =
-    let g : Group = plain_group count in
-    honest-more IsSame (opening g) 0 n (omega arith) (honest-opening IsSame g (fresh_server g.mode g.count ready) (record { count = (above, upto); key = (omega arith, omega arith) }) refl refl)
+honest_tried-event : (s : Scene) (l : Line) (n : ℕ) → IsHonestlyReached IsSame s n → n + 1 < 2 ^ 32 → FitsLine l → is_honest_line l ≡ true → TriedHonest (try_event s l) (n + 1)
+honest_tried-event s l n h few fits honest =
+    honest_tried-by (bad_kind s l) (done_line by_rule s l) (n + 1) (λ good. honest-line IsSame by_rule same_is_kept s n l h (few_calls s n h.calls few l) good fits honest)
 
-honest_tried-first : (l : Line) (n : ℕ) → FitsIn (Some l) → TriedHonest (try_line None (Some l)) n
-honest_tried-first (line.Clients count) n fits = honest_opens count n fits.0 fits.1
-honest_tried-first (line.Key digits) n fits = tt
-honest_tried-first (line.Hostile name k) n fits = tt
-honest_tried-first (line.Call i o) n fits = tt
-honest_tried-first (line.Poll i) n fits = tt
-honest_tried-first (line.Sync i) n fits = tt
-honest_tried-first (line.Serve i) n fits = tt
-honest_tried-first (line.Take i) n fits = tt
-honest_tried-first (line.Run i) n fits = tt
-honest_tried-first (line.Give i payload) n fits = tt
-honest_tried-first (line.Again i) n fits = tt
-honest_tried-first (line.Flip i k) n fits = tt
-honest_tried-first (line.Resend i) n fits = tt
-honest_tried-first (line.Copy k t) n fits = tt
-honest_tried-first (line.Move i k) n fits = tt
-honest_tried-first line.Skip n fits = tt
+honest_opens : (g : Group) (n : ℕ) → IsGroup g → g.mode ≡ mode.Plain → IsHonestlyReached IsSame (opening g) n
+honest_opens g n is plain = honest-more IsSame (opening g) 0 n (omega arith) (honest-opening IsSame g (fresh_server g.mode g.count ready) is plain refl)
 
 -- an honest line that fits leads on to such a scene, or is bad
-pub honest_tried : (scene : Option Scene) (l : Option Line) (n : ℕ) → HonestIn scene n → n + 1 < 2 ^ 32 → FitsIn l → HonestFor scene l → TriedHonest (try_line scene l) (n + 1)
-honest_tried None None n h few fits honest = tt
-honest_tried None (Some l) n h few fits honest = honest_tried-first l (n + 1) fits
-honest_tried (Some s) None n h few fits honest = tt
-honest_tried (Some s) (Some l) n h few fits honest =
-    honest_tried-by (bad_kind s l) (done_line by_rule s l) (n + 1) (λ good. honest-line IsSame by_rule same_is_kept s n l h (few_calls s n h.calls few l) good fits honest)
+pub honest_tried : (place : Place) (l : Option Line) (n : ℕ) → HonestIn (scene_in place) n → n + 1 < 2 ^ 32 → FitsIn l → HonestFor (scene_in place) l → TriedHonest (try_line place l) (n + 1)
+honest_tried Before None n r few fits honest = tt
+honest_tried Before (Some l) n r few fits honest =
+    first_so (λ (x : Line) (t : Tried). FitsLine x → TriedHonest t (n + 1)) (λ count is. honest_opens (plain_group count) (n + 1) (plain_is_group count is.0 is.1) refl) (λ is. tt) (λ x is. tt) l fits
+honest_tried (Heads h) None n r few fits honest = tt
+honest_tried (Heads h) (Some l) n r few fits honest =
+    header_so (λ (x : Line) (t : Tried). FitsLine x → is_honest_line x ≡ true → TriedHonest t (n + 1)) h
+    (λ digits is so. honest_opens (group_by (keyed h digits)) (n + 1) (keyed_is_group h digits r.comes.run.group is) r.plain) (λ digits is so. tt)
+    (λ is so. honest-more IsSame (opening (group_by h)) n (n + 1) (omega arith) r) (λ x is so. honest_tried-event (opening (group_by h)) x n r few is so) l fits honest
+honest_tried (Stands s) None n r few fits honest = tt
+honest_tried (Stands s) (Some l) n r few fits honest = honest_tried-event s l n r few fits honest
 
 -- a line of an honest script
 abbrev pub IsHonestText : List ℕ → Type 0
@@ -181,23 +166,23 @@ pub honest-texts : (script : List ℕ) → is_honest_script script ≡ true → 
 honest-texts script honest = all_true (λ text. is_honest (line_of (Some mode.Plain) text)) IsHonestText (λ text e. e) (lines_of (take (limit + 1) script)) honest
 
 -- where an honest script stands after n lines, and what its run leaves
-abbrev pub StandsHonest : ℕ → Option Scene → Type 0
-StandsHonest n scene = HonestIn scene n
+abbrev pub StandsHonest : ℕ → Place → Type 0
+StandsHonest n place = HonestIn (scene_in place) n
 
-abbrev LeavesHonest : Option Scene → Played → Type 0
-LeavesHonest scene p = (m : ℕ) × HonestIn p.scene m
+abbrev LeavesHonest : Place → Played → Type 0
+LeavesHonest place p = (m : ℕ) × HonestIn p.scene m
 
-honest_goes : (n : ℕ) (scene : Option Scene) (t : Tried) → HonestIn scene n → TriedHonest t (n + 1) → GoesSo IsHonestText StandsHonest LeavesHonest n scene t
-honest_goes n scene (Fails kind) h r = λ number. (n, h)
-honest_goes n scene (Does s text) h r = (r, λ p claim. claim)
+honest_goes : (n : ℕ) (place : Place) (t : Tried) → HonestIn (scene_in place) n → TriedHonest t (n + 1) → GoesSo IsHonestText StandsHonest LeavesHonest n place t
+honest_goes n place (Fails kind) h r = λ number. (n, h)
+honest_goes n place (Does next text) h r = (r, λ p claim. claim)
 
 each_honest_line : EachLine IsHonestText StandsHonest LeavesHonest
 each_honest_line = record {
-  closed = λ number. (0, tt);
-  done = λ n s h. (n, h);
-  long = λ n number scene h. (n, h);
-  line = λ n scene text h few good. honest_goes n scene (try_line scene (line_of (mode_in scene) text)) h
-      (honest_tried scene (line_of (mode_in scene) text) n h few (text_fits (mode_in scene) text) (honest_for scene n text h good));
+  done = λ n number place h. (n, h);
+  long = λ n number place h. (n, h);
+  line = λ n place text h few good.
+      let l : Option Line = line_of (mode_in (scene_in place)) text in
+      honest_goes n place (try_line place l) h (honest_tried place l n h few (text_fits (mode_in (scene_in place)) text) (honest_for (scene_in place) n text h good));
 }
 
 -- an honest script reaches such a scene

@@ -20,7 +20,7 @@ use Rattle.vic_spellings.proofs.Bytes.{bytes-cons}
 use Rattle.vic_script.specs.declared.line.Line.{Line}
 use Rattle.vic_script.specs.declared.line.Line.TheVariants as line
 use Rattle.vic_script.specs.Words.{is_plain, is_lower_hex, is_percent, hex_word, word_bytes, word_number, word_capped}
-use Rattle.vic_script.specs.Lines.{put_first, lines_of, words_of, within, key_of, value_of, prefix_of, put_of, op_of, call_of, clients_of, named, give_of, pair_of, is_place, copy_of, paired, header_of, called, event_of, or_line, line_in, line_of}
+use Rattle.vic_script.specs.Lines.{put_first, lines_of, words_of, within, key_of, value_of, prefix_of, put_of, op_of, call_of, clients_of, named, give_of, pair_of, is_place, copy_of, paired, header_of, is_key_digits, key_line, next_header_of, called, event_of, or_line, line_in, is_skipped, line_of}
 use Rattle.vic_runs.specs.Claims.{FitsLine}
 
 -- ---- the lines of a script
@@ -209,6 +209,19 @@ header-fits (name ∷ []) = tt
 header-fits (name ∷ a ∷ []) = line-either (bytes_eq name (codes "clients")) (clients_of (word_number a)) None (clients-fit (word_number a)) tt
 header-fits (name ∷ a ∷ b ∷ others) = tt
 
+key-in : (word : List ℕ) (b : Bool) → (b ≡ true → FitsLine (line.Key word)) → FitsIn (if b then Some (line.Key word) else None)
+key-in word true h = h refl
+key-in word false h = tt
+
+key-fits : (word : List ℕ) → FitsIn (key_line word)
+key-fits word = key-in word (is_key_digits word) (λ e. e)
+
+next_header-fits : (words : List (List ℕ)) → FitsIn (next_header_of words)
+next_header-fits [] = tt
+next_header-fits (name ∷ []) = tt
+next_header-fits (name ∷ a ∷ []) = line-either (bytes_eq name (codes "key")) (key_line a) None (key-fits a) tt
+next_header-fits (name ∷ a ∷ b ∷ others) = tt
+
 called-fits : (kind : Mode) (name a : List ℕ) (others : List (List ℕ)) → FitsIn (called kind name a others)
 called-fits mode.Plain name a others = line-either (bytes_eq name (codes "call")) (call_of (word_capped a) (op_of others)) None (call-fits (word_capped a) (op_of others) (op-fits others)) tt
 called-fits mode.Objects name a others = tt
@@ -226,12 +239,14 @@ or-fits None y h k = k
 
 words-fit : (kind : Option Mode) (words : List (List ℕ)) → FitsIn (line_in kind words)
 words-fit None words = header-fits words
-words-fit (Some kind) words = or-fits (header_of words) (event_of kind words) (header-fits words) (event-fits kind words)
+words-fit (Some kind) words =
+    or-fits (header_of words) (or_line (next_header_of words) (event_of kind words)) (header-fits words)
+    (or-fits (next_header_of words) (event_of kind words) (next_header-fits words) (event-fits kind words))
 
 -- what a text spells fits
 pub text_fits : (kind : Option Mode) (text : List ℕ) → FitsIn (line_of kind text)
 unfolding line_of
-text_fits kind text = words-fit kind (words_of text)
+text_fits kind text = line-either (is_skipped text) (Some line.Skip) (line_in kind (words_of text)) tt (words-fit kind (words_of text))
 
 pub line_fits : (kind : Option Mode) (text : List ℕ) (l : Line) → line_of kind text ≡ Some l → FitsLine l
 line_fits kind text l e = subst FitsIn e (text_fits kind text)

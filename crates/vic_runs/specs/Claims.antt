@@ -16,14 +16,16 @@ use Rattle.vic_honest.specs.Claims.{StandsAsFated, NoneHalts}
 use Rattle.vic_script.specs.declared.line.Line.{Line}
 use Rattle.vic_script.specs.declared.line.Line.TheVariants as line
 use Rattle.vic_order.specs.Scenes.{Scene, server_at}
+use Rattle.vic_script.specs.Lines.{is_key_digits}
 use Rattle.vic_script.specs.Scenes.{said}
 use Rattle.vic_script.specs.Run.{Bad, run_of, is_honest_script, group_of, history_of, bad_line_of}
 use Rattle.vic_script.specs.Print.{is_forged}
 
--- the operation of a call is within its lengths and is bytes, a group has 1 to 64 clients, and a payload is bytes
+-- the operation of a call is within its lengths and is bytes, a group has 1 to 64 clients, its key is spelled by as many digits as it
+-- may have, and a payload is bytes
 abbrev pub FitsLine : Line → Type 0
 FitsLine (line.Clients n) = (0 < n) × (n ≤ 64)
-FitsLine (line.Key digits) = Unit {0}
+FitsLine (line.Key digits) = is_key_digits digits ≡ true
 FitsLine (line.Hostile name n) = Unit {0}
 FitsLine (line.Call i o) = Fits o × AreBytesIn o
 FitsLine (line.Poll i) = Unit {0}

@@ -1,6 +1,8 @@
 -- The lines of a script, from bytes to words and from words to lines.
-use Rattle.std.specs.Prelude.{ℕ, Bool, ◌&&◌, List, [], ◌∷◌, length, Option, Some, None, option_map, nat_eq, nat_lt, nat_le, if◌then◌else◌, codes}
+use Rattle.std.specs.Prelude.{ℕ, ◌%◌, Bool, true, ◌&&◌, List, [], ◌∷◌, length, Option, Some, None, option_map, nat_eq, nat_lt, nat_le, if◌then◌else◌, codes}
+use Rattle.std.specs.List.{list_all}
 use Rattle.std.specs.Str.{bytes_eq}
+use Rattle.hex.specs.Hex.{is_hex_digit}
 use Rattle.vic_dict.specs.declared.op.Op.{Op}
 use Rattle.vic_dict.specs.declared.op.Op.TheVariants as op
 use Rattle.vic_dict.specs.declared.op.Mode.{Mode}
@@ -102,10 +104,22 @@ paired name a b =
     else if bytes_eq name (codes "move") then pair_of line.Move (word_capped a) (word_capped b)
     else None
 
--- a line of the header
+-- the first line of a header
 abbrev pub header_of : List (List ℕ) → Option Line
 header_of (name ∷ a ∷ []) = if bytes_eq name (codes "clients") then clients_of (word_number a) else None
 header_of words = None
+
+-- the digits of a group's key: 2 to 128 hexadecimal digits in an even number, capital or small
+abbrev pub is_key_digits : List ℕ → Bool
+is_key_digits word = nat_le 2 (length word) && (nat_le (length word) 128 && (nat_eq (length word % 2) 0 && list_all is_hex_digit word))
+
+abbrev pub key_line : List ℕ → Option Line
+key_line word = if is_key_digits word then Some (line.Key word) else None
+
+-- a line of a header behind its first one
+abbrev pub next_header_of : List (List ℕ) → Option Line
+next_header_of (name ∷ a ∷ []) = if bytes_eq name (codes "key") then key_line a else None
+next_header_of words = None
 
 -- a call of an operation on the dictionary, which a group of mode plain has
 abbrev pub called : Mode → List ℕ → List ℕ → List (List ℕ) → Option Line
@@ -123,10 +137,16 @@ abbrev pub or_line : Option Line → Option Line → Option Line
 or_line (Some l) other = Some l
 or_line None other = other
 
--- the line that a text spells, if it spells one; before the mode is known only the header's first line does
+-- the line that words spell, if they spell one; before the mode is known only the header's first line does
 abbrev pub line_in : Option Mode → List (List ℕ) → Option Line
 line_in None words = header_of words
-line_in (Some kind) words = or_line (header_of words) (event_of kind words)
+line_in (Some kind) words = or_line (header_of words) (or_line (next_header_of words) (event_of kind words))
 
+-- an empty line, or a comment, which begins with #
+abbrev pub is_skipped : List ℕ → Bool
+is_skipped [] = true
+is_skipped (b ∷ bs) = nat_eq b 35
+
+-- the line that a text spells, if it spells one
 unfoldable pub line_of : Option Mode → List ℕ → Option Line
-line_of kind text = line_in kind (words_of text)
+line_of kind text = if is_skipped text then Some line.Skip else line_in kind (words_of text)

@@ -1,6 +1,8 @@
 -- The run of a script: its lines done one after the other, up to the first bad one.
-use Rattle.std.specs.Prelude.{ℕ, ◌+◌, Bool, true, List, [], ◌∷◌, ◌++◌, length, take, replicate, Option, Some, None, nat_lt, if◌then◌else◌, min}
+use Rattle.std.specs.Prelude.{ℕ, ◌+◌, Bool, true, List, [], ◌∷◌, ◌++◌, length, take, replicate, Option, Some, None, is_none, unwrap_or, nat_lt, if◌then◌else◌, min}
 use Rattle.std.specs.List.{list_all}
+use Rattle.std.specs.Result.{result_ok}
+use Rattle.hex.specs.Hex.{decode_of}
 use Rattle.vic_dict.specs.declared.op.Mode.{Mode}
 use Rattle.vic_dict.specs.declared.op.Mode.TheVariants as mode
 use Rattle.vic_wire.specs.Hashes.{Group}
@@ -21,64 +23,108 @@ pub record Bad : Type 0 where
   pub number : ℕ
   pub kind : ℕ
 
--- a script that was run: where it stands, if it has opened; what its lines printed; and its first bad line, if there is one
+-- the key of a group whose header names none: 32 zeros
+abbrev pub zero_key : List ℕ
+zero_key = replicate 32 0
+
+abbrev pub plain_group : ℕ → Group
+plain_group count = record { mode = mode.Plain; count = count; key = zero_key }
+
+-- a header: the mode of the group, how many clients it has, and its key, if it names one
+pub record Header : Type 0 where
+  pub mode : Mode
+  pub count : ℕ
+  pub key : Option (List ℕ)
+
+abbrev pub group_by : Header → Group
+group_by h = record { mode = h.mode; count = h.count; key = unwrap_or h.key zero_key }
+
+-- where a script stands: before its header, in it, or behind it
+pub data Place : Type 0 where
+  Before : Place
+  Heads : (h : Header) → Place
+  Stands : (s : Scene) → Place
+
+-- its scene, once the header has begun: all clients have come in at one server
+abbrev pub scene_in : Place → Option Scene
+scene_in Before = None
+scene_in (Heads h) = Some (opening (group_by h))
+scene_in (Stands s) = Some s
+
+-- a script that was run: where it stands, if its header has begun; what its lines printed; and its first bad line, if there is one
 pub record Played : Type 0 where
   pub scene : Option Scene
   pub text : List ℕ
   pub bad : Option Bad
 
-abbrev pub stops : Option Scene → ℕ → ℕ → Played
-stops scene n k = record { scene = scene; text = []; bad = Some (record { number = n; kind = k }) }
+abbrev pub stops : Place → ℕ → ℕ → Played
+stops place n k = record { scene = scene_in place; text = []; bad = Some (record { number = n; kind = k }) }
 
 abbrev pub printed_before : List ℕ → Played → Played
 printed_before text p = record { scene = p.scene; text = text ++ p.text; bad = p.bad }
 
--- the group that a script opens without a key of its own: its key is 32 zeros
-abbrev pub plain_group : ℕ → Group
-plain_group count = record { mode = mode.Plain; count = count; key = replicate 32 0 }
-
--- what trying a line comes to: it is bad by some kind, or it leads on to a scene and prints a text
+-- what trying a line comes to: it is bad by some kind, or it leads on to a place and prints a text
 pub data Tried : Type 0 where
   Fails : (kind : ℕ) → Tried
-  Does : (scene : Scene) (text : List ℕ) → Tried
+  Does : (place : Place) (text : List ℕ) → Tried
 
 abbrev pub tried_by : Option ℕ → Shown → Tried
 tried_by (Some k) shown = Fails k
-tried_by None shown = Does shown.scene shown.text
+tried_by None shown = Does (Stands shown.scene) shown.text
 
--- a line is tried: the first one has to open the scene
-abbrev pub try_line : Option Scene → Option Line → Tried
-try_line None None = Fails 1
-try_line None (Some (line.Clients n)) = Does (opening (plain_group n)) []
-try_line None (Some l) = Fails 1
-try_line (Some s) None = Fails 1
-try_line (Some s) (Some l) = tried_by (bad_kind s l) (done_line by_rule s l)
+-- a line is tried in a scene
+abbrev pub try_event : Scene → Line → Tried
+try_event s l = tried_by (bad_kind s l) (done_line by_rule s l)
+
+-- a line is tried before the header: only its first line begins it
+abbrev pub try_first : Line → Tried
+try_first (line.Clients n) = Does (Heads (record { mode = mode.Plain; count = n; key = None })) []
+try_first line.Skip = Does Before []
+try_first l = Fails 1
+
+-- a line is tried in the header, which names one key at most; a line of another kind ends it
+abbrev pub try_header : Header → Line → Tried
+try_header h (line.Key digits) = if is_none h.key then Does (Heads (record h { key = result_ok (decode_of digits) })) [] else Fails 1
+try_header h line.Skip = Does (Heads h) []
+try_header h l = try_event (opening (group_by h)) l
+
+-- a line is tried
+abbrev pub try_line : Place → Option Line → Tried
+try_line place None = Fails 1
+try_line Before (Some l) = try_first l
+try_line (Heads h) (Some l) = try_header h l
+try_line (Stands s) (Some l) = try_event s l
 
 -- the mode, once it is known
 abbrev pub mode_in : Option Scene → Option Mode
 mode_in None = None
 mode_in (Some s) = Some s.group.mode
 
-abbrev pub follow : ℕ → Option Scene → Tried → (Scene → Played) → Played
-follow n scene (Fails k) rest = stops scene n k
-follow n scene (Does s text) rest = printed_before text (rest s)
+abbrev pub follow : ℕ → Place → Tried → (Place → Played) → Played
+follow n place (Fails k) rest = stops place n k
+follow n place (Does next text) rest = printed_before text (rest next)
 
 -- the place behind a line that begins behind so many bytes of a script; its own 0a, if it has one, belongs to it
 abbrev pub place_behind : ℕ → ℕ → List ℕ → ℕ
 place_behind total before text = min (before + length text + 1) total
 
+-- where no line is left, and the next one would have this number: a script whose header never began is bad there
+abbrev pub bad_end : ℕ → Place → Option Bad
+bad_end n Before = Some (record { number = n; kind = 1 })
+bad_end n (Heads h) = None
+bad_end n (Stands s) = None
+
 -- the lines from line n on, which begin behind so many bytes. A line that reaches past the limit is bad by kind 7, before all
--- other kinds; a script that never opened is bad at the line behind its last one
-unfoldable pub play : ℕ → ℕ → ℕ → Option Scene → List (List ℕ) → Played
-play total before n None [] = stops None n 1
-play total before n (Some s) [] = record { scene = Some s; text = []; bad = None }
-play total before n scene (text ∷ texts) =
-    if nat_lt limit (place_behind total before text) then stops scene n 7
-    else follow n scene (try_line scene (line_of (mode_in scene) text)) (λ s. play total (place_behind total before text) (n + 1) (Some s) texts)
+-- other kinds
+unfoldable pub play : ℕ → ℕ → ℕ → Place → List (List ℕ) → Played
+play total before n place [] = record { scene = scene_in place; text = []; bad = bad_end n place }
+play total before n place (text ∷ texts) =
+    if nat_lt limit (place_behind total before text) then stops place n 7
+    else follow n place (try_line place (line_of (mode_in (scene_in place)) text)) (λ next. play total (place_behind total before text) (n + 1) next texts)
 
 -- the run of a script; what stands behind the byte past the limit doesn't matter
 unfoldable pub run_of : List ℕ → Played
-run_of script = let known = take (limit + 1) script in play (length known) 0 1 None (lines_of known)
+run_of script = let known = take (limit + 1) script in play (length known) 0 1 Before (lines_of known)
 
 -- ---- honest scripts
 
@@ -92,7 +138,7 @@ is_honest_script script = list_all (λ text. is_honest (line_of (Some mode.Plain
 
 -- ---- what a run tells
 
--- its group; before a script has opened, one that makes no step
+-- its group; before its header has begun, one that makes no step
 abbrev pub group_in : Option Scene → Group
 group_in None = plain_group 1
 group_in (Some s) = s.group

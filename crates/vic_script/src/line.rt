@@ -6,9 +6,9 @@ use vic_dict::{Bytes, Op};
 /// stands as that number.
 #[derive(Debug, Drop)]
 pub enum Line {
-    /// The header of a group of so many clients.
+    /// The first line of the header, of a group of so many clients.
     Clients(u8),
-    /// The digits of the group's key, as they are written. No text spells it yet.
+    /// The digits of the group's key, as they are written: 2 to 128 of them, in an even number, capital or small.
     Key(Bytes),
     /// The name of a kind of hostile servers, and after how many requests server 1 becomes one. No text spells it yet.
     Hostile(Bytes, u32),
@@ -36,6 +36,6 @@ pub enum Line {
     Copy(u32, u8),
     /// A client is served by a server from now on.
     Move(u32, u32),
-    /// An empty line or a comment, which does nothing. No text spells it yet.
+    /// An empty line or a comment, which does nothing.
     Skip,
 }

@@ -21,7 +21,7 @@ use Rattle.vic_script.specs.Words.{is_plain, is_lower_hex, is_percent, hex_word,
 use Rattle.vic_script.specs.Lines.{put_first, lines_of, words_of, within, key_of, value_of, prefix_of, put_of, op_of}
 use Rattle.vic_text.specs.declared.client_line.ClientLine.{ClientLine}
 use Rattle.vic_text.specs.declared.client_line.ClientLine.TheVariants as line
-use Rattle.vic_text.specs.ClientLines.{client_line_of, plain_line, call_line, or_line, settle_of}
+use Rattle.vic_text.specs.ClientLines.{client_line_of, client_line_in, plain_line, call_line, or_line, settle_of}
 use Rattle.vic_session.specs.Talking.{CanBegin}
 
 -- ---- byte words
@@ -160,7 +160,9 @@ or-can kind None y h k = k
 
 pub spelled-can : (kind : Mode) (text : List ℕ) → CanIn (client_line_of kind text) kind
 unfolding client_line_of
-spelled-can kind text = or-can kind (plain_line (words_of text)) (call_line kind (words_of text)) (plain-can kind (words_of text)) (call-can kind (words_of text))
+spelled-can kind text =
+    can-either kind (is_skipped text) (Some line.Skip) (client_line_in kind (words_of text)) tt
+    (or-can kind (plain_line (words_of text)) (call_line kind (words_of text)) (plain-can kind (words_of text)) (call-can kind (words_of text)))
 
 can-begin : (l : ClientLine) (kind : Mode) → MayCall l kind → CanBegin l kind
 can-begin (line.Call o) kind h = (h.0, h.1.0)

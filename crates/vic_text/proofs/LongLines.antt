@@ -2,7 +2,7 @@
 use Rattle.std.proofs.Common.{◌≡◌, ℕ, List, [], ◌∷◌, None, refl, if◌then◌else◌, nat_eq, true, false}
 use Rattle.vic_dict.specs.declared.op.Mode.{Mode}
 use Rattle.vic_text.specs.ClientLines.{plain_line}
-use Rattle.vic_script.specs.Lines.{words_of, put_first, header_of, op_of, called, event_of}
+use Rattle.vic_script.specs.Lines.{words_of, put_first, header_of, next_header_of, op_of, called, event_of}
 
 -- every text has a word, though it may be empty
 pub put_first_some : (b : ℕ) (pieces : List (List ℕ)) → (w : List ℕ) × (ws : List (List ℕ)) × (put_first b pieces ≡ w ∷ ws)
@@ -17,9 +17,12 @@ words_some (b ∷ bs) = elim (nat_eq b 32) as (λ t. (w : List ℕ) × (ws : Lis
   | false ↦ put_first_some b (words_of bs)
 ]
 
--- a line of more words than two is no header
+-- a line of more words than two is none of a header
 pub header_more : (name number text : List ℕ) → header_of (name ∷ number ∷ words_of text) ≡ None
 header_more name number text = let some = words_some text in rw some.2 refl
+
+pub next_header_more : (name number text : List ℕ) → next_header_of (name ∷ number ∷ words_of text) ≡ None
+next_header_more name number text = let some = words_some text in rw some.2 refl
 
 -- and one of four words or more can only be a call
 pub event_long : (kind : Mode) (name number third text : List ℕ) → event_of kind (name ∷ number ∷ third ∷ words_of text) ≡ called kind name number (third ∷ words_of text)

@@ -3,7 +3,7 @@ use Rattle.std.specs.Prelude.{ℕ, ◌&&◌, List, [], ◌∷◌, Option, Some, 
 use Rattle.std.specs.Str.{bytes_eq}
 use Rattle.vic_dict.specs.declared.op.Mode.{Mode}
 use Rattle.vic_dict.specs.declared.op.Mode.TheVariants as mode
-use Rattle.vic_script.specs.Lines.{words_of, op_of}
+use Rattle.vic_script.specs.Lines.{words_of, op_of, is_skipped}
 use Rattle.vic_script.specs.Words.{word_number}
 use Rattle.vic_text.specs.declared.client_line.ClientLine.{ClientLine}
 use Rattle.vic_text.specs.declared.client_line.ClientLine.TheVariants as line
@@ -30,6 +30,9 @@ abbrev pub call_line : Mode → List (List ℕ) → Option ClientLine
 call_line mode.Plain words = option_map line.Call (op_of words)
 call_line mode.Objects words = None
 
+abbrev pub client_line_in : Mode → List (List ℕ) → Option ClientLine
+client_line_in kind words = or_line (plain_line words) (call_line kind words)
+
 -- the line that a text spells, if it spells one
 unfoldable pub client_line_of : Mode → List ℕ → Option ClientLine
-client_line_of kind text = let words = words_of text in or_line (plain_line words) (call_line kind words)
+client_line_of kind text = if is_skipped text then Some line.Skip else client_line_in kind (words_of text)

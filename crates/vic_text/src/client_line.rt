@@ -3,9 +3,9 @@
 ghost use Rattle.std.specs.Prelude.{◌≡◌, [], ◌∷◌, IfOk, Some, None};
 ghost use Rattle.vic_script.specs.Lines.{words_of};
 ghost use Rattle.vic_script.specs.Words.{word_number};
-ghost use Rattle.vic_text.specs.ClientLines.{client_line_of, plain_line, call_line, settle_of, or_line};
+ghost use Rattle.vic_text.specs.ClientLines.{client_line_of, client_line_in, plain_line, call_line, settle_of};
 
-use crate::read::{LineFault, op_of_words};
+use crate::read::{LineFault, is_skipped, op_of_words};
 use crate::word::{is_name, number_of, split_word};
 use std::alloc::Global;
 use vic_dict::{Mode, NoMemory, Op};
@@ -19,7 +19,7 @@ pub enum ClientLine {
     Sync,
     /// Polls while the client has unsealed calls, at most so often.
     Settle(u16),
-    /// Nothing. No text spells it yet.
+    /// An empty line or a comment, which does nothing.
     Skip,
 }
 
@@ -39,6 +39,9 @@ pub fn read_client_line(alloc: Global, text: &[u8], mode: Mode) -> Result<Client
 fn line_of(alloc: Global, text: &[u8], mode: Mode) -> Result<Option<ClientLine>, NoMemory>
     ensures { IfOk result (λ o. o ≡ client_line_of mode text.now) }
 {
+    if is_skipped(text) {
+        return Ok(Some(ClientLine::Skip));
+    }
     match split_word(text) {
         None => Ok(line_of_word(text)),
         Some((name, others)) => line_of_words(alloc, name, others, mode),
@@ -65,7 +68,7 @@ fn line_of_words(
     others: &[u8],
     mode: Mode,
 ) -> Result<Option<ClientLine>, NoMemory>
-    ensures { IfOk result (λ o. o ≡ or_line (plain_line (name.now ∷ words_of others.now)) (call_line mode (name.now ∷ words_of others.now))) }
+    ensures { IfOk result (λ o. o ≡ client_line_in mode (name.now ∷ words_of others.now)) }
 {
     match settle_line(name, others) {
         Some(line) => Ok(Some(line)),

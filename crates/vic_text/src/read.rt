@@ -2,9 +2,9 @@
 
 ghost use Rattle.std.specs.Prelude.{◌≡◌, [], ◌∷◌, IfOk, Some, None};
 ghost use Rattle.vic_script.specs.Words.{word_bytes, word_number, word_capped};
-ghost use Rattle.vic_script.specs.Lines.{words_of, within as within_of, key_of, value_of, prefix_of, op_of, named, give_of, pair_of, copy_of, paired, called, clients_of, header_of, line_in, line_of as line_by};
+ghost use Rattle.vic_script.specs.Lines.{words_of, within as within_of, key_of, value_of, prefix_of, op_of, named, give_of, pair_of, copy_of, paired, called, clients_of, header_of, key_line as key_by, next_header_of, or_line, is_skipped as skip_test, line_in, line_of as line_by};
 
-use crate::word::{bytes_of, is_name, number_of, split_word};
+use crate::word::{are_key_digits, bytes_of, is_name, number_of, split_word};
 use std::alloc::Global;
 use thiserror::Error;
 use vic_dict::{Bytes, Mode, NoMemory, Op};
@@ -23,7 +23,8 @@ pub enum LineFault {
     NoMemory,
 }
 
-/// The line that a text without its 0a spells, in a group of this mode. Before the mode is known, only a line of the header does.
+/// The line that a text without its 0a spells, in a group of this mode. Before the mode is known, only the first line of a header
+/// does, or one that is skipped.
 pub fn read_line(alloc: Global, text: &[u8], mode: Option<Mode>) -> Result<Line, LineFault>
     ensures ok { IfOk result (λ l. line_by mode text.now ≡ Some l) }
     ensures grammar { result ≡ Err LineFault.Grammar → line_by mode text.now ≡ None }
@@ -39,9 +40,22 @@ pub fn read_line(alloc: Global, text: &[u8], mode: Option<Mode>) -> Result<Line,
 fn line_of(alloc: Global, text: &[u8], mode: Option<Mode>) -> Result<Option<Line>, NoMemory>
     ensures { IfOk result (λ o. o ≡ line_by mode text.now) }
 {
+    if is_skipped(text) {
+        return Ok(Some(Line::Skip));
+    }
     match split_word(text) {
         None => Ok(None),
         Some((name, others)) => line_of_words(alloc, name, others, mode),
+    }
+}
+
+/// Whether a line is empty or a comment.
+pub(crate) fn is_skipped(text: &[u8]) -> bool
+    ensures { result ≡ skip_test text.now }
+{
+    match text {
+        [] => true,
+        [first, ..] => *first == b'#',
     }
 }
 
@@ -54,22 +68,59 @@ fn line_of_words(
     ensures { IfOk result (λ o. o ≡ line_in mode (name.now ∷ words_of others.now)) }
 {
     match split_word(others) {
-        None => Ok(two_words(name, others, mode)),
+        None => two_words(alloc, name, others, mode),
         Some((number, words)) => more_words(alloc, name, number, words, mode),
     }
 }
 
 /// A line of two words.
-fn two_words(name: &[u8], number: &[u8], mode: Option<Mode>) -> Option<Line>
-    ensures { result ≡ line_in mode (name.now ∷ number.now ∷ []) }
+fn two_words(
+    alloc: Global,
+    name: &[u8],
+    word: &[u8],
+    mode: Option<Mode>,
+) -> Result<Option<Line>, NoMemory>
+    ensures { IfOk result (λ o. o ≡ line_in mode (name.now ∷ word.now ∷ [])) }
 {
-    match (header_line(name, number), mode) {
-        (Some(line), _) => Some(line),
-        (None, None) => None,
-        (None, Some(_)) => named_line(name, number),
+    match (header_line(name, word), mode) {
+        (Some(line), _) => Ok(Some(line)),
+        (None, None) => Ok(None),
+        (None, Some(_)) => later_line(alloc, name, word),
     }
 }
 
+/// A line of two words behind the first one of a header.
+fn later_line(alloc: Global, name: &[u8], word: &[u8]) -> Result<Option<Line>, NoMemory>
+    ensures { IfOk result (λ o. o ≡ or_line (next_header_of (name.now ∷ word.now ∷ [])) (named name.now word.now)) }
+{
+    match next_header_line(alloc, name, word)? {
+        Some(line) => Ok(Some(line)),
+        None => Ok(named_line(name, word)),
+    }
+}
+
+/// A line of a header behind its first one.
+fn next_header_line(alloc: Global, name: &[u8], word: &[u8]) -> Result<Option<Line>, NoMemory>
+    ensures { IfOk result (λ o. o ≡ next_header_of (name.now ∷ word.now ∷ [])) }
+{
+    if is_name(name, b"key") {
+        key_line(alloc, word)
+    } else {
+        Ok(None)
+    }
+}
+
+/// The digits stay as they are written.
+fn key_line(alloc: Global, digits: &[u8]) -> Result<Option<Line>, NoMemory>
+    ensures { IfOk result (λ o. o ≡ key_by digits.now) }
+{
+    if !are_key_digits(digits) {
+        return Ok(None);
+    }
+    Ok(Some(Line::Key(Bytes::of(alloc, digits)?)))
+}
+
+/// The first line of a header.
 fn header_line(name: &[u8], number: &[u8]) -> Option<Line>
     ensures { result ≡ header_of (name.now ∷ number.now ∷ []) }
 {
@@ -118,7 +169,7 @@ fn named_line(name: &[u8], number: &[u8]) -> Option<Line>
 }
 
 /// A line of more than two words, of which the third and later ones are given as one text.
-#[tactic(auto, using(crate::proofs::LongLines::header_more, crate::proofs::LongLines::event_long))]
+#[tactic(auto, using(crate::proofs::LongLines::header_more, crate::proofs::LongLines::next_header_more, crate::proofs::LongLines::event_long))]
 fn more_words(
     alloc: Global,
     name: &[u8],

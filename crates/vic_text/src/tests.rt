@@ -9,7 +9,7 @@ const NONE: &str = "Err(Grammar)";
 type Row = (&'static str, &'static str);
 
 /// Lines of both modes, once the mode is known.
-const LINES: [Row; 39] = [
+const LINES: [Row; 45] = [
     ("poll 1", "Ok(Poll(1))"),
     ("sync 2", "Ok(Sync(2))"),
     ("serve 3", "Ok(Serve(3))"),
@@ -45,9 +45,15 @@ const LINES: [Row; 39] = [
     ("poll 1 ", NONE),
     ("poll\t1", NONE),
     ("poll", NONE),
-    ("", NONE),
-    ("# a", NONE),
-    ("key 00", NONE),
+    (" ", NONE),
+    (" # a", NONE),
+    ("key 0b", "Ok(Key(Bytes { items: [48, 98] }))"),
+    ("key aBC9", "Ok(Key(Bytes { items: [97, 66, 67, 57] }))"),
+    ("key 0", NONE),
+    ("key 00b", NONE),
+    ("key 0g", NONE),
+    ("key %00", NONE),
+    ("key 00 00", NONE),
     ("hostile fork 0", NONE),
 ];
 
@@ -83,7 +89,11 @@ const CALLS: [Row; 15] = [
 ];
 
 /// Lines that are read before the mode is known, too.
-const HEADERS: [Row; 7] = [
+const HEADERS: [Row; 11] = [
+    ("", "Ok(Skip)"),
+    ("#", "Ok(Skip)"),
+    ("# a", "Ok(Skip)"),
+    ("#key 0b\r", "Ok(Skip)"),
     ("clients 1", "Ok(Clients(1))"),
     ("clients 64", "Ok(Clients(64))"),
     ("clients 0", NONE),
@@ -120,15 +130,16 @@ fn lines(rt: HostRuntime) -> Result<(), Fail> {
     Ok(())
 }
 
-// A key and a prefix may have 255 bytes, and a value 64.
+// A key and a prefix may have 255 bytes, a value 64, and the key of a group 128 digits.
 #[test]
 fn longest(rt: HostRuntime) -> Result<(), Fail> {
-    for (front, most) in [
-        ("call 1 get ", 255),
-        ("call 1 list ", 255),
-        ("call 1 put a ", 64),
+    for (front, most, more) in [
+        ("call 1 get ", 255, 256),
+        ("call 1 list ", 255, 256),
+        ("call 1 put a ", 64, 65),
+        ("key ", 128, 130),
     ] {
-        for count in [most, most + 1] {
+        for count in [most, more] {
             let line = format!(in rt.alloc(); "{front}{}", "a".repeat(rt.alloc(), count)?)?;
             let read = shown(rt.alloc(), line.as_str(), Some(Mode::Plain))?;
             assert!(rt; (read.as_str() == NONE) == (count > most), "{front}{count}");

@@ -5,7 +5,8 @@ ghost use Rattle.std.specs.List.{list_all};
 ghost use Rattle.std.specs.Str.{bytes_eq};
 ghost use Rattle.vic_script.specs.Words.{is_plain as plain_test, is_lower_hex as hex_test, is_digit as digit_test, is_number as number_test, number_of as number_by, word_bytes, hex_word, word_capped};
 ghost use Rattle.vic_text.specs.Splits.{IsFirstPlace};
-ghost use Rattle.vic_script.specs.Lines.{lines_of, words_of};
+ghost use Rattle.vic_script.specs.Lines.{lines_of, words_of, is_key_digits};
+ghost use Rattle.hex.specs.Hex.{is_hex_digit};
 
 use hex::FromHexError;
 use std::alloc::Global;
@@ -106,6 +107,19 @@ fn plain_bytes(alloc: Global, word: &[u8]) -> Result<Option<Bytes>, NoMemory>
         return Ok(None);
     }
     Ok(Some(Bytes::of(alloc, word)?))
+}
+
+/// Whether a word is the digits of a group's key: 2 to 128 hexadecimal ones in an even number, capital or small.
+pub(crate) fn are_key_digits(word: &[u8]) -> bool
+    ensures { result ≡ is_key_digits word.now }
+{
+    2 <= word.len() && word.len() <= 128 && word.len() % 2 == 0 && are_hex(word)
+}
+
+fn are_hex(word: &[u8]) -> bool
+    ensures { result ≡ list_all is_hex_digit word.now }
+{
+    word.iter().all(|b| b.is_ascii_hexdigit())
 }
 
 /// Whether a word is a number in decimal, without leading zeros.

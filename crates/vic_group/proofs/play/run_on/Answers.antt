@@ -1,8 +1,8 @@
-use Rattle.std.proofs.Common.{◌≡◌, ℕ, ◌+◌, List, length, Some, sym, ap, ◌∙◌, arith}
+use Rattle.std.proofs.Common.{◌≡◌, ℕ, ◌+◌, List, length, sym, ap, ◌∙◌, arith}
 use Rattle.std.proofs.lemmas.Bool.{eqb-true}
 use Rattle.vic_script.specs.Lines.{lines_of}
 use Rattle.vic_order.specs.Scenes.{Scene}
-use Rattle.vic_script.specs.Run.{Played as Run, printed_before, play}
+use Rattle.vic_script.specs.Run.{Stands, Played as Run, printed_before, play}
 use Rattle.vic_group.specs.Playing.{scene_of, tried_at}
 use Rattle.vic_group.proofs.Playing.{run_line, goes_on, leaves_stop, leaves_end, lines_none}
 use Rattle.vic_group.proofs.play.run_on.Goals as goal
@@ -15,9 +15,9 @@ returns-in-Some c =
     let behind : ℕ = c.place_behind-behind.result in
     let text : List ℕ = c.first_line.result.0.now in
     let others : List ℕ = c.first_line.result.1.now in
-    let run : Run = play total c.args.place 2 (Some (scene_of c.args.opened)) (lines_of c.args.lines.now) in
-    let on = run_line run total c.loop-rest.before n behind s c.loop-rest.out c.loop-rest.rest.now text others c.loop-rest.invariant.run c.first_line.ensures.lines c.place_behind-behind.ensures in
-    leaves_stop n run (Some s) (tried_at behind s text) (λ t. play total behind (n + 1) (Some t) (lines_of others)) c.do_line.new.world c.loop-rest.out c.do_line.new.out c.in-Some.bad
+    let run : Run = play total c.args.place c.args.first (Stands (scene_of c.args.opened)) (lines_of c.args.lines.now) in
+    let on = run_line run total c.loop-rest.before n behind (Stands s) c.loop-rest.out c.loop-rest.rest.now text others c.loop-rest.invariant.run c.first_line.ensures.lines c.place_behind-behind.ensures in
+    leaves_stop n run (Stands s) (tried_at behind (Stands s) text) (λ next. play total behind (n + 1) next (lines_of others)) c.do_line.new.world c.loop-rest.out c.do_line.new.out c.in-Some.bad
     on (rw (sym c.in-Some.is) c.in_ok-bad.ensures)
 
 pub loop-rest-preserved : goal.loop-rest-preserved
@@ -28,9 +28,9 @@ loop-rest-preserved c =
     let behind : ℕ = c.place_behind-behind.result in
     let text : List ℕ = c.first_line.result.0.now in
     let others : List ℕ = c.first_line.result.1.now in
-    let run : Run = play total c.args.place 2 (Some (scene_of c.args.opened)) (lines_of c.args.lines.now) in
-    let on = run_line run total c.loop-rest.before n behind s c.loop-rest.out c.loop-rest.rest.now text others c.loop-rest.invariant.run c.first_line.ensures.lines c.place_behind-behind.ensures in
-    let next = goes_on n run (Some s) (tried_at behind s text) (λ t. play total behind (n + 1) (Some t) (lines_of others)) c.do_line.new.world c.loop-rest.out c.do_line.new.out on (rw (sym c.in-None.is) c.in_ok-bad.ensures) in
+    let run : Run = play total c.args.place c.args.first (Stands (scene_of c.args.opened)) (lines_of c.args.lines.now) in
+    let on = run_line run total c.loop-rest.before n behind (Stands s) c.loop-rest.out c.loop-rest.rest.now text others c.loop-rest.invariant.run c.first_line.ensures.lines c.place_behind-behind.ensures in
+    let next = goes_on n run (Stands s) (tried_at behind (Stands s) text) (λ next. play total behind (n + 1) next (lines_of others)) c.do_line.new.world c.loop-rest.out c.do_line.new.out on (rw (sym c.in-None.is) c.in_ok-bad.ensures) in
     record {
       shows = next.0.0;
       reached = next.0.1;
@@ -43,7 +43,7 @@ pub returns : goal.returns
 returns c =
     let n : ℕ = c.loop-rest.number in
     let s : Scene = scene_of c.loop-rest.world in
-    let run : Run = play c.args.total c.args.place 2 (Some (scene_of c.args.opened)) (lines_of c.args.lines.now) in
+    let run : Run = play c.args.total c.args.place c.args.first (Stands (scene_of c.args.opened)) (lines_of c.args.lines.now) in
     let none : length c.loop-rest.rest.now ≡ 0 = eqb-true _ 0 (sym c.is_empty.ensures ∙ c.loop-rest-test.false) in
-    let end = c.loop-rest.invariant.run ∙ ap (λ (texts : List (List ℕ)). printed_before c.loop-rest.out (play c.args.total c.loop-rest.before n (Some s) texts)) (lines_none c.loop-rest.rest.now none) in
+    let end = c.loop-rest.invariant.run ∙ ap (λ (texts : List (List ℕ)). printed_before c.loop-rest.out (play c.args.total c.loop-rest.before n (Stands s) texts)) (lines_none c.loop-rest.rest.now none) in
     leaves_end c.args.total c.loop-rest.before n run c.loop-rest.world c.loop-rest.out end c.loop-rest.invariant.shows

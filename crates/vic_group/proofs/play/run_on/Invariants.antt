@@ -1,6 +1,6 @@
-use Rattle.std.proofs.Common.{◌≡◌, ◌≤◌, ◌+◌, length, Some}
+use Rattle.std.proofs.Common.{◌≡◌, ◌≤◌, ◌+◌, length}
 use Rattle.vic_script.specs.Lines.{lines_of}
-use Rattle.vic_script.specs.Run.{printed_before, play}
+use Rattle.vic_script.specs.Run.{Stands, printed_before, play}
 use Rattle.vic_runs.specs.Reached.{IsReached}
 use Rattle.vic_group.specs.Playing.{scene_of, Shows}
 use Rattle.vic_group.proofs.play.run_on.Given as goal
@@ -12,7 +12,7 @@ invariant-loop-rest l = record {
   reached : IsReached (scene_of l.world) l.number;
   place : l.before ≤ l.total;
   few : l.number + length l.rest ≤ 16777219;
-  run : play l.total l.place 2 (Some (scene_of l.fn.opened)) (lines_of l.lines) ≡ printed_before l.out (play l.total l.before l.number (Some (scene_of l.world)) (lines_of l.rest));
+  run : play l.total l.place l.first (Stands (scene_of l.fn.opened)) (lines_of l.lines) ≡ printed_before l.out (play l.total l.before l.number (Stands (scene_of l.world)) (lines_of l.rest));
 }
 
 abbrev pub decreases-loop-rest : goal.decreases-loop-rest
