@@ -67,6 +67,21 @@ fn does_a_script(rt: HostRuntime) -> Result<(), Fail> {
     Ok(())
 }
 
+// Comments and empty lines send and print nothing, and are counted.
+#[test]
+fn skips_lines(rt: HostRuntime) -> Result<(), Fail> {
+    let (_, _, sent) = run(rt.alloc(), &RIGHT, b"put a x", REFUSED)?;
+    let script = b"# a call\n\nput a x\n\n# the end";
+    let (status, printed, sent_too) = run(rt.alloc(), &RIGHT, script, REFUSED)?;
+    assert_eq!(rt; status, Status::Ok);
+    assert_eq!(rt; printed.as_slice(), b"refused 2\nbye\n".as_slice());
+    assert_eq!(rt; sent_too.as_slice(), sent.as_slice());
+    let (status, printed, _) = run(rt.alloc(), &RIGHT, b"# a\n\n # b\nput a x", REFUSED)?;
+    assert_eq!(rt; status, Status::BadLine);
+    assert_eq!(rt; printed.as_slice(), b"line 3: not a line of this script\n".as_slice());
+    Ok(())
+}
+
 #[test]
 fn ends_by_each_fault_of_the_link(rt: HostRuntime) -> Result<(), Fail> {
     let (status, printed, _) = run(rt.alloc(), &RIGHT, b"put a x", b"\0\0\0\x02\x46\x06")?;

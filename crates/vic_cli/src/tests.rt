@@ -10,7 +10,7 @@ use vic_ports::{Calls, MemorySink, MemorySource, NeverFails};
 type Row = (&'static str, &'static str, u8);
 
 /// Runs with each status that a script gives. In the second, client 1 takes an entry that nobody made, with a right tag.
-const ROWS: [Row; 4] = [
+const ROWS: [Row; 17] = [
     (
         "clients 1 / call 1 put a x / run 1 / call 1 get a / run 1",
         "1 done stored / 1 took / 1 took / 1 done value x / 1 took / 1 took / view 1 / 1.1 put a x = done stored / 1.2 get a = done value x / tags made",
@@ -25,6 +25,78 @@ const ROWS: [Row; 4] = [
     (
         "clients 1 / call 1 put a x / call 1 get a",
         "line 3: client is busy",
+        5,
+    ),
+    // A header alone.
+    (
+        "clients 1 / key 00",
+        "view 1 / tags made",
+        0,
+    ),
+    // Comments and empty lines before the header, in it, between other lines and at the end.
+    (
+        "# one client /  / clients 1 / # its key /  / key 0B0b / # a put / call 1 put a x /  / run 1 / # the end",
+        "1 done stored / 1 took / 1 took / view 1 / 1.1 put a x = done stored / tags made",
+        0,
+    ),
+    // A reply with tags of the key that the header names, and of another key.
+    (
+        "clients 2 / key aBC9 / call 1 put a x / give 1 %420000000000020200000001010162017a2f7fd8d203fe081535efede1e1e91c40dd9a9a7646bed4de6ca80b04dfbab36101000000010101610178593e7efc1d64b258620a2eadbb6c3d8a512ef1165b3997a7891dc8ccfcd62c9b0100",
+        "1 done stored / view 1 / 1.1 put a x = done stored / view 2 / agree 1 2 0 / tags not made",
+        1,
+    ),
+    (
+        "clients 2 / key aBC8 / call 1 put a x / give 1 %420000000000020200000001010162017a2f7fd8d203fe081535efede1e1e91c40dd9a9a7646bed4de6ca80b04dfbab36101000000010101610178593e7efc1d64b258620a2eadbb6c3d8a512ef1165b3997a7891dc8ccfcd62c9b0100",
+        "1 halted 3 / view 1 / view 2 / agree 1 2 0 / tags made",
+        0,
+    ),
+    // A key twice, behind an event, before the header, of an odd number of digits.
+    (
+        "clients 1 / key 00 / # again / key 00",
+        "line 4: not a line of this script",
+        5,
+    ),
+    (
+        "clients 1 / poll 1 / key 00",
+        "line 3: not a line of this script",
+        5,
+    ),
+    (
+        "key 00 / clients 1",
+        "line 1: not a line of this script",
+        5,
+    ),
+    (
+        "clients 1 / key 000",
+        "line 2: not a line of this script",
+        5,
+    ),
+    // A second header, and none.
+    (
+        "clients 1 / key 00 / # again / clients 1",
+        "line 4: not a line of this script",
+        5,
+    ),
+    (
+        "# clients 1",
+        "line 2: not a line of this script",
+        5,
+    ),
+    // Lines that are skipped are counted.
+    (
+        "# a / clients 1 /  / # b / take 1",
+        "line 5: nothing waiting",
+        5,
+    ),
+    // A line of a space, and a comment that doesn't begin its line.
+    (
+        "clients 1 /   / poll 1",
+        "line 2: not a line of this script",
+        5,
+    ),
+    (
+        "clients 1 / run 1 # nothing waits",
+        "line 2: not a line of this script",
         5,
     ),
 ];
@@ -98,10 +170,11 @@ fn faults(
     Ok(sink.held().as_slice() == text && ended.number() == status)
 }
 
-/// A script of so many bytes: its header, and one line of letters.
-fn long_script(alloc: Global, size: usize) -> Result<Bytes, NoMemory> {
+/// A script of so many bytes: its header, and one line of letters behind this one.
+fn long_script(alloc: Global, size: usize, first: u8) -> Result<Bytes, NoMemory> {
     let mut script = Bytes::of(alloc, b"clients 1\n")?;
-    for _ in 10..size {
+    script.push(first)?;
+    for _ in 11..size {
         script.push(b'a')?;
     }
     Ok(script)
@@ -165,17 +238,31 @@ fn one_fault(rt: HostRuntime) -> Result<(), Fail> {
 
 #[test]
 fn longest_script(rt: HostRuntime) -> Result<(), Fail> {
-    let script = long_script(rt.alloc(), 16_777_216)?;
-    assert!(rt;
-        prints(
-            rt.alloc(),
-            "group",
-            script,
-            b"line 2: not a line of this script\n",
-            5
-        )?
-    );
-    let script = long_script(rt.alloc(), 16_777_217)?;
-    assert!(rt; prints(rt.alloc(), "group", script, b"line 2: script too long\n", 5)?);
+    let rows = [
+        (16_777_216, b'a', "line 2: not a line of this script\n", 5),
+        (16_777_217, b'a', "line 2: script too long\n", 5),
+        (16_777_216, b'#', "view 1\ntags made\n", 0),
+        (16_777_217, b'#', "line 2: script too long\n", 5),
+    ];
+    for (size, first, text, status) in rows {
+        let script = long_script(rt.alloc(), size, first)?;
+        assert!(rt; prints(rt.alloc(), "group", script, text.as_bytes(), status)?, "{text}");
+    }
+    Ok(())
+}
+
+// Without their last byte 0a.
+#[test]
+fn unended_scripts(rt: HostRuntime) -> Result<(), Fail> {
+    let rows = [
+        ("\n", "line 2: not a line of this script\n", 5),
+        ("# a", "line 2: not a line of this script\n", 5),
+        ("# a\n\n", "line 3: not a line of this script\n", 5),
+        ("clients 1\n# a", "view 1\ntags made\n", 0),
+    ];
+    for (script, text, status) in rows {
+        let script = Bytes::of(rt.alloc(), script.as_bytes())?;
+        assert!(rt; prints(rt.alloc(), "group", script, text.as_bytes(), status)?, "{text}");
+    }
     Ok(())
 }

@@ -1,7 +1,9 @@
 -- A script's lines, done in a world that shows where the script stands.
-use Rattle.std.proofs.Common.{◌≡◌, ℕ, ◌+◌, ◌-◌, ◌<◌, ◌≤◌, ◌^◌, Bool, true, false, List, [], ◌∷◌, ◌++◌, length, take, Option, Some, None, Result, Ok, Err, refl, sym, ap, subst, ◌∙◌, arith, append_assoc, append-nil}
+use Rattle.std.proofs.Common.{◌≡◌, ℕ, ◌+◌, ◌-◌, ◌<◌, ◌≤◌, ◌^◌, Bool, true, false, List, [], ◌∷◌, ◌++◌, length, take, Option, Some, None, is_some, is_none, Result, Ok, Err, refl, sym, ap, subst, ◌∙◌, arith, append_assoc, append-nil}
 use Rattle.std.proofs.lemmas.Bool.{le-ltb, lt-ltb}
 use Rattle.std.specs.Prelude.{IfOk, if◌then◌else◌, nat_lt}
+use Rattle.std.specs.Result.{result_ok}
+use Rattle.hex.specs.Hex.{decode_of}
 use Rattle.std.proofs.lemmas.List.{take_all}
 use Rattle.vic_dict.specs.declared.op.Mode.{Mode}
 use Rattle.vic_dict.specs.declared.op.Mode.TheVariants as mode
@@ -28,7 +30,7 @@ use Rattle.vic_group.specs.declared.play.Ran.TheVariants as ran
 use Rattle.vic_group.specs.declared.world.World.{World}
 use Rattle.vic_group.specs.World.{MemberStands, ShowsScene, MayDo}
 use Rattle.vic_server.specs.Replay.{Kept}
-use Rattle.vic_group.specs.Playing.{state, scene_of, Shows, header_by, Leads, Tries, tried_at, Follows, Leaves, ended_by, end_of}
+use Rattle.vic_group.specs.Playing.{state, scene_of, Shows, header_by, HasFew, Leads, Tries, tried_at, Follows, Leaves, ended_by, end_of}
 use Rattle.vic_group.proofs.Members.{stand_at}
 use Rattle.vic_group.proofs.Scenes.{same_scene}
 
@@ -67,6 +69,56 @@ known_all n script few = sym (take_all (n + 1) script (omega (arith, few)))
 -- a line that begins a header
 pub leads_clients : (l : Option Line) (count : ℕ) → l ≡ Some (line.Clients count) → FitsLine (line.Clients count) → Leads Before l (headed.Goes (Some (record { count = count; key = None })))
 leads_clients l count e fits = subst (λ (o : Option Line). Leads Before o (headed.Goes (Some (record { count = count; key = None })))) (sym e) (refl, fits)
+
+no_second : (o : Option (List ℕ)) (t : Tried) → is_some o ≡ true → (if is_none o then t else Fails 1) ≡ Fails 1
+no_second (Some k) t e = refl
+no_second None t e = absurd cc
+
+first_key : (o : Option (List ℕ)) (t : Tried) → is_some o ≡ false → (if is_none o then t else Fails 1) ≡ t
+first_key (Some k) t e = absurd cc
+first_key None t e = refl
+
+-- a second key
+pub leads_again : (h : Header) (digits : List ℕ) → is_some h.key ≡ true → Leads (Heads (header_by h)) (Some (line.Key digits)) (headed.Bad 1)
+leads_again h digits e = no_second h.key (Does (Heads (record (header_by h) { key = result_ok (decode_of digits) })) []) e
+
+-- the first one
+pub leads_keyed : (h : Header) (digits key : List ℕ) → is_some h.key ≡ false → result_ok (decode_of digits) ≡ Some key → HasFew (Some h)
+    → Leads (Heads (header_by h)) (Some (line.Key digits)) (headed.Goes (Some (record { count = h.count; key = Some key })))
+leads_keyed h digits key e spelled few = (
+  first_key h.key (Does (Heads (record (header_by h) { key = result_ok (decode_of digits) })) []) e ∙ ap (λ (o : Option (List ℕ)). Does (Heads (record (header_by h) { key = o })) []) spelled,
+  few,
+)
+
+-- a line that isn't of a header
+abbrev pub NotOfHeader : Line → Type 0
+NotOfHeader (line.Key digits) = ⊥
+NotOfHeader line.Skip = ⊥
+NotOfHeader l = Unit {0}
+
+same-ended : (h : Told) (l : Line) → NotOfHeader l → try_line (Heads h) (Some l) ≡ try_line (Stands (opening (group_by h))) (Some l)
+same-ended h (line.Key digits) other = absurd other
+same-ended h line.Skip other = absurd other
+same-ended h (line.Clients count) other = refl
+same-ended h (line.Hostile name k) other = refl
+same-ended h (line.Call i o) other = refl
+same-ended h (line.Poll i) other = refl
+same-ended h (line.Sync i) other = refl
+same-ended h (line.Serve i) other = refl
+same-ended h (line.Take i) other = refl
+same-ended h (line.Run i) other = refl
+same-ended h (line.Give i payload) other = refl
+same-ended h (line.Again i) other = refl
+same-ended h (line.Flip i k) other = refl
+same-ended h (line.Resend i) other = refl
+same-ended h (line.Copy k t) other = refl
+same-ended h (line.Move i k) other = refl
+
+pub leads_ended : (h : Header) (l : Option Line) (x : Line) → HasFew (Some h) → l ≡ Some x → NotOfHeader x → Leads (Heads (header_by h)) l (headed.Ends h)
+leads_ended h l x few e other = subst (λ (o : Option Line). Leads (Heads (header_by h)) o (headed.Ends h)) (sym e) (refl, (same-ended (header_by h) x other, few))
+
+pub leads_grammar : (h : Header) (l : Option Line) → HasFew (Some h) → l ≡ None → Leads (Heads (header_by h)) l (headed.Ends h)
+leads_grammar h l few e = subst (λ (o : Option Line). Leads (Heads (header_by h)) o (headed.Ends h)) (sym e) (refl, (refl, few))
 
 -- ---- a line
 

@@ -46,13 +46,13 @@ pub(crate) fn head_line(
     ensures { IfOk result (λ r. Leads (place_by header) (line_of (mode_in (scene_in (place_by header))) text.now) r) }
 {
     match header {
-        None => first_line(alloc, text),
-        Some(header) => next_line(alloc, header, text),
+        None => opening_line(alloc, text),
+        Some(header) => later_line(alloc, header, text),
     }
 }
 
 /// Reads a line before the header has begun.
-fn first_line(alloc: Global, text: &[u8]) -> Result<Headed, NoMemory>
+fn opening_line(alloc: Global, text: &[u8]) -> Result<Headed, NoMemory>
     ensures { IfOk result (λ r. Leads Before (line_of None text.now) r) }
 {
     match read_line(alloc, text, None) {
@@ -64,7 +64,7 @@ fn first_line(alloc: Global, text: &[u8]) -> Result<Headed, NoMemory>
 }
 
 /// Reads a line behind the first one of a header.
-fn next_line(alloc: Global, header: Header, text: &[u8]) -> Result<Headed, NoMemory>
+fn later_line(alloc: Global, header: Header, text: &[u8]) -> Result<Headed, NoMemory>
     requires { HasFew (Some header) }
     ensures { IfOk result (λ r. Leads (Heads (header_by header)) (line_of (Some mode.Plain) text.now) r) }
 {

@@ -1,6 +1,7 @@
 -- Lines before a header and in it, and the group that a header tells.
-use Rattle.std.proofs.Common.{◌≡◌, ℕ, ◌%◌, ◌<◌, ◌≤◌, Bool, true, false, List, [], length, Option, None, Result, refl, sym, subst, arith}
-use Rattle.std.specs.Prelude.{if◌then◌else◌, is_none, unwrap_or}
+use Rattle.std.proofs.Common.{◌≡◌, ℕ, ◌%◌, ◌<◌, ◌≤◌, Bool, true, false, ◌&&◌, List, [], length, Option, None, Result, refl, sym, subst, arith}
+use Rattle.std.specs.Prelude.{if◌then◌else◌, is_none, unwrap_or, nat_eq, nat_le}
+use Rattle.std.specs.List.{list_all}
 use Rattle.std.specs.Result.{result_ok}
 use Rattle.std.proofs.lemmas.Bool.{and_parts, leb-true, eqb-true}
 use Rattle.std.proofs.lemmas.List.Sums.{AllPass-from_list_all}
@@ -73,9 +74,11 @@ header_so P h names again skips ends line.Skip = skips
 -- 2 to 128 digits in an even number spell 1 to 64 bytes
 pub key_spelled : (digits : List ℕ) → is_key_digits digits ≡ true → (0 < length (unwrap_or (result_ok (decode_of digits)) zero_key)) × (length (unwrap_or (result_ok (decode_of digits)) zero_key) ≤ 64)
 key_spelled digits e =
-    let some = and_parts _ _ e in
-    let most = and_parts _ _ some.1 in
-    let even = and_parts _ _ most.1 in
+    let digital : Bool = list_all is_hex_digit digits in
+    let paired : Bool = nat_eq (length digits % 2) 0 in
+    let some = and_parts (nat_le 2 (length digits)) (nat_le (length digits) 128 && (paired && digital)) e in
+    let most = and_parts (nat_le (length digits) 128) (paired && digital) some.1 in
+    let even = and_parts paired digital most.1 in
     let r = decode_of-digits digits (eqb-true (length digits % 2) 0 even.0) (AllPass-from_list_all is_hex_digit digits even.1) in
     let twice = (decode_of-ok digits r.0 r.1).2 in
     subst (λ (d : Result (List ℕ) FromHexError). (0 < length (unwrap_or (result_ok d) zero_key)) × (length (unwrap_or (result_ok d) zero_key) ≤ 64)) (sym r.1)
