@@ -1,37 +1,98 @@
-use Rattle.std.proofs.Common.{◌≡◌, ℕ, List, [], ◌∷◌, length, refl, sym, ◌∙◌, arith}
+use Rattle.std.proofs.Common.{◌≡◌, ◌≤◌, ℕ, ◌+◌, List, [], length, Option, None, refl, sym, ap, subst, ◌∙◌, arith}
 use Rattle.std.proofs.lemmas.Bool.{eqb-true}
-use Rattle.vic_script.specs.Lines.{lines_of}
-use Rattle.vic_group.proofs.Playing.{leaves_empty, leaves_long, leaves_opened, leaves_unopened, leaves_lines, lines_none, if_ok-map}
+use Rattle.vic_script.specs.declared.line.Line.{Line}
+use Rattle.vic_script.specs.Lines.{lines_of, line_of}
+use Rattle.vic_script.specs.Run.{limit, Place, Before, scene_in, mode_in, place_behind, Played as Run, play}
+use Rattle.vic_group.specs.declared.header.Headed.{Headed}
+use Rattle.vic_group.specs.declared.header.Headed.TheVariants as headed
+use Rattle.vic_group.specs.declared.play.Ran.{Ran}
+use Rattle.vic_group.specs.Playing.{header_by, place_by, Leads, Leaves, tried_at}
+use Rattle.vic_group.proofs.Playing.{heading_line, tried_long, tried_short, head_stops, head_goes, head_ends, opened_shows, opened_reached, lines_none, play_nil, if_ok-map}
+use Rattle.vic_script.specs.Run.{group_by}
 use Rattle.vic_group.proofs.play.run_known.Goals as goal
 
-pub returns-then-is_empty : goal.returns-then-is_empty
-returns-then-is_empty c =
-    let none : length c.args.known.now ≡ 0 = eqb-true _ 0 (sym c.is_empty.ensures ∙ c.if-is_empty.true) in
+pub returns-then-behind-gt-SCRIPT_LIMIT : goal.returns-then-behind-gt-SCRIPT_LIMIT
+returns-then-behind-gt-SCRIPT_LIMIT c =
     let total : ℕ = length c.args.known.now in
-    leaves_lines (lines_of c.args.known.now) [] total _ c.unopened.result (lines_none c.args.known.now none) c.unopened.ensures (leaves_empty total)
-
-pub returns-then-place-gt-SCRIPT_LIMIT : goal.returns-then-place-gt-SCRIPT_LIMIT
-returns-then-place-gt-SCRIPT_LIMIT c =
-    let total : ℕ = length c.args.known.now in
+    let n : ℕ = c.loop-rest.number in
+    let place : Place = place_by c.loop-rest.header in
+    let behind : ℕ = c.place_behind-behind.result in
     let text : List ℕ = c.first_line.result.0.now in
     let others : List ℕ = c.first_line.result.1.now in
-    leaves_lines (lines_of c.args.known.now) (text ∷ lines_of others) total _ c.unopened-then-place-gt-SCRIPT_LIMIT.result c.first_line.ensures.lines c.unopened-then-place-gt-SCRIPT_LIMIT.ensures
-    (leaves_long total text (lines_of others) (omega (arith, c.place_behind-place.ensures, c.if-place-gt-SCRIPT_LIMIT.true)))
+    let run : Run = play total 0 1 Before (lines_of c.args.known.now) in
+    let on = heading_line run total c.loop-rest.before n behind place c.loop-rest.rest.now text others c.loop-rest.invariant.run c.first_line.ensures.lines c.place_behind-behind.ensures in
+    subst (λ (r : Ran). Leaves run r) (sym c.unopened.ensures)
+    (head_stops run n 7 place (tried_at behind place text) (λ next. play total behind (n + 1) next (lines_of others)) on (tried_long behind place text (omega (arith, c.if-behind-gt-SCRIPT_LIMIT.true))))
 
-pub returns-in-Some : goal.returns-in-Some
-returns-in-Some c =
+pub returns-in-Bad : goal.returns-in-Bad
+returns-in-Bad c =
     let total : ℕ = length c.args.known.now in
+    let n : ℕ = c.loop-rest.number in
+    let place : Place = place_by c.loop-rest.header in
+    let behind : ℕ = c.place_behind-behind.result in
     let text : List ℕ = c.first_line.result.0.now in
     let others : List ℕ = c.first_line.result.1.now in
-    if_ok-map c.run_on.result _ _
-    (λ r h. leaves_lines (lines_of c.args.known.now) (text ∷ lines_of others) total r r c.first_line.ensures.lines refl
-    (leaves_opened total text (lines_of others) c.in-Some.world r (omega (arith, c.place_behind-place.ensures, c.if-place-gt-SCRIPT_LIMIT.false)) (rw (sym c.in-Some.is) c.in_ok-world.ensures) (rw (sym c.place_behind-place.ensures) h)))
-    c.run_on.ensures
+    let run : Run = play total 0 1 Before (lines_of c.args.known.now) in
+    let spelled : Option Line = line_of (mode_in (scene_in place)) text in
+    let on = heading_line run total c.loop-rest.before n behind place c.loop-rest.rest.now text others c.loop-rest.invariant.run c.first_line.ensures.lines c.place_behind-behind.ensures in
+    let leads : Leads place spelled (headed.Bad c.in-Bad.kind) = subst (λ (h : Headed). Leads place spelled h) c.in-Bad.is c.in_ok-head_line.ensures in
+    let within : behind ≤ limit = omega (arith, c.if-behind-gt-SCRIPT_LIMIT.false) in
+    subst (λ (r : Ran). Leaves run r) (sym c.unopened-in-Bad.ensures)
+    (head_stops run n c.in-Bad.kind place (tried_at behind place text) (λ next. play total behind (n + 1) next (lines_of others)) on (tried_short behind place text within ∙ leads))
 
-pub returns-in-None : goal.returns-in-None
-returns-in-None c =
+pub opened-requires : goal.opened-requires
+opened-requires c =
+    let place : Place = place_by c.loop-rest.header in
+    let spelled : Option Line = line_of (mode_in (scene_in place)) c.first_line.result.0.now in
+    let leads : Leads place spelled (headed.Ends c.in-Ends.header) = subst (λ (h : Headed). Leads place spelled h) c.in-Ends.is c.in_ok-head_line.ensures in
+    leads.1.1
+
+pub run_on-requires-clause-shows : goal.run_on-requires-clause-shows
+run_on-requires-clause-shows c = opened_shows c.in_ok-world.world (group_by (header_by c.in-Ends.header)) c.in_ok-world.ensures
+
+pub run_on-requires-clause-reached : goal.run_on-requires-clause-reached
+run_on-requires-clause-reached c = opened_reached c.in_ok-world.world c.in-Ends.header c.loop-rest.number c.in_ok-world.ensures
+
+pub returns-in-Ends : goal.returns-in-Ends
+returns-in-Ends c =
     let total : ℕ = length c.args.known.now in
+    let n : ℕ = c.loop-rest.number in
+    let place : Place = place_by c.loop-rest.header in
     let text : List ℕ = c.first_line.result.0.now in
     let others : List ℕ = c.first_line.result.1.now in
-    leaves_lines (lines_of c.args.known.now) (text ∷ lines_of others) total _ c.unopened-in-None.result c.first_line.ensures.lines c.unopened-in-None.ensures
-    (leaves_unopened total text (lines_of others) (omega (arith, c.place_behind-place.ensures, c.if-place-gt-SCRIPT_LIMIT.false)) (rw (sym c.in-None.is) c.in_ok-world.ensures))
+    let run : Run = play total 0 1 Before (lines_of c.args.known.now) in
+    let spelled : Option Line = line_of (mode_in (scene_in place)) text in
+    let leads : Leads place spelled (headed.Ends c.in-Ends.header) = subst (λ (h : Headed). Leads place spelled h) c.in-Ends.is c.in_ok-head_line.ensures in
+    let within : place_behind total c.loop-rest.before text ≤ limit = omega (arith, c.place_behind-behind.ensures, c.if-behind-gt-SCRIPT_LIMIT.false) in
+    let on = head_ends run total c.loop-rest.before n place c.in-Ends.header c.in_ok-world.world c.loop-rest.rest.now text others c.loop-rest.invariant.run c.first_line.ensures.lines within leads c.in_ok-world.ensures in
+    if_ok-map c.run_on.result _ _ (λ r h. subst (λ (x : Run). Leaves x r) (sym on) h) c.run_on.ensures
+
+pub loop-rest-preserved : goal.loop-rest-preserved
+loop-rest-preserved c =
+    let total : ℕ = length c.args.known.now in
+    let n : ℕ = c.loop-rest.number in
+    let place : Place = place_by c.loop-rest.header in
+    let behind : ℕ = c.place_behind-behind.result in
+    let text : List ℕ = c.first_line.result.0.now in
+    let others : List ℕ = c.first_line.result.1.now in
+    let run : Run = play total 0 1 Before (lines_of c.args.known.now) in
+    let spelled : Option Line = line_of (mode_in (scene_in place)) text in
+    let on = heading_line run total c.loop-rest.before n behind place c.loop-rest.rest.now text others c.loop-rest.invariant.run c.first_line.ensures.lines c.place_behind-behind.ensures in
+    let leads : Leads place spelled (headed.Goes c.in-Goes.next) = subst (λ (h : Headed). Leads place spelled h) c.in-Goes.is c.in_ok-head_line.ensures in
+    let within : behind ≤ limit = omega (arith, c.if-behind-gt-SCRIPT_LIMIT.false) in
+    record {
+      header = leads.1;
+      place = omega (arith, c.place_behind-behind.ensures);
+      few = omega (arith, c.loop-rest.invariant.few, c.first_line.ensures.fewer);
+      run = head_goes run n place (place_by c.in-Goes.next) (tried_at behind place text) (λ next. play total behind (n + 1) next (lines_of others)) on (tried_short behind place text within ∙ leads.0);
+    }
+
+pub returns : goal.returns
+returns c =
+    let total : ℕ = length c.args.known.now in
+    let n : ℕ = c.loop-rest.number in
+    let place : Place = place_by c.loop-rest.header in
+    let run : Run = play total 0 1 Before (lines_of c.args.known.now) in
+    let none : length c.loop-rest.rest.now ≡ 0 = eqb-true _ 0 (sym c.is_empty.ensures ∙ c.loop-rest-test.false) in
+    let end = c.loop-rest.invariant.run ∙ ap (λ (texts : List (List ℕ)). play total c.loop-rest.before n place texts) (lines_none c.loop-rest.rest.now none) ∙ play_nil total c.loop-rest.before n place in
+    if_ok-map c.closed.result _ _ (λ r h. subst (λ (x : Run). Leaves x r) (sym end) h) c.closed.ensures
