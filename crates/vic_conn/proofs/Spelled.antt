@@ -2,7 +2,7 @@
 use Rattle.std.proofs.Common.{◌≡◌, ℕ, ◌<◌, ◌≤◌, ◌⊎◌, zero, suc, Bool, true, false, ltb, leb, ◌&&◌, get_or, List, [], ◌∷◌, ◌++◌, length, take, drop, refl, sym, ap, ◌∙◌, inl, inr, arith}
 use Rattle.std.specs.Int.{w32, to_be_bytes}
 use Rattle.std.proofs.lemmas.Bool.{and_parts, ltb-true, ltb-false, leb-true, leb-false}
-use Rattle.std.proofs.lemmas.List.{take-append-drop, length-take-le}
+use Rattle.std.proofs.lemmas.List.{take-append-drop, length-drop, length-take-le}
 use Rattle.std.proofs.lemmas.Nat.{be_bytes_4}
 use Rattle.vic_dict.specs.Lists.{AreBytes}
 use Rattle.vic_conn.specs.Frames.{Waits, Whole, Broken, is_length, front_of, frame_text}
@@ -96,6 +96,15 @@ waits_where bytes fits e =
       | inr w ↦ inr (ends_inside bytes fits (ltb-false _ _ w.0) w.1 (ltb-true _ _ w.2))
     ]
 
+waits_short : (bytes : List ℕ) → front_of bytes ≡ Waits → length bytes < 16777220
+waits_short bytes e =
+    let size = size_of bytes in
+    let rest = drop 4 bytes in
+    elim (waits_parts (ltb (length bytes) 4) (is_length size) (ltb (length rest) size) (take size rest) (drop size rest) size (sym (front_tested bytes) ∙ e)) [
+      | inl missing ↦ (let few = ltb-true (length bytes) 4 missing in omega (arith, few))
+      | inr w ↦ (let most = (allowed_length size w.1).1 in let less = ltb-true (length rest) size w.2 in omega (arith, most, less, length-drop 4 bytes))
+    ]
+
 pub fronts_are : FrontsAre
 fronts_are = record {
   whole = whole_text;
@@ -104,4 +113,5 @@ fronts_are = record {
   broken = broken_text;
   wrong = broken_wrong;
   waits = waits_where;
+  short = waits_short;
 }

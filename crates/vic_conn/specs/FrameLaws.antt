@@ -32,7 +32,8 @@ pub record EndInside (bytes : List ℕ) : Type 0 where
   pub most : size ≤ 16777216
   pub short : length begun < size
 
--- what stands in front: a whole frame is its own bytes, a broken length is no payload's, and a stream waits in a length or in a payload
+-- what stands in front: a whole frame is its own bytes, a broken length is no payload's, and a stream waits in a length or in a payload,
+-- with fewer bytes than the longest frame has
 pub record FrontsAre : Type 0 where
   pub whole : (bytes p behind : List ℕ) → AreBytes bytes → front_of bytes ≡ Whole p behind → bytes ≡ frame_text p ++ behind
   pub some : (bytes p behind : List ℕ) → front_of bytes ≡ Whole p behind → 0 < length p
@@ -40,6 +41,7 @@ pub record FrontsAre : Type 0 where
   pub broken : (bytes : List ℕ) (n : ℕ) → AreBytes bytes → front_of bytes ≡ Broken n → bytes ≡ to_be_bytes w32 n ++ drop 4 bytes
   pub wrong : (bytes : List ℕ) (n : ℕ) → front_of bytes ≡ Broken n → (n ≡ 0) ⊎ (16777216 < n)
   pub waits : (bytes : List ℕ) → AreBytes bytes → front_of bytes ≡ Waits → (length bytes < 4) ⊎ EndInside bytes
+  pub short : (bytes : List ℕ) → front_of bytes ≡ Waits → length bytes < 16777220
 
 -- a frame is read back, whatever stands behind it
 abbrev pub ReadsBack : Type 0

@@ -1,3 +1,4 @@
 pub mod ClientLines
 pub mod Splits
 pub mod Statuses
+pub mod Numbers

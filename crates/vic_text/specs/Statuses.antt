@@ -22,7 +22,8 @@ status_number status.GreetingRefused = 10
 -- the words of each command, behind the first one's
 abbrev pub other_commands : List (List ℕ)
 other_commands =
-    codes "client ADDRESS ID COUNT KEY MODE"
+    codes "drill NUMBER CLIENTS CALLS"
+    ∷ codes "client ADDRESS ID COUNT KEY MODE"
     ∷ codes "serve ADDRESS COUNT MODE CONNECTIONS"
     ∷ []
 

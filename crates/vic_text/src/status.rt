@@ -61,6 +61,7 @@ impl Status {
 /// The commands that stand; one more is one line more here, and in the list that the contract has.
 const USAGE: &str = concat!(
     "usage: vicos group",
+    " | drill NUMBER CLIENTS CALLS",
     " | client ADDRESS ID COUNT KEY MODE",
     " | serve ADDRESS COUNT MODE CONNECTIONS",
     "\n"

@@ -3,7 +3,8 @@
 ghost use Rattle.std.specs.Prelude.{◌≡◌, ◌<◌, ◌+◌, [], ◌∷◌, length, MatchOption, IfSome, IfOk, IsTrue, min, not, nat_eq, ◌||◌, None, Some, if◌then◌else◌};
 ghost use Rattle.std.specs.List.{list_all};
 ghost use Rattle.std.specs.Str.{bytes_eq};
-ghost use Rattle.vic_script.specs.Words.{is_plain as plain_test, is_lower_hex as hex_test, is_digit as digit_test, is_number as number_test, number_of as number_by, word_bytes, hex_word, word_capped};
+ghost use Rattle.vic_script.specs.Words.{is_plain as plain_test, is_lower_hex as hex_test, is_digit as digit_test, is_number as number_test, number_of as number_by, word_bytes, hex_word, word_number, word_capped};
+ghost use Rattle.vic_text.specs.Numbers.{at_most};
 ghost use Rattle.vic_text.specs.Splits.{IsFirstPlace};
 ghost use Rattle.vic_script.specs.Lines.{lines_of, words_of, is_key_digits};
 ghost use Rattle.hex.specs.Hex.{is_hex_digit};
@@ -154,6 +155,33 @@ pub fn number_of(word: &[u8]) -> Option<u32>
     } else {
         None
     }
+}
+
+/// The number that a word spells, in decimal without leading zeros, where the type has it.
+pub fn exact_number_of(word: &[u8]) -> Option<u32>
+    ensures { result ≡ at_most 4294967295 (word_number word.now) }
+{
+    if !is_number(word) {
+        return None;
+    }
+    let n = wide(word);
+    if n <= u64::from(u32::MAX) {
+        Some(n as u32)
+    } else {
+        None
+    }
+}
+
+/// The number of decimal digits, or the last of a type that is wider than a number of ours.
+fn wide(digits: &[u8]) -> u64
+    requires { IsTrue (list_all digit_test digits.now) }
+    ensures { result ≡ min (number_by digits.now) 18446744073709551615 }
+{
+    let mut n = 0u64;
+    for b in digits {
+        n = n.saturating_mul(10).saturating_add(u64::from(*b - b'0'));
+    }
+    n
 }
 
 /// The number of decimal digits, or the type's last.
