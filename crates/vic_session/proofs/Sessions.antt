@@ -4,7 +4,7 @@ use Rattle.std.specs.Prelude.{codes}
 use Rattle.vic_wire.specs.Hashes.{Group}
 use Rattle.vic_wire.specs.declared.message.ToClient.TheVariants as say
 use Rattle.vic_wire.specs.Reading.{read_answer}
-use Rattle.vic_rules.specs.Client.{at_start}
+use Rattle.vic_rules.specs.Client.{Standing, at_start}
 use Rattle.vic_client.specs.Kept.{Kept, StandsFor, group_of}
 use Rattle.vic_conn.specs.Frames.{frames_of}
 use Rattle.vic_ports.specs.Written.{AppendedAll, AppendedFront}
@@ -21,7 +21,7 @@ use Rattle.vic_session.specs.declared.place.Place.{Place}
 use Rattle.vic_session.specs.Talks.{Talk, Talker, Doing, Leaves, goes_on, hears, fresh, opening, talk, talker, one_of, sent_in}
 use Rattle.vic_session.specs.Talking.{On, Went, GoesTo, IsDoing, IsBusy, PrintsFront}
 use Rattle.vic_session.specs.Wires.{frames, Asks}
-use Rattle.vic_session.specs.Sessions.{Stage, Greets, Talks, Goes_away, hello, bye, requests, Read, IsOver, IsOwed, IsAt, AllAwaited, EndsBy, Sent, Prints, printed_at, IsSession}
+use Rattle.vic_session.specs.Sessions.{Stage, Greets, Talks, Goes_away, hello, bye, requests, Read, IsOver, IsOwed, IsAt, AllAwaited, EndsBy, Sent, Prints, printed_at, stands_at, IsLeftAt, StandsBehind, IsSessionOf}
 use Rattle.vic_session.specs.Running.{Greeted, JudgedHello, JudgedBye, Unanswered, PrintsBye, Parted, Left}
 use Rattle.vic_session.proofs.Told.{all_front, all_is_front, none_sent}
 use Rattle.vic_session.proofs.Extends.{extends_hears}
@@ -57,68 +57,88 @@ owed_busy at.Leaves d b i o = b
 owed_busy (at.Bad k) d b i o = b
 owed_busy (at.Halts k h) d b i o = b
 
+-- a client that stands there is left so, whatever the end is
+any_end : (end : SessionEnd) (g : Group) (me : ℕ) (s : Standing) (c : Kept) → IsLeftAt g me s c → StandsBehind end g me s c
+any_end ends.Ok g me s c here = here
+any_end (ends.BadLine n k) g me s c here = here
+any_end ends.LinkFault g me s c here = here
+any_end (ends.Halted k h) g me s c here = here
+any_end ends.BadFrame g me s c here = here
+any_end (ends.GreetingRefused r) g me s c here = here
+any_end ends.NoMemory g me s c here = tt
+
 module _ (g : Group) (me : ℕ) (script : List ℕ) (old : Told) (start : List ℕ) where
   talks : List (List ℕ) → Talk
   talks taken = talk (talker g me script) script taken
 
   -- an exchange failed
-  failed : (f : WireFault) (new : Told) (stage : Stage) (ps taken : List (List ℕ)) (left printed : List ℕ) → Failed f old new ps left (requests (talker g me script) (talk (talker g me script) script taken) stage)
+  failed : (f : WireFault) (new : Told) (stage : Stage) (ps taken : List (List ℕ)) (left printed : List ℕ) (kept : Kept) → Failed f old new ps left (requests (talker g me script) (talk (talker g me script) script taken) stage)
       → ((more : List (List ℕ)) → Read stage (ps ++ more) taken more) → AllAwaited (talker g me script) (opening (talker g me script) script) taken → IsAt stage (talk (talker g me script) script taken).doing
       → IsOwed stage (talk (talker g me script) script taken).doing → (stage ≡ Greets → left ≡ []) → printed ≡ start ++ printed_at stage (talk (talker g me script) script taken)
-      → IsSession g me script old start (end_for f) new printed
-  failed fault.Link new stage ps taken left printed x form awaited at owed none is = by_cause x.cause
+      → StandsBehind (end_for f) g me (stands_at stage (talk (talker g me script) script taken)) kept → IsSessionOf g me script old start (end_for f) new printed kept
+  failed fault.Link new stage ps taken left printed kept x form awaited at owed none is stands = by_cause x.cause
     where
       reads : Read stage (frames_of x.read).0 taken x.more
       reads = subst (λ (l : List (List ℕ)). Read stage l taken x.more) (sym x.in_order) (form x.more)
 
-      by_cause : Cause fault.Link old new left (requests (talker g me script) (talk (talker g me script) script taken) stage) x.more (frames_of x.read).1 → IsSession g me script old start ends.LinkFault new printed
-      by_cause (inl c) = record { read = x.read; took = x.took; taken = taken; more = x.more; stage = stage; reads = reads; awaited = awaited; at = at; sent = inl (c.0, c.1.0); prints = is; ends_so = inl (c.0, (owed, λ e. c.1.1 (none e))) }
-      by_cause (inr c) = record { read = x.read; took = x.took; taken = taken; more = x.more; stage = stage; reads = reads; awaited = awaited; at = at; sent = inr c.1.0; prints = is; ends_so = inr (c.0, (owed, c.1.1)) }
-  failed fault.Length new stage ps taken left printed x form awaited at owed none is = record {
-    read = x.read;
-    took = x.took;
-    taken = taken;
-    more = x.more;
-    stage = stage;
-    reads = subst (λ (l : List (List ℕ)). Read stage l taken x.more) (sym x.in_order) (form x.more);
-    awaited = awaited;
-    at = at;
-    sent = x.cause.1.0;
-    prints = is;
-    ends_so = (owed, (x.cause.1.1.0, (x.cause.1.1.1, x.cause.0)));
+      by_cause : Cause fault.Link old new left (requests (talker g me script) (talk (talker g me script) script taken) stage) x.more (frames_of x.read).1 → IsSessionOf g me script old start ends.LinkFault new printed kept
+      by_cause (inl c) = record { stands = stands; did = record { read = x.read; took = x.took; taken = taken; more = x.more; stage = stage; reads = reads; awaited = awaited; at = at; sent = inl (c.0, c.1.0); prints = is; ends_so = inl (c.0, (owed, λ e. c.1.1 (none e))) } }
+      by_cause (inr c) = record { stands = stands; did = record { read = x.read; took = x.took; taken = taken; more = x.more; stage = stage; reads = reads; awaited = awaited; at = at; sent = inr c.1.0; prints = is; ends_so = inr (c.0, (owed, c.1.1)) } }
+  failed fault.Length new stage ps taken left printed kept x form awaited at owed none is stands = record {
+    stands = stands;
+    did = record {
+      read = x.read;
+      took = x.took;
+      taken = taken;
+      more = x.more;
+      stage = stage;
+      reads = subst (λ (l : List (List ℕ)). Read stage l taken x.more) (sym x.in_order) (form x.more);
+      awaited = awaited;
+      at = at;
+      sent = x.cause.1.0;
+      prints = is;
+      ends_so = (owed, (x.cause.1.1.0, (x.cause.1.1.1, x.cause.0)));
+    };
   }
-  failed fault.NoMemory new stage ps taken left printed x form awaited at owed none is = record {
-    read = x.read;
-    took = x.took;
-    taken = taken;
-    more = x.more;
-    stage = stage;
-    reads = subst (λ (l : List (List ℕ)). Read stage l taken x.more) (sym x.in_order) (form x.more);
-    awaited = awaited;
-    at = at;
-    sent = x.cause.1;
-    prints = (printed_at stage (talk (talker g me script) script taken), [], (sym (append-nil (printed_at stage (talk (talker g me script) script taken))), is));
-    ends_so = x.cause.0;
+  failed fault.NoMemory new stage ps taken left printed kept x form awaited at owed none is stands = record {
+    stands = stands;
+    did = record {
+      read = x.read;
+      took = x.took;
+      taken = taken;
+      more = x.more;
+      stage = stage;
+      reads = subst (λ (l : List (List ℕ)). Read stage l taken x.more) (sym x.in_order) (form x.more);
+      awaited = awaited;
+      at = at;
+      sent = x.cause.1;
+      prints = (printed_at stage (talk (talker g me script) script taken), [], (sym (append-nil (printed_at stage (talk (talker g me script) script taken))), is));
+      ends_so = x.cause.0;
+    };
   }
 
   -- no exchange failed
-  ended : (end : SessionEnd) (new : Told) (stage : Stage) (ps taken more sent : List (List ℕ)) (left printed : List ℕ) → Wire old new ps left sent → Read stage (ps ++ (frames_of left).0) taken more
+  ended : (end : SessionEnd) (new : Told) (stage : Stage) (ps taken more sent : List (List ℕ)) (left printed : List ℕ) (kept : Kept) → Wire old new ps left sent → Read stage (ps ++ (frames_of left).0) taken more
       → AllAwaited (talker g me script) (opening (talker g me script) script) taken → IsAt stage (talk (talker g me script) script taken).doing
       → (AppendedAll (frames sent) old.written new.written → Sent end (frames (requests (talker g me script) (talk (talker g me script) script taken) stage)) old new)
       → Prints end (printed_at stage (talk (talker g me script) script taken)) start printed
-      → ((rest : List ℕ) → new.faults ≡ old.faults → EndsBy end stage (talk (talker g me script) script taken) old new more rest) → IsSession g me script old start end new printed
-  ended end new stage ps taken more sent left printed i reads awaited at sends prints so = record {
-    read = i.read;
-    took = i.took;
-    taken = taken;
-    more = more;
-    stage = stage;
-    reads = subst (λ (l : List (List ℕ)). Read stage l taken more) (sym (ap (λ (x : List (List ℕ) × List ℕ). x.0) (splits_any i.read ps left i.splits))) reads;
-    awaited = awaited;
-    at = at;
-    sent = sends i.sends;
-    prints = prints;
-    ends_so = so (frames_of i.read).1 i.quiet;
+      → ((rest : List ℕ) → new.faults ≡ old.faults → EndsBy end stage (talk (talker g me script) script taken) old new more rest)
+      → StandsBehind end g me (stands_at stage (talk (talker g me script) script taken)) kept → IsSessionOf g me script old start end new printed kept
+  ended end new stage ps taken more sent left printed kept i reads awaited at sends prints so stands = record {
+    stands = stands;
+    did = record {
+      read = i.read;
+      took = i.took;
+      taken = taken;
+      more = more;
+      stage = stage;
+      reads = subst (λ (l : List (List ℕ)). Read stage l taken more) (sym (ap (λ (x : List (List ℕ) × List ℕ). x.0) (splits_any i.read ps left i.splits))) reads;
+      awaited = awaited;
+      at = at;
+      sent = sends i.sends;
+      prints = prints;
+      ends_so = so (frames_of i.read).1 i.quiet;
+    };
   }
 
   -- ---- the greeting
@@ -126,43 +146,43 @@ module _ (g : Group) (me : ℕ) (script : List ℕ) (old : Told) (start : List �
   greets_form : (more : List (List ℕ)) → Read Greets ([] ++ more) [] more
   greets_form more = (refl, refl)
 
-  unanswered_hello : (end : SessionEnd) (after : List ℕ) (new : Told) → Unanswered (Some (hello (talker g me []))) [] after old new end → IsSession g me script old start end new start
-  unanswered_hello ends.LinkFault after new a = failed fault.Link new Greets [] [] [] start (wire_failed old old [] [] [] (wire_start old) (Some (hello (talker g me []))) fault.Link after new a) greets_form tt tt tt (λ e. refl) (sym (append-nil start))
-  unanswered_hello ends.BadFrame after new a = failed fault.Length new Greets [] [] [] start (wire_failed old old [] [] [] (wire_start old) (Some (hello (talker g me []))) fault.Length after new a) greets_form tt tt tt (λ e. refl) (sym (append-nil start))
-  unanswered_hello ends.NoMemory after new (inl same) =
-      subst (λ (n : Told). IsSession g me script old start ends.NoMemory n start) (sym same.0)
-      (ended ends.NoMemory old Greets [] [] (frames_of []).0 [] [] start (wire_start old) (greets_form (frames_of []).0) tt tt (λ all. front_more [] (hello (talker g me []) ∷ []) old.written old.written all)
-      ([], [], (refl, sym (append-nil start))) (λ rest quiet. quiet))
-  unanswered_hello ends.NoMemory after new (inr a) = failed fault.NoMemory new Greets [] [] [] start (wire_failed old old [] [] [] (wire_start old) (Some (hello (talker g me []))) fault.NoMemory after new a) greets_form tt tt tt (λ e. refl) (sym (append-nil start))
-  unanswered_hello ends.Ok after new a = absurd a
-  unanswered_hello (ends.BadLine n k) after new a = absurd a
-  unanswered_hello (ends.Halted k h) after new a = absurd a
-  unanswered_hello (ends.GreetingRefused r) after new a = absurd a
+  unanswered_hello : (end : SessionEnd) (after : List ℕ) (new : Told) (kept : Kept) → IsLeftAt g me at_start kept → Unanswered (Some (hello (talker g me []))) [] after old new end → IsSessionOf g me script old start end new start kept
+  unanswered_hello ends.LinkFault after new kept here a = failed fault.Link new Greets [] [] [] start kept (wire_failed old old [] [] [] (wire_start old) (Some (hello (talker g me []))) fault.Link after new a) greets_form tt tt tt (λ e. refl) (sym (append-nil start)) here
+  unanswered_hello ends.BadFrame after new kept here a = failed fault.Length new Greets [] [] [] start kept (wire_failed old old [] [] [] (wire_start old) (Some (hello (talker g me []))) fault.Length after new a) greets_form tt tt tt (λ e. refl) (sym (append-nil start)) here
+  unanswered_hello ends.NoMemory after new kept here (inl same) =
+      subst (λ (n : Told). IsSessionOf g me script old start ends.NoMemory n start kept) (sym same.0)
+      (ended ends.NoMemory old Greets [] [] (frames_of []).0 [] [] start kept (wire_start old) (greets_form (frames_of []).0) tt tt (λ all. front_more [] (hello (talker g me []) ∷ []) old.written old.written all)
+      ([], [], (refl, sym (append-nil start))) (λ rest quiet. quiet) tt)
+  unanswered_hello ends.NoMemory after new kept here (inr a) = failed fault.NoMemory new Greets [] [] [] start kept (wire_failed old old [] [] [] (wire_start old) (Some (hello (talker g me []))) fault.NoMemory after new a) greets_form tt tt tt (λ e. refl) (sym (append-nil start)) tt
+  unanswered_hello ends.Ok after new kept here a = absurd a
+  unanswered_hello (ends.BadLine n k) after new kept here a = absurd a
+  unanswered_hello (ends.Halted k h) after new kept here a = absurd a
+  unanswered_hello (ends.GreetingRefused r) after new kept here a = absurd a
 
-  judged_hello : (end : SessionEnd) (after p : List ℕ) (new : Told) → Asks (Some (hello (talker g me []))) [] after old new (Ok p) → JudgedHello p (Err end) → IsSession g me script old start end new start
-  judged_hello end after p new a j = by_end end j
+  judged_hello : (end : SessionEnd) (after p : List ℕ) (new : Told) (kept : Kept) → IsLeftAt g me at_start kept → Asks (Some (hello (talker g me []))) [] after old new (Ok p) → JudgedHello p (Err end) → IsSessionOf g me script old start end new start kept
+  judged_hello end after p new kept here a j = by_end end j
     where
       wire : Wire old new (p ∷ []) after (hello (talker g me []) ∷ [])
       wire = wire_asked old old [] [] [] (wire_start old) (Some (hello (talker g me []))) after p new a
 
-      by_end : (end : SessionEnd) → JudgedHello p (Err end) → IsSession g me script old start end new start
+      by_end : (end : SessionEnd) → JudgedHello p (Err end) → IsSessionOf g me script old start end new start kept
       by_end (ends.GreetingRefused r) j =
-          ended (ends.GreetingRefused r) new Greets (p ∷ []) [] (p ∷ (frames_of after).0) (hello (talker g me []) ∷ []) after start wire (refl, refl) tt tt (λ all. all) (sym (append-nil start)) (λ rest quiet. (refl, ((p, (refl, j)), quiet)))
+          ended (ends.GreetingRefused r) new Greets (p ∷ []) [] (p ∷ (frames_of after).0) (hello (talker g me []) ∷ []) after start kept wire (refl, refl) tt tt (λ all. all) (sym (append-nil start)) (λ rest quiet. (refl, ((p, (refl, j)), quiet))) here
       by_end (ends.Halted k h) j =
-          ended (ends.Halted k h) new Greets (p ∷ []) [] (p ∷ (frames_of after).0) (hello (talker g me []) ∷ []) after start wire (refl, refl) tt tt (λ all. all) (sym (append-nil start))
-          (λ rest quiet. (inr (j.0, (p, (refl, (j.1.0, j.1.1)))), quiet))
+          ended (ends.Halted k h) new Greets (p ∷ []) [] (p ∷ (frames_of after).0) (hello (talker g me []) ∷ []) after start kept wire (refl, refl) tt tt (λ all. all) (sym (append-nil start))
+          (λ rest quiet. (inr (j.0, (p, (refl, (j.1.0, j.1.1)))), quiet)) here
       by_end ends.NoMemory j =
-          ended ends.NoMemory new Greets (p ∷ []) [] (p ∷ (frames_of after).0) (hello (talker g me []) ∷ []) after start wire (refl, refl) tt tt
-          (λ all. all_is_front (frames (hello (talker g me []) ∷ [])) old.written new.written all) ([], [], (refl, sym (append-nil start))) (λ rest quiet. quiet)
+          ended ends.NoMemory new Greets (p ∷ []) [] (p ∷ (frames_of after).0) (hello (talker g me []) ∷ []) after start kept wire (refl, refl) tt tt
+          (λ all. all_is_front (frames (hello (talker g me []) ∷ [])) old.written new.written all) ([], [], (refl, sym (append-nil start))) (λ rest quiet. quiet) tt
       by_end ends.Ok j = absurd j
       by_end (ends.BadLine n k) j = absurd j
       by_end ends.LinkFault j = absurd j
       by_end ends.BadFrame j = absurd j
 
   -- the greeting failed
-  pub not_greeted : (end : SessionEnd) (after : List ℕ) (new : Told) → Greeted g me [] after old new (Err end) → IsSession g me script old start end new start
-  not_greeted end after new (inl a) = unanswered_hello end after new a
-  not_greeted end after new (inr a) = judged_hello end after a.0 new a.1.0 a.1.1
+  pub not_greeted : (end : SessionEnd) (after : List ℕ) (new : Told) (kept : Kept) → IsLeftAt g me at_start kept → Greeted g me [] after old new (Err end) → IsSessionOf g me script old start end new start kept
+  not_greeted end after new kept here (inl a) = unanswered_hello end after new kept here a
+  not_greeted end after new kept here (inr a) = judged_hello end after a.0 new kept here a.1.0 a.1.1
 
   -- ---- the talk
 
@@ -228,15 +248,19 @@ module _ (g : Group) (me : ℕ) (script : List ℕ) (old : Told) (start : List �
           all = ap (λ (l : List (List ℕ)). hello (talker g me script) ∷ l) v.sends;
         }
 
-    pub no_start : (out : List ℕ) → PrintsFront start (goes_on (talker g me script) (record (fresh at_start) { lines = lines_of script }) (lines_of script)) out → IsSession g me script old start ends.NoMemory now out
-    no_start out front =
+    pub no_start : (kept : Kept) (out : List ℕ) → PrintsFront start (goes_on (talker g me script) (record (fresh at_start) { lines = lines_of script }) (lines_of script)) out → IsSessionOf g me script old start ends.NoMemory now out kept
+    no_start kept out front =
         let f = subst (λ (v : Talk). PrintsFront start v out) open_is front in
-        ended ends.NoMemory now Talks (greeted.0 ∷ []) [] (frames_of after).0 (hello (talker g me script) ∷ []) after out wire_hi (greeted.0, (greeted.1.1, refl)) tt tt
-        (λ all. front_more (hello (talker g me script) ∷ []) (sent_in (talk (talker g me script) script []).history) old.written now.written all) f (λ rest quiet. quiet)
+        ended ends.NoMemory now Talks (greeted.0 ∷ []) [] (frames_of after).0 (hello (talker g me script) ∷ []) after out kept wire_hi (greeted.0, (greeted.1.1, refl)) tt tt
+        (λ all. front_more (hello (talker g me script) ∷ []) (sent_in (talk (talker g me script) script []).history) old.written now.written all) f (λ rest quiet. quiet) tt
 
   module _ (now : Told) (left : List ℕ) (c : Kept) (p : Place) (out : List ℕ) (pending : Option (List ℕ)) (i : Going now left c p out pending) where
     w : Talker
     w = talker g me script
+
+    -- where the client stands between two exchanges
+    here : IsLeftAt g me (talk (talker g me script) script i.taken).now c
+    here = (i.on.me, (i.on.group, i.on.stands_so))
 
     talks_form : (taken more : List (List ℕ)) → Read Talks ((i.hi ∷ taken) ++ more) taken more
     talks_form taken more = (i.hi, (i.hi_is, refl))
@@ -269,30 +293,31 @@ module _ (g : Group) (me : ℕ) (script : List ℕ) (old : Told) (start : List �
             all = ap (λ (l : List (List ℕ)). hello (talker g me script) ∷ l) v.sends ∙ ap (λ (l : List (List ℕ)). l ++ one_of sent) i.all;
           }
 
-      pub no_hearing : (text : List ℕ) → PrintsFront start (hears (talker g me script) (talk (talker g me script) script i.taken) payload) text → IsSession g me script old start ends.NoMemory new text
-      no_hearing text front =
+      pub no_hearing : (d : Kept) (text : List ℕ) → PrintsFront start (hears (talker g me script) (talk (talker g me script) script i.taken) payload) text → IsSessionOf g me script old start ends.NoMemory new text d
+      no_hearing d text front =
           let t = talk (talker g me script) script i.taken in
           let e = extends_hears (talker g me script) t payload in
           let is = talk_more (talker g me script) script i.taken payload in
           let all_is : requests (talker g me script) (talk (talker g me script) script (i.taken ++ payload ∷ [])) Talks ≡ (i.before ++ one_of pending) ++ e.sent.0
           = ap (λ (v : Talk). hello (talker g me script) ∷ sent_in v.history) is ∙ ap (λ (l : List (List ℕ)). hello (talker g me script) ∷ l) e.sent.1 ∙ ap (λ (l : List (List ℕ)). l ++ e.sent.0) i.all in
-          ended ends.NoMemory new Talks (i.hi ∷ i.taken ++ payload ∷ []) (i.taken ++ payload ∷ []) (frames_of after).0 (i.before ++ one_of pending) after text wire_on (talks_form (i.taken ++ payload ∷ []) (frames_of after).0) awaited_on tt
+          ended ends.NoMemory new Talks (i.hi ∷ i.taken ++ payload ∷ []) (i.taken ++ payload ∷ []) (frames_of after).0 (i.before ++ one_of pending) after text d wire_on (talks_form (i.taken ++ payload ∷ []) (frames_of after).0) awaited_on tt
           (λ all. subst (λ (l : List (List ℕ)). AppendedFront (frames l) old.written new.written) (sym all_is) (front_more (i.before ++ one_of pending) e.sent.0 old.written new.written all))
-          (subst (λ (v : Talk). PrintsFront start v text) (sym is) front) (λ rest quiet. quiet)
+          (subst (λ (v : Talk). PrintsFront start v text) (sym is) front) (λ rest quiet. quiet) tt
 
     -- no answer came
-    pub unanswered : (f : WireFault) (after : List ℕ) (new : Told) → IsBusy p.doing → Asks pending left after now new (Err f) → IsSession g me script old start (end_for f) new out
+    pub unanswered : (f : WireFault) (after : List ℕ) (new : Told) → IsBusy p.doing → Asks pending left after now new (Err f) → IsSessionOf g me script old start (end_for f) new out c
     unanswered f after new busy a =
-        failed f new Talks (i.hi ∷ i.taken) i.taken left out
+        failed f new Talks (i.hi ∷ i.taken) i.taken left out c
         (subst (λ (l : List (List ℕ)). Failed f old new (i.hi ∷ i.taken) left l) (sym i.all) (wire_failed old now (i.hi ∷ i.taken) left i.before i.wire pending f after new a))
         (talks_form i.taken) i.awaited tt (owed_busy p.doing (talk (talker g me script) script i.taken).doing busy i.doing) (λ e. absurd cc) i.on.text
+        (any_end (end_for f) g me (talk (talker g me script) script i.taken).now c here)
 
     -- memory ran out, or it would go on for ever
-    pub gives_up : IsSession g me script old start ends.NoMemory now out
+    pub gives_up : IsSessionOf g me script old start ends.NoMemory now out c
     gives_up =
-        ended ends.NoMemory now Talks (i.hi ∷ i.taken) i.taken (frames_of left).0 i.before left out i.wire (talks_form i.taken (frames_of left).0) i.awaited tt
+        ended ends.NoMemory now Talks (i.hi ∷ i.taken) i.taken (frames_of left).0 i.before left out c i.wire (talks_form i.taken (frames_of left).0) i.awaited tt
         (λ all. subst (λ (l : List (List ℕ)). AppendedFront (frames l) old.written now.written) (sym i.all) (front_more i.before (one_of pending) old.written now.written all))
-        ((talk (talker g me script) script i.taken).text, [], (sym (append-nil (talk (talker g me script) script i.taken).text), i.on.text)) (λ rest quiet. quiet)
+        ((talk (talker g me script) script i.taken).text, [], (sym (append-nil (talk (talker g me script) script i.taken).text), i.on.text)) (λ rest quiet. quiet) tt
 
     -- all was sent
     module _ (none : pending ≡ None) where
@@ -302,15 +327,15 @@ module _ (g : Group) (me : ℕ) (script : List ℕ) (old : Told) (start : List �
       sent_so : AppendedAll (frames i.before) old.written now.written → AppendedAll (frames (requests (talker g me script) (talk (talker g me script) script i.taken) Talks)) old.written now.written
       sent_so all = subst (λ (l : List (List ℕ)). AppendedAll (frames l) old.written now.written) (sym sent_is) all
 
-      pub bad_line : (k : ℕ) → p.doing ≡ at.Bad k → IsSession g me script old start (ends.BadLine p.number k) now out
+      pub bad_line : (k : ℕ) → p.doing ≡ at.Bad k → IsSessionOf g me script old start (ends.BadLine p.number k) now out c
       bad_line k e =
-          ended (ends.BadLine p.number k) now Talks (i.hi ∷ i.taken) i.taken (frames_of left).0 i.before left out i.wire (talks_form i.taken (frames_of left).0) i.awaited tt sent_so i.on.text
-          (λ rest quiet. (refl, (subst (λ (a : At). IsDoing a (talk (talker g me script) script i.taken).doing) e i.doing, (sym i.on.number, quiet))))
+          ended (ends.BadLine p.number k) now Talks (i.hi ∷ i.taken) i.taken (frames_of left).0 i.before left out c i.wire (talks_form i.taken (frames_of left).0) i.awaited tt sent_so i.on.text
+          (λ rest quiet. (refl, (subst (λ (a : At). IsDoing a (talk (talker g me script) script i.taken).doing) e i.doing, (sym i.on.number, quiet)))) here
 
-      pub halts : (k : ℕ) (h : _) → p.doing ≡ at.Halts k h → IsSession g me script old start (ends.Halted k h) now out
+      pub halts : (k : ℕ) (h : _) → p.doing ≡ at.Halts k h → IsSessionOf g me script old start (ends.Halted k h) now out c
       halts k h e =
-          ended (ends.Halted k h) now Talks (i.hi ∷ i.taken) i.taken (frames_of left).0 i.before left out i.wire (talks_form i.taken (frames_of left).0) i.awaited tt sent_so i.on.text
-          (λ rest quiet. (inl (refl, subst (λ (a : At). IsDoing a (talk (talker g me script) script i.taken).doing) e i.doing), quiet))
+          ended (ends.Halted k h) now Talks (i.hi ∷ i.taken) i.taken (frames_of left).0 i.before left out c i.wire (talks_form i.taken (frames_of left).0) i.awaited tt sent_so i.on.text
+          (λ rest quiet. (inl (refl, subst (λ (a : At). IsDoing a (talk (talker g me script) script i.taken).doing) e i.doing), quiet)) here
 
       -- ---- the leave
 
@@ -320,17 +345,18 @@ module _ (g : Group) (me : ℕ) (script : List ℕ) (old : Told) (start : List �
       away_at : p.doing ≡ at.Leaves → (talk (talker g me script) script i.taken).doing ≡ Leaves
       away_at leaves = subst (λ (a : At). IsDoing a (talk (talker g me script) script i.taken).doing) leaves i.doing
 
-      away_failed : p.doing ≡ at.Leaves → (f : WireFault) (after : List ℕ) (new : Told) (text : List ℕ) → text ≡ out → Asks (Some bye) left after now new (Err f) → IsSession g me script old start (end_for f) new text
+      away_failed : p.doing ≡ at.Leaves → (f : WireFault) (after : List ℕ) (new : Told) (text : List ℕ) → text ≡ out → Asks (Some bye) left after now new (Err f) → IsSessionOf g me script old start (end_for f) new text c
       away_failed leaves f after new text same a =
-          failed f new Goes_away (i.hi ∷ i.taken) i.taken left text
+          failed f new Goes_away (i.hi ∷ i.taken) i.taken left text c
           (subst (λ (l : List (List ℕ)). Failed f old new (i.hi ∷ i.taken) left l) (sym away_is) (wire_failed old now (i.hi ∷ i.taken) left i.before i.wire (Some bye) f after new a))
           (away_form i.taken) i.awaited (away_at leaves) tt (λ e. absurd cc) (same ∙ i.on.text)
+          (any_end (end_for f) g me (talk (talker g me script) script i.taken).now c here)
 
-      away_unanswered : p.doing ≡ at.Leaves → (end : SessionEnd) (after : List ℕ) (new : Told) (text : List ℕ) → PrintsBye end out text → Unanswered (Some bye) left after now new end → IsSession g me script old start end new text
+      away_unanswered : p.doing ≡ at.Leaves → (end : SessionEnd) (after : List ℕ) (new : Told) (text : List ℕ) → PrintsBye end out text → Unanswered (Some bye) left after now new end → IsSessionOf g me script old start end new text c
       away_unanswered leaves ends.LinkFault after new text same a = away_failed leaves fault.Link after new text same a
       away_unanswered leaves ends.BadFrame after new text same a = away_failed leaves fault.Length after new text same a
       away_unanswered leaves ends.NoMemory after new text same (inl s) =
-          subst (λ (l : List ℕ). IsSession g me script old start ends.NoMemory new l) (sym same) (subst (λ (n : Told). IsSession g me script old start ends.NoMemory n out) (sym s.0) gives_up)
+          subst (λ (l : List ℕ). IsSessionOf g me script old start ends.NoMemory new l c) (sym same) (subst (λ (n : Told). IsSessionOf g me script old start ends.NoMemory n out c) (sym s.0) gives_up)
       away_unanswered leaves ends.NoMemory after new text same (inr a) = away_failed leaves fault.NoMemory after new text same a
       away_unanswered leaves ends.Ok after new text same a = absurd a
       away_unanswered leaves (ends.BadLine n k) after new text same a = absurd a
@@ -347,27 +373,27 @@ module _ (g : Group) (me : ℕ) (script : List ℕ) (old : Told) (start : List �
         sent_away : AppendedAll (frames (i.before ++ bye ∷ [])) old.written new.written → AppendedAll (frames (requests (talker g me script) (talk (talker g me script) script i.taken) Goes_away)) old.written new.written
         sent_away all = subst (λ (l : List (List ℕ)). AppendedAll (frames l) old.written new.written) (sym away_is) all
 
-        away_judged : (end : SessionEnd) → PrintsBye end out text → JudgedBye payload end → IsSession g me script old start end new text
+        away_judged : (end : SessionEnd) → PrintsBye end out text → JudgedBye payload end → IsSessionOf g me script old start end new text c
         away_judged ends.Ok same j =
-            ended ends.Ok new Goes_away (i.hi ∷ i.taken ++ payload ∷ []) i.taken (payload ∷ (frames_of after).0) (i.before ++ bye ∷ []) after text wire_away read_away i.awaited (away_at leaves) sent_away
+            ended ends.Ok new Goes_away (i.hi ∷ i.taken ++ payload ∷ []) i.taken (payload ∷ (frames_of after).0) (i.before ++ bye ∷ []) after text c wire_away read_away i.awaited (away_at leaves) sent_away
             (same ∙ ap (λ (l : List ℕ). l ++ codes "bye" ++ newline) i.on.text)
-            (λ rest quiet. (refl, (away_at leaves, ((payload, (refl, j)), quiet))))
+            (λ rest quiet. (refl, (away_at leaves, ((payload, (refl, j)), quiet)))) here
         away_judged (ends.Halted k h) same j =
-            ended (ends.Halted k h) new Goes_away (i.hi ∷ i.taken ++ payload ∷ []) i.taken (payload ∷ (frames_of after).0) (i.before ++ bye ∷ []) after text wire_away read_away i.awaited (away_at leaves) sent_away (same ∙ i.on.text)
-            (λ rest quiet. (inr (j.0, (payload, (refl, (j.1.0, j.1.1)))), quiet))
+            ended (ends.Halted k h) new Goes_away (i.hi ∷ i.taken ++ payload ∷ []) i.taken (payload ∷ (frames_of after).0) (i.before ++ bye ∷ []) after text c wire_away read_away i.awaited (away_at leaves) sent_away (same ∙ i.on.text)
+            (λ rest quiet. (inr (j.0, (payload, (refl, (j.1.0, j.1.1)))), quiet)) here
         away_judged ends.NoMemory same j =
-            ended ends.NoMemory new Goes_away (i.hi ∷ i.taken ++ payload ∷ []) i.taken (payload ∷ (frames_of after).0) (i.before ++ bye ∷ []) after text wire_away read_away i.awaited (away_at leaves)
+            ended ends.NoMemory new Goes_away (i.hi ∷ i.taken ++ payload ∷ []) i.taken (payload ∷ (frames_of after).0) (i.before ++ bye ∷ []) after text c wire_away read_away i.awaited (away_at leaves)
             (λ all. all_is_front (frames (requests (talker g me script) (talk (talker g me script) script i.taken) Goes_away)) old.written new.written (sent_away all))
-            ((talk (talker g me script) script i.taken).text, [], (sym (append-nil (talk (talker g me script) script i.taken).text), same ∙ i.on.text)) (λ rest quiet. quiet)
+            ((talk (talker g me script) script i.taken).text, [], (sym (append-nil (talk (talker g me script) script i.taken).text), same ∙ i.on.text)) (λ rest quiet. quiet) tt
         away_judged (ends.BadLine n k) same j = absurd j
         away_judged ends.LinkFault same j = absurd j
         away_judged ends.BadFrame same j = absurd j
         away_judged (ends.GreetingRefused r) same j = absurd j
 
-      pub parted : p.doing ≡ at.Leaves → (end : SessionEnd) (after : List ℕ) (new : Told) (text : List ℕ) → Left left after now new out text end → IsSession g me script old start end new text
+      pub parted : p.doing ≡ at.Leaves → (end : SessionEnd) (after : List ℕ) (new : Told) (text : List ℕ) → Left left after now new out text end → IsSessionOf g me script old start end new text c
       parted leaves end after new text l = by_part l.1
         where
-          by_part : Parted left after now new end → IsSession g me script old start end new text
+          by_part : Parted left after now new end → IsSessionOf g me script old start end new text c
           by_part (inl a) = away_unanswered leaves end after new text l.0 a
           by_part (inr a) = away_judged leaves after a.0 new text a.1.0 end l.0 a.1.1
 

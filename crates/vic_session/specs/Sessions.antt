@@ -11,6 +11,8 @@ use Rattle.vic_conn.specs.Frames.{Waits, Broken, front_of, frame_text, frames_of
 use Rattle.vic_ports.specs.Causes.{Rose, LeavesBehind, IsSpent}
 use Rattle.vic_ports.specs.Written.{AppendedAll, AppendedFront}
 use Rattle.vic_ports.specs.Links.{Told}
+use Rattle.vic_rules.specs.Client.{Standing, at_start}
+use Rattle.vic_client.specs.Kept.{Kept, StandsFor, group_of}
 use Rattle.vic_script.specs.Words.{newline}
 use Rattle.vic_session.specs.declared.end.SessionEnd.{SessionEnd}
 use Rattle.vic_session.specs.declared.end.SessionEnd.TheVariants as ends
@@ -131,3 +133,23 @@ pub record IsSession (g : Group) (me : ℕ) (script : List ℕ) (old : Told) (ou
   pub sent : Sent end (frames (requests (talker g me script) (talk (talker g me script) script taken) stage)) old new
   pub prints : Prints end (printed_at stage (talk (talker g me script) script taken)) out printed
   pub ends_so : EndsBy end stage (talk (talker g me script) script taken) old new more (frames_of read).1
+
+-- where the client of a session stands: where it began, until the talk does
+abbrev pub stands_at : Stage → Talk → Standing
+stands_at Greets t = at_start
+stands_at Talks t = t.now
+stands_at Goes_away t = t.now
+
+-- it is the client of that number in that group, and stands there
+abbrev pub IsLeftAt : Group → ℕ → Standing → Kept → Type 0
+IsLeftAt g me s c = (c.id ≡ me) × ((group_of c ≡ g) × StandsFor c s)
+
+-- the client afterwards: memory may run out in the middle of a line
+abbrev pub StandsBehind : SessionEnd → Group → ℕ → Standing → Kept → Type 0
+StandsBehind ends.NoMemory g me s c = Unit {0}
+StandsBehind end g me s c = IsLeftAt g me s c
+
+-- what a session did, and how it left its client
+pub record IsSessionOf (g : Group) (me : ℕ) (script : List ℕ) (old : Told) (out : List ℕ) (end : SessionEnd) (new : Told) (printed : List ℕ) (c : Kept) : Type 0 where
+  pub did : IsSession g me script old out end new printed
+  pub stands : StandsBehind end g me (stands_at did.stage (talk (talker g me script) script did.taken)) c

@@ -5,7 +5,7 @@ ghost use Rattle.vic_rules.specs.Client.{at_start};
 ghost use Rattle.vic_client.specs.Kept.{StandsFor, group_of};
 ghost use Rattle.vic_script.specs.Run.{limit};
 ghost use Rattle.vic_session.specs.Running.{Greeted, Parted, Left, JudgedHello, JudgedBye};
-ghost use Rattle.vic_session.specs.Sessions.{IsSession};
+ghost use Rattle.vic_session.specs.Sessions.{IsSessionOf};
 
 use crate::end::SessionEnd;
 use crate::lines::{go_on, hear};
@@ -107,7 +107,7 @@ fn leave<L: Link>(
 }
 
 /// Greets, does each line of a script, and leaves; what is printed joins the lines so far. Whatever the end is, what was sent and
-/// printed stays, and the client may stand in the middle of a call. It keeps what is not yet a whole frame, one buffer, one answer,
+/// printed stays, and the client stands where the talk is, which may be in the middle of a call. It keeps what is not yet a whole frame, one buffer, one answer,
 /// and what its client keeps. A line costs the payloads that it sends and takes.
 pub fn run_lines<L: Link>(
     alloc: Global,
@@ -117,7 +117,7 @@ pub fn run_lines<L: Link>(
     out: &mut Bytes,
 ) -> SessionEnd
     requires { StandsFor client.old at_start }
-    ensures did { IsSession (group_of client.old) client.old.id script.now (L.told link.old) out.old result (L.told link.new) out.new }
+    ensures did { IsSessionOf (group_of client.old) client.old.id script.now (L.told link.old) out.old result (L.told link.new) out.new client.new }
     // A script past the limit has a bad line.
     ensures whole { result ≡ SessionEnd.Ok → length script.now ≤ limit }
 {

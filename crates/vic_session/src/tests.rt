@@ -118,8 +118,11 @@ fn does_every_line(rt: HostRuntime) -> Result<(), Fail> {
 #[test]
 fn is_cut_at_every_place(rt: HostRuntime) -> Result<(), Fail> {
     for n in 0..REFUSED.len() {
-        let (end, _, _) = run(rt.alloc(), b"put a x", &REFUSED[..n])?;
+        let (end, out, _) = run(rt.alloc(), b"put a x", &REFUSED[..n])?;
         assert!(rt; matches!(end, SessionEnd::LinkFault));
+        // The refusal is the second answer, and ends at the eleventh byte.
+        let printed: &[u8] = if n < 11 { b"" } else { b"refused 2\n" };
+        assert_eq!(rt; out.as_slice(), printed);
     }
     let (end, out, _) = run(rt.alloc(), b"put a x", REFUSED)?;
     assert!(rt; matches!(end, SessionEnd::Ok));

@@ -16,12 +16,12 @@ use Rattle.vic_session.proofs.run.run_lines.Goals as goal
 
 pub returns-in-Err-clause-did : goal.returns-in-Err-clause-did
 returns-in-Err-clause-did g c =
-    not_greeted (group_of c.args.client.now) c.args.client.now.id c.args.script.now (g.L.Link.told c.args.link.now) c.args.out.now c.in-Err.end c.greet.new.reader (g.L.Link.told c.greet.new.link)
+    not_greeted (group_of c.args.client.now) c.args.client.now.id c.args.script.now (g.L.Link.told c.args.link.now) c.args.out.now c.in-Err.end c.greet.new.reader (g.L.Link.told c.greet.new.link) c.args.client.now (refl, (refl, c.requires))
     (subst (λ (b : List ℕ). Greeted (group_of c.args.client.now) c.args.client.now.id b c.greet.new.reader (g.L.Link.told c.args.link.now) (g.L.Link.told c.greet.new.link) (Err c.in-Err.end)) c.new-reader.ensures c.in-Err.ensures)
 
 pub returns-in-Err-go_on-clause-did : goal.returns-in-Err-go_on-clause-did
 returns-in-Err-go_on-clause-did g c =
-    no_start (group_of c.args.client.now) c.args.client.now.id c.args.script.now (g.L.Link.told c.args.link.now) c.args.out.now c.greet.new.reader (g.L.Link.told c.greet.new.link) (subst (λ (b : List ℕ). Greeted (group_of c.args.client.now) c.args.client.now.id b c.greet.new.reader (g.L.Link.told c.args.link.now) (g.L.Link.told c.greet.new.link) (Ok tt)) c.new-reader.ensures c.in-Ok.ensures) c.go_on.new.out
+    no_start (group_of c.args.client.now) c.args.client.now.id c.args.script.now (g.L.Link.told c.args.link.now) c.args.out.now c.greet.new.reader (g.L.Link.told c.greet.new.link) (subst (λ (b : List ℕ). Greeted (group_of c.args.client.now) c.args.client.now.id b c.greet.new.reader (g.L.Link.told c.args.link.now) (g.L.Link.told c.greet.new.link) (Ok tt)) c.new-reader.ensures c.in-Ok.ensures) c.go_on.new.client c.go_on.new.out
     (c.in-Err-go_on.ensures.went (talker (group_of c.args.client.now) c.args.client.now.id c.args.script.now) (record (fresh at_start) { lines = lines_of c.args.script.now }) c.args.out.now (on_begin (group_of c.args.client.now) c.args.client.now.id c.args.script.now (g.L.Link.told c.args.link.now) c.args.out.now c.args.client.now (record { rest = c.args.script; total = length c.args.script.now; behind = 0; number = 0; doing = at.Leaves }) refl refl c.requires refl refl refl refl))
 
 pub loop-init : goal.loop-init
@@ -71,7 +71,7 @@ returns-in-Err-NoMemory-clause-did g c =
 pub returns-in-Err-hear-clause-did : goal.returns-in-Err-hear-clause-did
 returns-in-Err-hear-clause-did g c =
     let busy : IsBusy c.loop.place.doing = search rules in
-    no_hearing (group_of c.args.client.now) c.args.client.now.id c.args.script.now (g.L.Link.told c.args.link.now) c.args.out.now (g.L.Link.told c.loop.link) c.loop.reader c.loop.client c.loop.place c.loop.out c.loop.pending c.loop.invariant.going c.ask.new.reader c.in-Ok-ask.payload (g.L.Link.told c.ask.new.link) busy c.in-Ok-ask.ensures c.hear.new.out
+    no_hearing (group_of c.args.client.now) c.args.client.now.id c.args.script.now (g.L.Link.told c.args.link.now) c.args.out.now (g.L.Link.told c.loop.link) c.loop.reader c.loop.client c.loop.place c.loop.out c.loop.pending c.loop.invariant.going c.ask.new.reader c.in-Ok-ask.payload (g.L.Link.told c.ask.new.link) busy c.in-Ok-ask.ensures c.hear.new.client c.hear.new.out
     (subst (λ (x : List ℕ). PrintsFront c.args.out.now (hears (talker (group_of c.args.client.now) c.args.client.now.id c.args.script.now) (talk (talker (group_of c.args.client.now) c.args.client.now.id c.args.script.now) c.args.script.now c.loop.invariant.going.taken) x) c.hear.new.out) c.as_slice.ensures
     (c.in-Err-hear.ensures.went (talker (group_of c.args.client.now) c.args.client.now.id c.args.script.now) (talk (talker (group_of c.args.client.now) c.args.client.now.id c.args.script.now) c.args.script.now c.loop.invariant.going.taken) c.args.out.now c.loop.invariant.going.on c.loop.invariant.going.doing))
 
