@@ -24,7 +24,8 @@ use Rattle.vic_text.specs.declared.status.Status.{Status}
 use Rattle.vic_text.specs.declared.status.Status.TheVariants as status
 use Rattle.vic_text.specs.Statuses.{usage_line, no_memory_line}
 use Rattle.vic_cli.specs.Output.{Taken, Given, IsReadWhole, WroteAll, WroteFront, Finishes}
-use Rattle.vic_cli.specs.ClientWords.{ClientWords, client_words, counted, is_address, joined, key_in, mode_in, number_in, IsClientOf}
+use Rattle.vic_cli.specs.ClientWords.{ClientWords, client_words, counted, joined, key_in, IsClientOf}
+use Rattle.vic_cli.specs.Arguments.{is_address, mode_of, number_in}
 use Rattle.vic_cli.specs.Telling.{status_by, text_by, TellsSession}
 use Rattle.vic_cli.specs.ClientEnds.{IsScript, HasSession, Did, Composes, of_words, of_fault, of_memory, of_session, ClientEnds, IsClientComplete}
 
@@ -55,7 +56,7 @@ not_six (x0 ∷ x1 ∷ x2 ∷ x3 ∷ x4 ∷ x5 ∷ x6 ∷ xs) other = tt
 
 -- six words of which the first two are right, and the count
 pub six_right : (name address id count key kind : List ℕ) (n : ℕ) (r : Result (Option Kept) NoMemory) → (bytes_eq name (codes "client") && is_address address) ≡ true → number_in 64 count ≡ Some n
-    → IfOk r (λ c. IsClientOf (joined address n (number_in n id) (key_in key) (mode_in kind)) c) → IfOk r (λ c. IsClientOf (client_words (name ∷ address ∷ id ∷ count ∷ key ∷ kind ∷ [])) c)
+    → IfOk r (λ c. IsClientOf (joined address n (number_in n id) (key_in key) (mode_of kind)) c) → IfOk r (λ c. IsClientOf (client_words (name ∷ address ∷ id ∷ count ∷ key ∷ kind ∷ [])) c)
 six_right name address id count key kind n r right many h =
     subst (λ (b : Bool). IfOk r (λ c. IsClientOf (if b then counted address id key kind (number_in 64 count) else None) c)) (sym right)
     (subst (λ (o : Option ℕ). IfOk r (λ c. IsClientOf (counted address id key kind o) c)) (sym many) h)

@@ -9,13 +9,17 @@ use Rattle.vic_script.specs.Words.{word_capped}
 abbrev pub is_address : List ℕ → Bool
 is_address word = nat_le 1 (length word) && nat_le (length word) 255
 
-abbrev pub up_to_64 : Option ℕ → Option ℕ
-up_to_64 None = None
-up_to_64 (Some n) = if nat_le 1 n && nat_le n 64 then Some n else None
+abbrev pub up_to : ℕ → Option ℕ → Option ℕ
+up_to most None = None
+up_to most (Some n) = if nat_le 1 n && nat_le n most then Some n else None
 
--- a number from 1 to 64, in decimal without leading zeros
+-- a number from 1 up to the greatest, in decimal without leading zeros
+abbrev pub number_in : ℕ → List ℕ → Option ℕ
+number_in most word = up_to most (word_capped word)
+
+-- one of clients or of connections
 abbrev pub small_number : List ℕ → Option ℕ
-small_number word = up_to_64 (word_capped word)
+small_number word = number_in 64 word
 
 -- the kind of a group. The word `objects` joins once there is a server for objects
 abbrev pub mode_of : List ℕ → Option Mode

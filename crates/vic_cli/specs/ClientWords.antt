@@ -1,15 +1,14 @@
 -- The words of a client's command.
-use Rattle.std.specs.Prelude.{◌≡◌, ℕ, ◌<◌, ◌≤◌, Bool, ◌&&◌, List, [], ◌∷◌, length, chars, Option, Some, None, is_none, nat_le, if◌then◌else◌, codes}
+use Rattle.std.specs.Prelude.{◌≡◌, ℕ, ◌<◌, ◌≤◌, ◌&&◌, List, [], ◌∷◌, chars, Option, Some, None, is_none, if◌then◌else◌, codes}
 use Rattle.std.specs.Str.{bytes_eq}
 use Rattle.std.specs.Result.{result_ok}
 use Rattle.hex.specs.Hex.{decode_of}
 use Rattle.vic_dict.specs.declared.op.Mode.{Mode}
-use Rattle.vic_dict.specs.declared.op.Mode.TheVariants as mode
 use Rattle.vic_wire.specs.Hashes.{Group, IsGroup}
 use Rattle.vic_rules.specs.Client.{at_start}
 use Rattle.vic_client.specs.Kept.{Kept, StandsFor, group_of}
 use Rattle.vic_tag.specs.Keys.{fault_in}
-use Rattle.vic_script.specs.Words.{word_capped}
+use Rattle.vic_cli.specs.Arguments.{is_address, number_in, small_number, mode_of}
 
 -- what the words say: an address, and which client of which group
 pub record ClientWords : Type 0 where
@@ -17,25 +16,9 @@ pub record ClientWords : Type 0 where
   pub me : ℕ
   pub group : Group
 
--- an address has 1 to 255 bytes
-abbrev pub is_address : List ℕ → Bool
-is_address word = nat_le 1 (length word) && nat_le (length word) 255
-
-abbrev pub up_to : ℕ → Option ℕ → Option ℕ
-up_to most None = None
-up_to most (Some n) = if nat_le 1 n && nat_le n most then Some n else None
-
--- the number that a word spells, from 1 up to the greatest
-abbrev pub number_in : ℕ → List ℕ → Option ℕ
-number_in most word = up_to most (word_capped word)
-
 -- the key that a word spells in hexadecimal digits
 abbrev pub key_in : List ℕ → Option (List ℕ)
 key_in word = if is_none (fault_in (chars word)) then result_ok (decode_of word) else None
-
--- the mode that a word names: until clients have objects, one
-abbrev pub mode_in : List ℕ → Option Mode
-mode_in word = if bytes_eq word (codes "plain") then Some mode.Plain else None
 
 -- a client, a key and a mode, where the words for them are right
 abbrev pub joined : List ℕ → ℕ → Option ℕ → Option (List ℕ) → Option Mode → Option ClientWords
@@ -46,13 +29,13 @@ joined address count None key kind = None
 
 -- and a count, within which the client's number is
 abbrev pub counted : List ℕ → List ℕ → List ℕ → List ℕ → Option ℕ → Option ClientWords
-counted address id key kind (Some count) = joined address count (number_in count id) (key_in key) (mode_in kind)
+counted address id key kind (Some count) = joined address count (number_in count id) (key_in key) (mode_of kind)
 counted address id key kind None = None
 
 -- `client ADDRESS ID COUNT KEY MODE`
 abbrev pub client_words : List (List ℕ) → Option ClientWords
 client_words (name ∷ address ∷ id ∷ count ∷ key ∷ kind ∷ []) =
-    if bytes_eq name (codes "client") && is_address address then counted address id key kind (number_in 64 count) else None
+    if bytes_eq name (codes "client") && is_address address then counted address id key kind (small_number count) else None
 client_words words = None
 
 -- such words are of a group and a client of it

@@ -1,7 +1,7 @@
 //! Single words of a command line.
 
 ghost use Rattle.std.specs.Prelude.{◌≡◌, ◌<◌, ◌≤◌, IfSome};
-ghost use Rattle.vic_cli.specs.Arguments.{is_address as address_test, small_number as small_number_by, mode_of as mode_by};
+ghost use Rattle.vic_cli.specs.Arguments.{is_address as address_test, number_in as number_by, small_number as small_number_by, mode_of as mode_by};
 
 use vic_dict::Mode;
 use vic_text::word::{is_name, number_of};
@@ -13,15 +13,30 @@ pub fn is_address(word: &[u8]) -> bool
     1 <= word.len() && word.len() <= 255
 }
 
-/// The number that a word spells in decimal, where that is 1 to 64.
+/// The number that a word spells in decimal, from 1 up to the greatest.
+pub fn number_in(word: &[u8], most: u8) -> Option<u8>
+    ensures is { result ≡ number_by most word.now }
+    ensures range { IfSome result (λ n. (0 < n) × (n ≤ most)) }
+{
+    match number_of(word) {
+        None => None,
+        Some(n) => {
+            if 1 <= n && n <= u32::from(most) {
+                Some(n as u8)
+            } else {
+                None
+            }
+        }
+    }
+}
+
+/// The number that a word spells in decimal, where that is 1 to 64: so many clients may a group have, and so many connections
+/// are served.
 pub fn small_number(word: &[u8]) -> Option<u8>
     ensures is { result ≡ small_number_by word.now }
     ensures range { IfSome result (λ n. (0 < n) × (n ≤ 64)) }
 {
-    match number_of(word) {
-        Some(n) if 1 <= n && n <= 64 => Some(n as u8),
-        _ => None,
-    }
+    number_in(word, 64)
 }
 
 /// The kind of a group: `plain`. This is the one place that `objects` is to join, once there is a server for them.

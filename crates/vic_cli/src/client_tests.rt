@@ -6,7 +6,7 @@ use std::io::{Read, Write};
 use std::net::TcpListener;
 use std::test::*;
 use std::thread;
-use vic_dict::Bytes;
+use vic_dict::{Bytes, NoMemory};
 use vic_ports::{Calls, MemoryLink, MemorySink, MemorySource, TcpLine};
 use vic_text::Status;
 
@@ -117,6 +117,56 @@ fn tells_a_bad_line(rt: HostRuntime) -> Result<(), Fail> {
         printed.as_slice(),
         b"refused 2\nline 2: not a line of this script\n".as_slice()
     );
+    Ok(())
+}
+
+// No group of objects can be joined yet; and a count, a number, a key, a mode, an address and a name that are none.
+const WRONG: [&str; 10] = [
+    "client h:1 1 1 0b objects",
+    "client h:1 1 65 0b plain",
+    "client h:1 2 1 0b plain",
+    "client h:1 0 1 0b plain",
+    "client h:1 1 01 0b plain",
+    "client h:1 1 1 0 plain",
+    "client h:1 1 1 0g plain",
+    // The address is empty.
+    "client  1 1 0b plain",
+    "clients h:1 1 1 0b plain",
+    "client h:1 1 1 0b",
+];
+
+fn split_words(alloc: Global, text: &str) -> Result<Vec<String>, NoMemory> {
+    let mut words = Vec::new(alloc);
+    for word in text.split(' ') {
+        words.push(word.to_string(alloc)?)?;
+    }
+    Ok(words)
+}
+
+// Whether such words are refused: nothing is sent.
+fn is_refused(alloc: Global, text: &str) -> Result<bool, NoMemory> {
+    let words = split_words(alloc, text)?;
+    let script = Bytes::of(alloc, b"put a x")?;
+    let mut source = MemorySource::new(script, Calls::new(alloc));
+    let given = Bytes::of(alloc, REFUSED)?;
+    let mut link = MemoryLink::new(alloc, given, Calls::new(alloc));
+    let mut sink = MemorySink::new(alloc, Calls::new(alloc));
+    let status = run_client(alloc, words.as_slice(), &mut source, &mut link, &mut sink);
+    Ok(
+        status == Status::Usage
+            && sink.held().as_slice() == Status::Usage.line()
+            && link.written().as_slice().is_empty(),
+    )
+}
+
+#[test]
+fn refuses_wrong_words(rt: HostRuntime) -> Result<(), Fail> {
+    for (place, text) in WRONG.iter().enumerate() {
+        assert!(rt;
+            is_refused(rt.alloc(), text).ok().ok_or("memory")?,
+            "row {place}"
+        );
+    }
     Ok(())
 }
 

@@ -2,56 +2,21 @@
 
 ghost use Rattle.std.specs.Prelude.{◌≡◌, ◌<◌, ◌≤◌, ◌&&◌, ℕ, List, [], ◌∷◌, length, map, string_bytes, codes, IfOk, IfSome};
 ghost use Rattle.std.specs.Str.{bytes_eq};
-ghost use Rattle.vic_cli.specs.ClientWords.{client_words, counted, is_address as address_by, joined, key_in, mode_in as mode_by, number_in as number_by, IsClientOf};
+ghost use Rattle.vic_cli.specs.Arguments.{is_address as address_test, mode_of as mode_by, number_in as number_by};
+ghost use Rattle.vic_cli.specs.ClientWords.{client_words, counted, joined, key_in, IsClientOf};
 
+use crate::arguments::{is_address, mode_of, number_in, small_number};
 use std::alloc::Global;
 use vic_client::Client;
-use vic_dict::{Mode, NoMemory};
+use vic_dict::NoMemory;
 use vic_tag::{GroupKey, KeyFault};
-use vic_text::word::{is_name, number_of};
-
-/// The most clients that a group may have.
-const MOST: u8 = 64;
-
-fn is_address(word: &[u8]) -> bool
-    ensures { result ≡ address_by word.now }
-{
-    1 <= word.len() && word.len() <= 255
-}
+use vic_text::word::is_name;
 
 // Whether the first two words are the command's and an address.
 fn is_right(name: &[u8], address: &[u8]) -> bool
-    ensures { result ≡ (bytes_eq name.now (codes "client") && address_by address.now) }
+    ensures { result ≡ (bytes_eq name.now (codes "client") && address_test address.now) }
 {
     is_name(name, b"client") && is_address(address)
-}
-
-// The number that a word spells, from 1 up to the greatest.
-fn number_in(word: &[u8], most: u8) -> Option<u8>
-    ensures number { result ≡ number_by most word.now }
-    ensures within { IfSome result (λ n. (0 < n) × (n ≤ most)) }
-{
-    match number_of(word) {
-        None => None,
-        Some(n) => {
-            if 1 <= n && n <= u32::from(most) {
-                Some(n as u8)
-            } else {
-                None
-            }
-        }
-    }
-}
-
-// The mode that a word names. Where clients have objects, they are named here and in the definition.
-fn mode_in(word: &[u8]) -> Option<Mode>
-    ensures { result ≡ mode_by word.now }
-{
-    if is_name(word, b"plain") {
-        Some(Mode::Plain)
-    } else {
-        None
-    }
 }
 
 // The key that a word spells.
@@ -85,7 +50,7 @@ fn member_of(
     let Some(me) = number_in(id, count) else {
         return Ok(None);
     };
-    let Some(kind) = mode_in(mode) else {
+    let Some(kind) = mode_of(mode) else {
         return Ok(None);
     };
     match key_of(alloc, key)? {
@@ -109,7 +74,7 @@ fn client_in(
     if !is_right(name, address) {
         return Ok(None);
     }
-    match number_in(count, MOST) {
+    match small_number(count) {
         Some(many) => member_of(alloc, many, id, key, mode),
         None => Ok(None),
     }
