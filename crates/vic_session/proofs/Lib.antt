@@ -1,6 +1,7 @@
 pub mod Begins
 pub mod Complete
 pub mod Extends
+pub mod Falls
 pub mod Fitting
 pub mod Hears
 pub mod Lawful

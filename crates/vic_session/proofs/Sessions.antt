@@ -312,8 +312,8 @@ module _ (g : Group) (me : ℕ) (script : List ℕ) (old : Told) (start : List �
         (talks_form i.taken) i.awaited tt (owed_busy p.doing (talk (talker g me script) script i.taken).doing busy i.doing) (λ e. absurd cc) i.on.text
         (any_end (end_for f) g me (talk (talker g me script) script i.taken).now c here)
 
-    -- memory ran out, or it would go on for ever
-    pub gives_up : IsSessionOf g me script old start ends.NoMemory now out c
+    -- memory ran out
+    gives_up : IsSessionOf g me script old start ends.NoMemory now out c
     gives_up =
         ended ends.NoMemory now Talks (i.hi ∷ i.taken) i.taken (frames_of left).0 i.before left out c i.wire (talks_form i.taken (frames_of left).0) i.awaited tt
         (λ all. subst (λ (l : List (List ℕ)). AppendedFront (frames l) old.written now.written) (sym i.all) (front_more i.before (one_of pending) old.written now.written all))

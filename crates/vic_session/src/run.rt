@@ -138,7 +138,8 @@ pub fn run_lines<L: Link>(
         Ok(sent) => sent,
         Err(NoMemory) => return SessionEnd::NoMemory,
     };
-    for _ in 0..u64::MAX {
+    // Each answer takes something from what may still come (`rank`).
+    'answers: loop {
         match place.doing {
             At::Leaves => return leave(alloc, link, &mut reader, &mut buffer, out),
             At::Bad(kind) => return SessionEnd::BadLine(place.number, kind),
@@ -156,7 +157,4 @@ pub fn run_lines<L: Link>(
             Err(NoMemory) => return SessionEnd::NoMemory,
         };
     }
-    // Each answer ends a line, uses up a poll, or seals a call, so no run comes here. That isn't proved, so it is told as want of
-    // memory.
-    SessionEnd::NoMemory
 }

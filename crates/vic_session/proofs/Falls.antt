@@ -1,0 +1,285 @@
+-- A talk takes only so many payloads: each answer takes something from what may still come.
+use Rattle.std.proofs.Common.{◌≡◌, ℕ, zero, suc, ◌+◌, ◌*◌, ◌<◌, ◌≤◌, Bool, true, false, List, [], ◌∷◌, ◌++◌, length, length-append, Option, Some, None, nat_eq, nat_lt, if◌then◌else◌, refl, sym, ap, subst, ◌∙◌, arith}
+use Rattle.std.proofs.lemmas.Bool.{and_parts}
+use Rattle.vic_dict.specs.declared.op.Op.{Op}
+use Rattle.vic_dict.specs.declared.op.Mode.{Mode}
+use Rattle.vic_dict.specs.declared.op.Entry.{Entry}
+use Rattle.vic_wire.specs.Hashes.{Group}
+use Rattle.vic_wire.specs.declared.message.Seal.{Seal}
+use Rattle.vic_wire.specs.declared.message.ToClient.{ToClient}
+use Rattle.vic_wire.specs.declared.message.ToClient.TheVariants as say
+use Rattle.vic_wire.specs.Parts.{Part, read_part}
+use Rattle.vic_wire.specs.Reading.{read_answer}
+use Rattle.vic_rules.specs.declared.state.Own.{Own}
+use Rattle.vic_rules.specs.declared.state.Awaiting.{Awaiting}
+use Rattle.vic_rules.specs.declared.state.Awaiting.TheVariants as awaits
+use Rattle.vic_rules.specs.declared.trace.Input.TheVariants as input
+use Rattle.vic_rules.specs.Client.{Standing, step, grown, is_awaited, has_form, verdict, verdict_on, replied, updated, taken, taken_or_halts, on_payload}
+use Rattle.vic_client.specs.Kept.{Kept}
+use Rattle.vic_script.specs.Lines.{lines_of}
+use Rattle.vic_script.specs.Run.{limit}
+use Rattle.vic_text.specs.declared.client_line.ClientLine.{ClientLine}
+use Rattle.vic_text.specs.declared.client_line.ClientLine.TheVariants as line
+use Rattle.vic_text.specs.ClientLines.{client_line_of}
+use Rattle.vic_session.specs.declared.place.At.{At}
+use Rattle.vic_session.specs.declared.place.At.TheVariants as at
+use Rattle.vic_session.specs.declared.place.Place.{Place}
+use Rattle.vic_session.specs.Talks.{Talk, Talker, Doing, Calls, Tells, Settles, Leaves, Bad, Halts, steps, asks, begins, tells_state, unsettled, goes_on, ends_line, goes_from, hears, is_idle}
+use Rattle.vic_session.specs.Talking.{On, IsDoing, IsBusy}
+use Rattle.vic_session.specs.Sessions.{IsOver}
+use Rattle.vic_session.proofs.Extends.{here, after_step, hears_is}
+
+-- ---- the client
+
+-- how many answers may still come to what is awaited: to a call its Reply, two for its entry, which is then unsealed, and one more
+abbrev pub open_of : Awaiting → ℕ
+open_of awaits.Nothing = 0
+open_of (awaits.Reply n o load) = 4
+open_of awaits.Turn = 1
+open_of awaits.Entries = 1
+open_of awaits.Kept = 1
+open_of (awaits.Content h n) = 1
+
+abbrev pub load_of : Standing → ℕ
+load_of s = 2 * length s.own + open_of s.awaiting
+
+open_some : (a : Awaiting) (m : ToClient) → is_awaited a m ≡ true → 0 < open_of a
+open_some awaits.Nothing m e = absurd cc
+open_some (awaits.Reply n o load) m e = omega arith
+open_some awaits.Turn m e = omega arith
+open_some awaits.Entries m e = omega arith
+open_some awaits.Kept m e = omega arith
+open_some (awaits.Content h n) m e = omega arith
+
+falls_replied : (me : ℕ) (s : Standing) (seal : Seal) (path : List Entry) (part : Option Part) (a : Awaiting) → s.awaiting ≡ a → (replied me s seal path part a).next.halted ≡ None
+    → load_of (replied me s seal path part a).next < load_of s
+falls_replied me s seal [] part a is live = absurd cc
+falls_replied me s seal (e ∷ below) None a is live = absurd cc
+falls_replied me s seal (e ∷ below) (Some part) (awaits.Reply n o load) is live =
+    let four : open_of s.awaiting ≡ 4 = ap open_of is in
+    let one : length (replied me s seal (e ∷ below) (Some part) (awaits.Reply n o load)).next.own ≡ length s.own + 1 = length-append s.own _ in
+    omega (arith, four, one)
+falls_replied me s seal (e ∷ below) (Some part) awaits.Nothing is live = absurd cc
+falls_replied me s seal (e ∷ below) (Some part) awaits.Turn is live = absurd cc
+falls_replied me s seal (e ∷ below) (Some part) awaits.Entries is live = absurd cc
+falls_replied me s seal (e ∷ below) (Some part) awaits.Kept is live = absurd cc
+falls_replied me s seal (e ∷ below) (Some part) (awaits.Content h n) is live = absurd cc
+
+falls_updated : (s : Standing) (seal : Seal) (part : Option Part) (own : List Own) → s.own ≡ own → (updated s seal part own).next.halted ≡ None → load_of (updated s seal part own).next < load_of s
+falls_updated s seal None own is live = absurd cc
+falls_updated s seal (Some part) [] is live = absurd cc
+falls_updated s seal (Some part) (o ∷ others) is live =
+    let more : length s.own ≡ suc (length others) = ap length is in
+    omega (arith, more)
+
+falls_taken : (me : ℕ) (s : Standing) (m : ToClient) → is_awaited s.awaiting m ≡ true → (taken me s m).next.halted ≡ None → load_of (taken me s m).next < load_of s
+falls_taken me s (say.Reply seal entries part) is live = falls_replied me s seal (grown s entries) (read_part part) s.awaiting refl live
+falls_taken me s say.Wait is live = let some = open_some s.awaiting say.Wait is in omega (arith, some)
+falls_taken me s (say.Update seal part) is live = falls_updated s seal (read_part part) s.own refl live
+falls_taken me s (say.Entries seal entries) is live = let some = open_some s.awaiting (say.Entries seal entries) is in omega (arith, some)
+falls_taken me s (say.Refused r) is live = let some = open_some s.awaiting (say.Refused r) is in omega (arith, some)
+falls_taken me s say.Hi is live = absurd cc
+falls_taken me s say.Kept is live = absurd cc
+falls_taken me s (say.Content c) is live = absurd cc
+falls_taken me s say.Gone is live = absurd cc
+falls_taken me s say.Absent is live = absurd cc
+
+-- what passes the first check is awaited
+form_awaited : (s : Standing) (m : ToClient) → has_form s m ≡ true → is_awaited s.awaiting m ≡ true
+form_awaited s (say.Reply seal entries part) e = (and_parts _ _ e).0
+form_awaited s (say.Update seal part) e = (and_parts _ _ e).0
+form_awaited s (say.Entries seal entries) e = (and_parts _ _ e).0
+form_awaited s say.Wait e = e
+form_awaited s (say.Refused r) e = e
+form_awaited s say.Hi e = e
+form_awaited s say.Kept e = e
+form_awaited s (say.Content c) e = e
+form_awaited s say.Gone e = e
+form_awaited s say.Absent e = e
+
+first_passes : (b : Bool) (others : Option ℕ) → (if b then others else Some 1) ≡ None → b ≡ true
+first_passes true others e = refl
+first_passes false others e = absurd cc
+
+passes_on : (g : Group) (me : ℕ) (s : Standing) (m : ToClient) → verdict_on g me s (Some m) ≡ None → is_awaited s.awaiting m ≡ true
+passes_on g me s m e = form_awaited s m (first_passes (has_form s m) _ e)
+
+falls_by : (g : Group) (me : ℕ) (s : Standing) (m : Option ToClient) (k : Option ℕ) → verdict_on g me s m ≡ k → (taken_or_halts me s m k).next.halted ≡ None → load_of (taken_or_halts me s m k).next < load_of s
+falls_by g me s m (Some k) is live = absurd cc
+falls_by g me s (Some m) None is live = falls_taken me s m (passes_on g me s m is) live
+falls_by g me s None None is live = absurd cc
+
+falls_on : (g : Group) (me : ℕ) (s : Standing) (k : Option ℕ) (payload : List ℕ) → (on_payload g me s k payload).next.halted ≡ None → load_of (on_payload g me s k payload).next < load_of s
+unfolding verdict
+falls_on g me s (Some k) payload live = absurd cc
+falls_on g me s None payload live = falls_by g me s (read_answer payload) (verdict g me s payload) refl live
+
+-- a client that takes an answer and doesn't halt
+falls_step : (g : Group) (me : ℕ) (s : Standing) (payload : List ℕ) → (step g me s (input.Payload payload)).next.halted ≡ None → load_of (step g me s (input.Payload payload)).next < load_of s
+unfolding step
+falls_step g me s payload live = falls_on g me s s.halted payload live
+
+-- ---- the talk
+
+-- how many answers a line may need, and lines may
+abbrev pub need_of : Option ClientLine → ℕ
+need_of None = 0
+need_of (Some line.Skip) = 0
+need_of (Some (line.Call o)) = 4
+need_of (Some line.Poll) = 1
+need_of (Some line.Sync) = 1
+need_of (Some (line.Settle n)) = n
+
+abbrev pub needs : Mode → List (List ℕ) → ℕ
+needs kind [] = 0
+needs kind (text ∷ texts) = need_of (client_line_of kind text) + needs kind texts
+
+-- how many polls are left
+abbrev pub left_of : Doing → ℕ
+left_of Calls = 0
+left_of Tells = 0
+left_of (Settles n) = n
+left_of Leaves = 0
+left_of (Bad k) = 0
+left_of (Halts k p) = 0
+
+-- how many answers a talk may still need
+abbrev pub need_at : Talker → Talk → ℕ
+need_at w t = needs w.group.mode t.lines + left_of t.doing + load_of t.now
+
+need_call : (w : Talker) (t : Talk) (o : Op) (d : Doing) → need_at w (asks w t (input.Call o) d) ≡ needs w.group.mode t.lines + left_of d + (2 * length t.now.own + 4)
+unfolding steps step
+need_call w t o d = refl
+
+need_poll : (w : Talker) (t : Talk) (d : Doing) → need_at w (asks w t input.Poll d) ≡ needs w.group.mode t.lines + left_of d + (2 * length t.now.own + 1)
+unfolding steps step
+need_poll w t d = refl
+
+need_sync : (w : Talker) (t : Talk) (d : Doing) → need_at w (asks w t input.Sync d) ≡ needs w.group.mode t.lines + left_of d + (2 * length t.now.own + 1)
+unfolding steps step
+need_sync w t d = refl
+
+-- where a talk isn't over, it needs at most so much
+abbrev AtMost : Talker → Talk → ℕ → Type 0
+AtMost w t most = (IsOver t.doing → ⊥) → need_at w t ≤ most
+
+over : (w : Talker) (t : Talk) (most : ℕ) → IsOver t.doing → AtMost w t most
+over w t most is = λ busy. absurd (busy is)
+
+either : (w : Talker) (b : Bool) (x y : Talk) (most : ℕ) → AtMost w x most → AtMost w y most → AtMost w (if b then x else y) most
+either w true x y most f g = f
+either w false x y most f g = g
+
+begun : (w : Talker) (t : Talk) (l : Option ClientLine) (next : Talk → Talk) → ((u : Talk) → AtMost w (next u) (needs w.group.mode t.lines + 2 * length u.now.own))
+    → AtMost w (begins w t l next) (need_of l + needs w.group.mode t.lines + 2 * length t.now.own)
+begun w t None next h = λ busy. absurd (busy tt)
+begun w t (Some line.Skip) next h = λ busy. (let x : need_at w (next t) ≤ needs w.group.mode t.lines + 2 * length t.now.own = h t busy in omega (arith, x))
+begun w t (Some (line.Call o)) next h = λ busy. (let x = need_call w t o Calls in omega (arith, x))
+begun w t (Some line.Poll) next h = λ busy. (let x = need_poll w t Tells in omega (arith, x))
+begun w t (Some line.Sync) next h = λ busy. (let x = need_sync w t Tells in omega (arith, x))
+begun w t (Some (line.Settle zero)) next h = λ busy.
+    (let x : need_at w (next (tells_state t)) ≤ needs w.group.mode t.lines + 2 * length t.now.own = h (tells_state t) busy in omega (arith, x))
+begun w t (Some (line.Settle (suc n))) next h =
+    either w (nat_eq (unsettled t) 0) (next (tells_state t)) (asks w t input.Poll (Settles n)) (suc n + needs w.group.mode t.lines + 2 * length t.now.own)
+    (λ busy. (let x : need_at w (next (tells_state t)) ≤ needs w.group.mode t.lines + 2 * length t.now.own = h (tells_state t) busy in omega (arith, x)))
+    (λ busy. (let x = need_poll w t (Settles n) in omega (arith, x)))
+
+gone_on : (w : Talker) (t : Talk) (texts : List (List ℕ)) → AtMost w (goes_on w t texts) (needs w.group.mode texts + 2 * length t.now.own)
+unfolding goes_on
+gone_on w t [] = λ busy. absurd (busy tt)
+gone_on w t (text ∷ texts) =
+    let u = here w t text texts in
+    either w (nat_lt limit u.behind) (record u { doing = Bad 7 }) (begins w u (client_line_of w.group.mode text) (λ v. goes_on w v texts)) (needs w.group.mode (text ∷ texts) + 2 * length t.now.own)
+    (λ busy. absurd (busy tt)) (begun w u (client_line_of w.group.mode text) (λ v. goes_on w v texts) (λ v. gone_on w v texts))
+
+told_on : (w : Talker) (t : Talk) → AtMost w (let u = tells_state t in goes_on w u u.lines) (needs w.group.mode t.lines + 2 * length t.now.own)
+told_on w t = gone_on w (tells_state t) t.lines
+
+-- what it is at is over
+ended : (w : Talker) (t : Talk) (d : Doing) → t.doing ≡ d → AtMost w (ends_line w t d) (needs w.group.mode t.lines + left_of d + 2 * length t.now.own)
+ended w t Calls is = λ busy. (let x = gone_on w t t.lines busy in omega (arith, x))
+ended w t Tells is = λ busy. (let x = told_on w t busy in omega (arith, x))
+ended w t (Settles zero) is = λ busy. (let x = told_on w t busy in omega (arith, x))
+ended w t (Settles (suc n)) is =
+    either w (nat_eq (unsettled t) 0) (let u = tells_state t in goes_on w u u.lines) (asks w t input.Poll (Settles n)) (needs w.group.mode t.lines + suc n + 2 * length t.now.own)
+    (λ busy. (let x = told_on w t busy in omega (arith, x))) (λ busy. (let x = need_poll w t (Settles n) in omega (arith, x)))
+ended w t Leaves is = over w t (needs w.group.mode t.lines + 0 + 2 * length t.now.own) (subst (λ (d : Doing). IsOver d) (sym is) tt)
+ended w t (Bad k) is = over w t (needs w.group.mode t.lines + 0 + 2 * length t.now.own) (subst (λ (d : Doing). IsOver d) (sym is) tt)
+ended w t (Halts k p) is = over w t (needs w.group.mode t.lines + 0 + 2 * length t.now.own) (subst (λ (d : Doing). IsOver d) (sym is) tt)
+
+gone_from : (w : Talker) (t : Talk) (payload : List ℕ) → AtMost w (goes_from w t payload None) (need_at w t)
+gone_from w t payload =
+    either w (is_idle t.now) (ends_line w t t.doing) t (need_at w t)
+    (λ busy. (let x = ended w t t.doing refl busy in omega (arith, x))) (λ busy. omega arith)
+
+falls_halted : (w : Talker) (t : Talk) (payload : List ℕ) (k : Option ℕ) → (after_step w t payload).now.halted ≡ k → (IsOver (goes_from w (after_step w t payload) payload k).doing → ⊥)
+    → need_at w (goes_from w (after_step w t payload) payload k) < need_at w t
+unfolding steps
+falls_halted w t payload (Some k) is busy = absurd (busy tt)
+falls_halted w t payload None is busy =
+    let most = gone_from w (after_step w t payload) payload busy in
+    let less : load_of (after_step w t payload).now < load_of t.now = falls_step w.group w.me t.now payload is in
+    let same : need_at w (after_step w t payload) ≡ needs w.group.mode t.lines + left_of t.doing + load_of (after_step w t payload).now = refl in
+    omega (arith, most, less, same)
+
+-- a talk that takes an answer and isn't over needs less then
+pub falls : (w : Talker) (t : Talk) (payload : List ℕ) → (IsOver (hears w t payload).doing → ⊥) → need_at w (hears w t payload) < need_at w t
+falls w t payload busy =
+    subst (λ (v : Talk). need_at w v < need_at w t) (sym (hears_is w t payload))
+    (falls_halted w t payload (steps w t (input.Payload payload)).now.halted refl (subst (λ (v : Talk). IsOver v.doing → ⊥) (hears_is w t payload) busy))
+
+-- ---- a session
+
+-- how many answers a client may still be given at its place of a script: one more where it awaits one
+abbrev rank_at : At → ℕ → ℕ
+rank_at at.Calls n = suc n
+rank_at at.Tells n = suc n
+rank_at (at.Settles k) n = suc (n + k)
+rank_at at.Leaves n = 0
+rank_at (at.Bad k) n = 0
+rank_at (at.Halts k h) n = 0
+
+abbrev pub rank : Kept → Place → ℕ
+rank c p = rank_at p.doing (needs c.mode (lines_of p.rest.now) + (2 * length c.own + open_of c.awaiting))
+
+busy_is : (a : At) (d : Doing) (n : ℕ) → IsBusy a → IsDoing a d → rank_at a n ≡ suc (n + left_of d)
+busy_is at.Calls d n b is = let z : left_of d ≡ 0 = ap left_of is in omega (arith, z)
+busy_is at.Tells d n b is = let z : left_of d ≡ 0 = ap left_of is in omega (arith, z)
+busy_is (at.Settles k) d n b is = let z : left_of d ≡ k = ap left_of is in omega (arith, z)
+busy_is at.Leaves d n b is = absurd b
+busy_is (at.Bad k) d n b is = absurd b
+busy_is (at.Halts k h) d n b is = absurd b
+
+not_over : (d e : Doing) → d ≡ e → (IsOver e → ⊥) → IsOver d → ⊥
+not_over d e is f o = f (subst (λ (x : Doing). IsOver x) is o)
+
+rank_less : (a : At) (d : Doing) (n m : ℕ) → IsDoing a d → ((IsOver d → ⊥) → n + left_of d < m) → rank_at a n < suc m
+rank_less at.Calls d n m is f = let x = f (not_over d Calls is (λ o. o)) in omega (arith, x)
+rank_less at.Tells d n m is f = let x = f (not_over d Tells is (λ o. o)) in omega (arith, x)
+rank_less (at.Settles k) d n m is f =
+    let x = f (not_over d (Settles k) is (λ o. o)) in
+    let z : left_of d ≡ k = ap left_of is in
+    omega (arith, x, z)
+rank_less at.Leaves d n m is f = omega arith
+rank_less (at.Bad k) d n m is f = omega arith
+rank_less (at.Halts k h) d n m is f = omega arith
+
+load_is : (w : Talker) (t : Talk) (start : List ℕ) (c : Kept) (p : Place) (out : List ℕ) → On w t start c p out
+    → needs c.mode (lines_of p.rest.now) + (2 * length c.own + open_of c.awaiting) ≡ needs w.group.mode t.lines + load_of t.now
+load_is w t start c p out on =
+    let lines : needs c.mode (lines_of p.rest.now) ≡ needs w.group.mode t.lines
+    = ap (λ (g : Group). needs g.mode (lines_of p.rest.now)) on.group ∙ ap (needs w.group.mode) (sym on.lines) in
+    let own : length c.own ≡ length t.now.own = ap length (sym on.stands_so.own) in
+    let waits : open_of c.awaiting ≡ open_of t.now.awaiting = ap open_of (sym on.stands_so.awaiting) in
+    omega (arith, lines, own, waits)
+
+pub rank_falls : (w : Talker) (t : Talk) (start payload : List ℕ) (c d : Kept) (p q : Place) (out text : List ℕ) → On w t start c p out → IsDoing p.doing t.doing → IsBusy p.doing
+    → On w (hears w t payload) start d q text → IsDoing q.doing (hears w t payload).doing → rank d q < rank c p
+rank_falls w t start payload c d p q out text on doing busy goes at =
+    let was = load_is w t start c p out on in
+    let is = load_is w (hears w t payload) start d q text goes in
+    let old = busy_is p.doing t.doing (needs c.mode (lines_of p.rest.now) + (2 * length c.own + open_of c.awaiting)) busy doing in
+    let less : rank_at q.doing (needs d.mode (lines_of q.rest.now) + (2 * length d.own + open_of d.awaiting)) < suc (needs w.group.mode t.lines + left_of t.doing + load_of t.now)
+    = rank_less q.doing (hears w t payload).doing (needs d.mode (lines_of q.rest.now) + (2 * length d.own + open_of d.awaiting)) (needs w.group.mode t.lines + left_of t.doing + load_of t.now) at
+    (λ go. (let x = falls w t payload go in omega (arith, x, is))) in
+    omega (arith, was, old, less)
