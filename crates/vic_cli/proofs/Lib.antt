@@ -1,3 +1,4 @@
 pub mod GroupEnds
 pub mod ClientEnding
 pub mod Serving
+pub mod Drilling

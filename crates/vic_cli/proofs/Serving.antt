@@ -63,7 +63,7 @@ pub ended : (asked : Option Asked) (d : Opened) (w : Given) (text written : List
 ended asked d w text written made kept planned result p e f k =
     subst (λ (x : Option Kept). Ends asked d w x result) (sym k) (ends_so asked d w text made planned result p (subst (λ (t : List ℕ). Finishes planned t w result) e f))
 
-no_none : {A : Type 0} → (o : Option A) → IsSome o → o ≡ None → ⊥
+pub no_none : {A : Type 0} → (o : Option A) → IsSome o → o ≡ None → ⊥
 no_none {A} o some none = false≢true (subst (λ (x : Option A). IsSome x) none some)
 
 -- each status but two has a cause that is ruled out

@@ -3,7 +3,8 @@ use Rattle.std.specs.Prelude.{ℕ, ◌&&◌, Bool, List, length, Option, Some, N
 use Rattle.std.specs.Str.{bytes_eq}
 use Rattle.vic_dict.specs.declared.op.Mode.{Mode}
 use Rattle.vic_dict.specs.declared.op.Mode.TheVariants as mode
-use Rattle.vic_script.specs.Words.{word_capped}
+use Rattle.vic_script.specs.Words.{word_number, word_capped}
+use Rattle.vic_text.specs.Numbers.{at_most}
 
 -- 1 to 255 bytes; what they mean is the adapter's
 abbrev pub is_address : List ℕ → Bool
@@ -20,6 +21,18 @@ number_in most word = up_to most (word_capped word)
 -- one of clients or of connections
 abbrev pub small_number : List ℕ → Option ℕ
 small_number word = number_in 64 word
+
+-- a number of four bytes, in decimal without leading zeros
+abbrev pub whole_number : List ℕ → Option ℕ
+whole_number word = at_most 4294967295 (word_number word)
+
+abbrev pub up_to_100000 : Option ℕ → Option ℕ
+up_to_100000 None = None
+up_to_100000 (Some n) = if nat_le 1 n && nat_le n 100000 then Some n else None
+
+-- a number from 1 to 100,000, in decimal without leading zeros
+abbrev pub calls_number : List ℕ → Option ℕ
+calls_number word = up_to_100000 (word_capped word)
 
 -- the kind of a group. The word `objects` joins once there is a server for objects
 abbrev pub mode_of : List ℕ → Option Mode

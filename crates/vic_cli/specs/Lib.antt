@@ -7,3 +7,4 @@ pub mod ClientWords
 pub mod ClientEnds
 pub mod Arguments
 pub mod Serving
+pub mod Drilling

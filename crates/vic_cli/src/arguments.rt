@@ -1,7 +1,7 @@
 //! Single words of a command line.
 
 ghost use Rattle.std.specs.Prelude.{◌≡◌, ◌<◌, ◌≤◌, IfSome};
-ghost use Rattle.vic_cli.specs.Arguments.{is_address as address_test, number_in as number_by, small_number as small_number_by, mode_of as mode_by};
+ghost use Rattle.vic_cli.specs.Arguments.{is_address as address_test, number_in as number_by, small_number as small_number_by, calls_number as calls_number_by, mode_of as mode_by};
 
 use vic_dict::Mode;
 use vic_text::word::{is_name, number_of};
@@ -37,6 +37,17 @@ pub fn small_number(word: &[u8]) -> Option<u8>
     ensures range { IfSome result (λ n. (0 < n) × (n ≤ 64)) }
 {
     number_in(word, 64)
+}
+
+/// The number of calls that a word spells in decimal, where that is 1 to 100,000.
+pub fn calls_number(word: &[u8]) -> Option<u32>
+    ensures is { result ≡ calls_number_by word.now }
+    ensures range { IfSome result (λ n. (0 < n) × (n ≤ 100000)) }
+{
+    match number_of(word) {
+        Some(n) if 1 <= n && n <= 100_000 => Some(n),
+        _ => None,
+    }
 }
 
 /// The kind of a group: `plain`. This is the one place that `objects` is to join, once there is a server for them.

@@ -2,13 +2,14 @@
 //!
 //! Each composes what it prints in memory, and writes it at the end by [`finish`]. The contract of [`run_group`] carries `Ends`,
 //! `IsAsClaimed` and `IsComplete` of `specs/GroupEnds.antt`; that of [`run_client`] carries `ClientEnds` and
-//! `IsClientComplete` of `specs/ClientEnds.antt`; that of [`run_serve`] carries `Ends` and `IsComplete` of `specs/Serving.antt`. A
-//! program ends with [`code_of`] its command's status.
+//! `IsClientComplete` of `specs/ClientEnds.antt`; that of [`run_serve`] carries `Ends` and `IsComplete` of `specs/Serving.antt`, and that
+//! of [`run_drill`] those of `specs/Drilling.antt`. A program ends with [`code_of`] its command's status.
 #![tactic(auto)]
 
 mod arguments;
 pub mod client;
 pub mod client_words;
+pub mod drill;
 mod exit;
 pub mod group;
 mod output;
@@ -17,6 +18,7 @@ pub mod session;
 mod words;
 
 pub use client::run_client;
+pub use drill::run_drill;
 pub use exit::code_of;
 pub use group::{run_group, run_in_memory};
 pub use output::{Composed, Text, finish};
@@ -26,6 +28,8 @@ pub use words::words_of;
 
 #[cfg(test)]
 mod client_tests;
+#[cfg(test)]
+mod drill_tests;
 #[cfg(test)]
 mod serve_tests;
 #[cfg(test)]

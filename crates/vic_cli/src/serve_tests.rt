@@ -143,7 +143,7 @@ const ROWS: [Row; 15] = [
 ];
 
 const USAGE: &[u8] =
-    b"usage: vicos group | client ADDRESS ID COUNT KEY MODE | serve ADDRESS COUNT MODE CONNECTIONS\n";
+    b"usage: vicos group | drill NUMBER CLIENTS CALLS | client ADDRESS ID COUNT KEY MODE | serve ADDRESS COUNT MODE CONNECTIONS\n";
 
 pub(crate) fn words_of(alloc: Global, text: &str) -> Result<Vec<String>, NoMemory> {
     let mut words = Vec::new(alloc);

@@ -206,7 +206,7 @@ fn in_memory(rt: HostRuntime) -> Result<(), Fail> {
 fn wrong_words(rt: HostRuntime) -> Result<(), Fail> {
     let row: Row = (
         "clients 1",
-        "usage: vicos group | client ADDRESS ID COUNT KEY MODE | serve ADDRESS COUNT MODE CONNECTIONS",
+        "usage: vicos group | drill NUMBER CLIENTS CALLS | client ADDRESS ID COUNT KEY MODE | serve ADDRESS COUNT MODE CONNECTIONS",
         2,
     );
     for command in ["group x", "groups", ""] {
@@ -229,7 +229,7 @@ fn one_fault(rt: HostRuntime) -> Result<(), Fail> {
             "group x",
             1,
             0,
-            b"usage: vicos group | client ADDRESS ID COUNT KEY MODE | serve ADDRESS COUNT MODE CONNECTIONS\n",
+            b"usage: vicos group | drill NUMBER CLIENTS CALLS | client ADDRESS ID COUNT KEY MODE | serve ADDRESS COUNT MODE CONNECTIONS\n",
             2
         )?
     );

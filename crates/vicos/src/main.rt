@@ -6,7 +6,7 @@
 #![tactic(auto)]
 
 use std::process::ExitCode;
-use vic_cli::{code_of, finish, run_client, run_group, run_serve, words_of};
+use vic_cli::{code_of, finish, run_client, run_drill, run_group, run_serve, words_of};
 use vic_gate::OpenGate;
 use vic_ports::{StdSink, StdSource, TcpDoors, TcpLine};
 use vic_text::Status;
@@ -31,7 +31,9 @@ fn main(rt: HostRuntime) -> ExitCode {
     let words = given.as_slice();
     let command = word_at(words, 0);
     let address = word_at(words, 1);
-    let status = if command == "client" {
+    let status = if command == "drill" {
+        run_drill(alloc, words, &mut sink)
+    } else if command == "client" {
         let mut link = TcpLine::open(&rt, address);
         run_client(alloc, words, &mut source, &mut link, &mut sink)
     } else if command == "serve" {

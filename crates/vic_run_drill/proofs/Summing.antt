@@ -1,0 +1,20 @@
+-- The summary of what the code of a drill keeps is that of the drill.
+use Rattle.std.proofs.Common.{◌≡◌, ℕ, List, ◌++◌, Option, Some, codes, sym, ap, ◌∙◌}
+use Rattle.vic_order.specs.Order.{Server}
+use Rattle.vic_order.specs.Scenes.{server_at}
+use Rattle.vic_drill.specs.Drills.{Drill as Definition, line, ends_done, ends_aborted, ends_refused, count_of, server_in, server_lines, summary}
+use Rattle.vic_run_drill.specs.declared.run.Drill.{Drill}
+use Rattle.vic_run_drill.specs.Running.{Stands, summary_lines}
+
+abbrev lines_by : ℕ → ℕ → ℕ → ℕ → ℕ → Option Server → List ℕ
+lines_by clients calls done aborted refused server =
+    line (codes "clients") clients ++ line (codes "calls") calls ++ line (codes "done") done ++ line (codes "aborted") aborted ++ line (codes "refused") refused ++ server_lines server
+
+pub summary_is : (r : Drill) (d : Definition) (n clients calls : ℕ) → Stands r d n → summary_lines clients calls r.tally r.served.server ≡ summary clients calls d.scene
+summary_is r d n clients calls at =
+    let own : Option Server = Some r.served.server in
+    let server : server_in d.scene ≡ own = ap (λ (us : List (Option Server)). server_at us 1) at.scene.servers in
+    ap (λ (k : ℕ). lines_by clients calls k r.tally.aborted r.tally.refused own) at.scene.done
+    ∙ ap (λ (k : ℕ). lines_by clients calls (count_of ends_done d.scene.history) k r.tally.refused own) at.scene.aborted
+    ∙ ap (λ (k : ℕ). lines_by clients calls (count_of ends_done d.scene.history) (count_of ends_aborted d.scene.history) k own) at.scene.refused
+    ∙ ap (λ (o : Option Server). lines_by clients calls (count_of ends_done d.scene.history) (count_of ends_aborted d.scene.history) (count_of ends_refused d.scene.history) o) (sym server)
