@@ -26,13 +26,9 @@ small_number word = number_in 64 word
 abbrev pub whole_number : List ℕ → Option ℕ
 whole_number word = at_most 4294967295 (word_number word)
 
-abbrev pub up_to_100000 : Option ℕ → Option ℕ
-up_to_100000 None = None
-up_to_100000 (Some n) = if nat_le 1 n && nat_le n 100000 then Some n else None
-
 -- a number from 1 to 100,000, in decimal without leading zeros
 abbrev pub calls_number : List ℕ → Option ℕ
-calls_number word = up_to_100000 (word_capped word)
+calls_number word = number_in 100000 word
 
 -- the kind of a group. The word `objects` joins once there is a server for objects
 abbrev pub mode_of : List ℕ → Option Mode
