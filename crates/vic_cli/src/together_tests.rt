@@ -97,9 +97,11 @@ fn has_called(alloc: Global, caller: &Caller) -> Result<bool, Fail> {
     let number = caller.number;
     let front = format!(in alloc; "done stored\ndone value v{number}\nstate sealed ")?;
     let printed = caller.sink.held().as_slice();
-    Ok(caller.status == Some(Status::Ok)
-        && printed.starts_with(front.as_bytes())
-        && printed.ends_with(b"\nbye\n"))
+    Ok(
+        caller.status == Some(Status::Ok)
+            && printed.starts_with(front.as_bytes())
+            && printed.ends_with(b"\nbye\n"),
+    )
 }
 
 #[test]
