@@ -153,8 +153,9 @@ fn handle<L: Link, D: Desk, G: Gate, R: Wait>(
 /// Answers the frames of a link by a desk, one after the other, until the link ends. Whatever the end is, what was read,
 /// served and sent stays.
 ///
-/// It keeps what is not yet a whole frame or the frame in hand, a buffer of 4,096 bytes, and the frame of an answer while that is
-/// sent; while an answer is formed, its parts stand beside. A frame is sent by one write, where the link takes it whole.
+/// It keeps at most two frames each way: of what comes in, what the reader holds and the request in hand, which is a copy; of what
+/// goes out, the answer's bytes and the frame made of them. Beside these stand a buffer of 4,096 bytes and, while an answer is formed
+/// and framed, its parts. A frame is sent by one write, where the link takes it whole.
 pub fn work<L: Link, D: Desk, G: Gate, R: Wait>(
     rt: &R,
     alloc: Global,

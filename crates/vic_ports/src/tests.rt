@@ -108,6 +108,16 @@ fn writes_as_answered(rt: HostRuntime) -> Result<(), Fail> {
     Ok(())
 }
 
+/// Whether one of the next thousand writes fails. A write to an end that is gone is told as a fault, and no signal ends the program.
+fn fails_in_the_end(line: &mut TcpLine) -> bool {
+    for _ in 0..1000 {
+        if line.write(b"abc") == Put::Failed {
+            return true;
+        }
+    }
+    false
+}
+
 #[test]
 fn loops_back(rt: HostRuntime) -> Result<(), Fail> {
     let mut doors = TcpDoors::open(&rt, "127.0.0.1:0");
@@ -122,6 +132,7 @@ fn loops_back(rt: HostRuntime) -> Result<(), Fail> {
     assert_eq!(rt; &into[..3], b"abc".as_slice());
     doors.back(here);
     assert_eq!(rt; there.read(&mut into), Got::End);
+    assert!(rt; fails_in_the_end(&mut there));
     Ok(())
 }
 
