@@ -111,7 +111,7 @@ fn ends_by_each_fault_of_the_link(rt: HostRuntime) -> Result<(), Fail> {
 
 #[test]
 fn tells_a_bad_line(rt: HostRuntime) -> Result<(), Fail> {
-    let (status, printed, _) = run(rt.alloc(), &RIGHT, b"put a x\n\npoll", REFUSED)?;
+    let (status, printed, _) = run(rt.alloc(), &RIGHT, b"put a x\n \npoll", REFUSED)?;
     assert_eq!(rt; status, Status::BadLine);
     assert_eq!(rt;
         printed.as_slice(),

@@ -236,18 +236,33 @@ fn one_fault(rt: HostRuntime) -> Result<(), Fail> {
     Ok(())
 }
 
+/// Whether a long script with this line prints this.
+fn prints_long(
+    alloc: Global,
+    size: usize,
+    first: u8,
+    text: &[u8],
+    status: u8,
+) -> Result<bool, NoMemory> {
+    let script = long_script(alloc, size, first)?;
+    prints(alloc, "group", script, text, status)
+}
+
 #[test]
 fn longest_script(rt: HostRuntime) -> Result<(), Fail> {
-    let rows = [
-        (16_777_216, b'a', "line 2: not a line of this script\n", 5),
-        (16_777_217, b'a', "line 2: script too long\n", 5),
-        (16_777_216, b'#', "view 1\ntags made\n", 0),
-        (16_777_217, b'#', "line 2: script too long\n", 5),
-    ];
-    for (size, first, text, status) in rows {
-        let script = long_script(rt.alloc(), size, first)?;
-        assert!(rt; prints(rt.alloc(), "group", script, text.as_bytes(), status)?, "{text}");
-    }
+    let bad = b"line 2: not a line of this script\n";
+    assert!(rt; prints_long(rt.alloc(), 16_777_216, b'a', bad, 5)?);
+    let long = b"line 2: script too long\n";
+    assert!(rt; prints_long(rt.alloc(), 16_777_217, b'a', long, 5)?);
+    Ok(())
+}
+
+#[test]
+fn longest_comment(rt: HostRuntime) -> Result<(), Fail> {
+    let whole = b"view 1\ntags made\n";
+    assert!(rt; prints_long(rt.alloc(), 16_777_216, b'#', whole, 0)?);
+    let long = b"line 2: script too long\n";
+    assert!(rt; prints_long(rt.alloc(), 16_777_217, b'#', long, 5)?);
     Ok(())
 }
 

@@ -55,14 +55,14 @@ zeros_spell key are =
     let same : ◌≡◌ {A = Result (List ℕ) FromHexError} (Ok key) (Ok (replicate 32 0)) = sym found ∙ zeros_decode in
     cc
 
-no_fault : (o : Option KeyFault) (d : Result (List ℕ) FromHexError) (key : List ℕ) → MatchOption o (d ≡ Ok key) (λ e. ◌≡◌ {A = Result (List ℕ) KeyFault} (Ok key) (Err e)) → d ≡ Ok key
+-- a text that gave a key has no fault
+pub no_fault : (o : Option KeyFault) (d : Result (List ℕ) FromHexError) (key : List ℕ) → MatchOption o (d ≡ Ok key) (λ e. ◌≡◌ {A = Result (List ℕ) KeyFault} (Ok key) (Err e)) → d ≡ Ok key
 no_fault None d key h = h
 no_fault (Some e) d key h = absurd cc
 
 -- the key that digits spell
-pub digits_spell : (digits text key : List ℕ) → text ≡ digits → MatchOption (fault_in (chars text)) (decode_of text ≡ Ok key) (λ e. ◌≡◌ {A = Result (List ℕ) KeyFault} (Ok key) (Err e)) → result_ok (decode_of digits) ≡ Some key
-digits_spell digits text key same h =
-    ap (λ (ds : List ℕ). result_ok (decode_of ds)) (sym same) ∙ ap (λ (d : Result (List ℕ) FromHexError). result_ok d) (no_fault (fault_in (chars text)) (decode_of text) key h)
+pub digits_spell : (digits text key : List ℕ) → text ≡ digits → decode_of text ≡ Ok key → result_ok (decode_of digits) ≡ Some key
+digits_spell digits text key same h = ap (λ (ds : List ℕ). result_ok (decode_of ds)) (sym same) ∙ ap (λ (d : Result (List ℕ) FromHexError). result_ok d) h
 
 -- so many clients of a group have come in, and server 1 serves them
 pub record HaveEntered (g : Group) (n : ℕ) (ms : List Member) : Type 0 where

@@ -1,11 +1,9 @@
 //! The header of a script: how many clients the group has, and its key.
 
-ghost use Rattle.std.specs.Prelude.{◌≡◌, ◌<◌, ◌≤◌, IfOk, Some, None, unwrap_or};
-ghost use Rattle.std.specs.Result.{result_ok};
-ghost use Rattle.hex.specs.Hex.{decode_of};
+ghost use Rattle.std.specs.Prelude.{◌≡◌, IfOk, Some, None, unwrap_or};
 ghost use Rattle.vic_dict.specs.declared.op.Mode.TheVariants as mode;
 ghost use Rattle.vic_order.specs.Scenes.{opening};
-ghost use Rattle.vic_script.specs.Lines.{line_of, is_key_digits};
+ghost use Rattle.vic_script.specs.Lines.{line_of};
 ghost use Rattle.vic_script.specs.Run.{zero_key as zeros, group_by, mode_in, scene_in, Before, Heads};
 ghost use Rattle.vic_group.specs.World.{ShowsScene};
 ghost use Rattle.vic_group.specs.Playing.{state, header_by, place_by, HasFew, Leads};

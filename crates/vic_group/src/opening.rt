@@ -26,15 +26,22 @@ pub fn zero_key(alloc: Global) -> Result<GroupKey, NoMemory>
     }
 }
 
-/// The key that digits spell, capital or small.
+/// The key that a text spells in hexadecimal digits.
+fn text_key(alloc: Global, text: &str) -> Result<GroupKey, NoMemory>
+    ensures { IfOk result (λ key. decode_of text.now ≡ Ok key) }
+{
+    match GroupKey::from_hex(alloc, text) {
+        Ok(key) => Ok(key),
+        Err(_) => Err(NoMemory),
+    }
+}
+
+/// The key that digits spell, capital or small: 2 to 128 of them, in an even number.
 pub fn spelled_key(alloc: Global, digits: &[u8]) -> Result<GroupKey, NoMemory>
     ensures { IfOk result (λ key. result_ok (decode_of digits.now) ≡ Some key) }
 {
-    let Ok(text) = str::from_utf8(digits) else {
-        return Err(NoMemory);
-    };
-    match GroupKey::from_hex(alloc, text) {
-        Ok(key) => Ok(key),
+    match str::from_utf8(digits) {
+        Ok(text) => text_key(alloc, text),
         Err(_) => Err(NoMemory),
     }
 }
