@@ -78,7 +78,10 @@ fn skips_lines(rt: HostRuntime) -> Result<(), Fail> {
     assert_eq!(rt; sent_too.as_slice(), sent.as_slice());
     let (status, printed, _) = run(rt.alloc(), &RIGHT, b"# a\n\n # b\nput a x", REFUSED)?;
     assert_eq!(rt; status, Status::BadLine);
-    assert_eq!(rt; printed.as_slice(), b"line 3: not a line of this script\n".as_slice());
+    assert_eq!(rt;
+        printed.as_slice(),
+        b"line 3: not a line of this script\n".as_slice()
+    );
     Ok(())
 }
 

@@ -28,11 +28,7 @@ const ROWS: [Row; 17] = [
         5,
     ),
     // A header alone.
-    (
-        "clients 1 / key 00",
-        "view 1 / tags made",
-        0,
-    ),
+    ("clients 1 / key 00", "view 1 / tags made", 0),
     // Comments and empty lines before the header, in it, between other lines and at the end.
     (
         "# one client /  / clients 1 / # its key /  / key 0B0b / # a put / call 1 put a x /  / run 1 / # the end",
@@ -61,11 +57,7 @@ const ROWS: [Row; 17] = [
         "line 3: not a line of this script",
         5,
     ),
-    (
-        "key 00 / clients 1",
-        "line 1: not a line of this script",
-        5,
-    ),
+    ("key 00 / clients 1", "line 1: not a line of this script", 5),
     (
         "clients 1 / key 000",
         "line 2: not a line of this script",
@@ -77,11 +69,7 @@ const ROWS: [Row; 17] = [
         "line 4: not a line of this script",
         5,
     ),
-    (
-        "# clients 1",
-        "line 2: not a line of this script",
-        5,
-    ),
+    ("# clients 1", "line 2: not a line of this script", 5),
     // Lines that are skipped are counted.
     (
         "# a / clients 1 /  / # b / take 1",
@@ -277,7 +265,10 @@ fn unended_scripts(rt: HostRuntime) -> Result<(), Fail> {
     ];
     for (script, text, status) in rows {
         let script = Bytes::of(rt.alloc(), script.as_bytes())?;
-        assert!(rt; prints(rt.alloc(), "group", script, text.as_bytes(), status)?, "{text}");
+        assert!(rt;
+            prints(rt.alloc(), "group", script, text.as_bytes(), status)?,
+            "{text}"
+        );
     }
     Ok(())
 }
