@@ -57,7 +57,10 @@ fn goes_so(alloc: Global, row: &Row) -> Result<bool, NoMemory> {
 #[test]
 fn drills_go_so(rt: HostRuntime) -> Result<(), Fail> {
     for (place, row) in ROWS.iter().enumerate() {
-        assert!(rt; goes_so(rt.alloc(), row).ok().ok_or("memory")?, "row {place}");
+        assert!(rt;
+            goes_so(rt.alloc(), row).ok().ok_or("memory")?,
+            "row {place}"
+        );
     }
     Ok(())
 }

@@ -1,6 +1,7 @@
 -- What a client of a drill may be asked for, and what may be counted.
-use Rattle.std.proofs.Common.{◌≡◌, ℕ, ◌+◌, ◌<◌, ◌≤◌, ◌^◌, Bool, true, false, ◌&&◌, List, length, Option, Some, is_none, IsTrue, refl, sym, ap, subst, ◌∙◌, arith, slice_get}
+use Rattle.std.proofs.Common.{◌≡◌, ℕ, ◌+◌, ◌<◌, ◌≤◌, ◌^◌, Bool, true, false, ◌&&◌, List, length, Option, Some, is_none, IsTrue, refl, sym, ap, subst, ◌∙◌, arith, slice_get, get_or}
 use Rattle.std.proofs.lemmas.List.Sums.{count_by-le-length}
+use Rattle.std.proofs.lemmas.Option.{slice_get_read}
 use Rattle.vic_dict.specs.declared.op.Outcome.{Outcome}
 use Rattle.vic_dict.specs.declared.op.Mode.TheVariants as mode
 use Rattle.vic_wire.specs.Hashes.{Group}
@@ -70,3 +71,7 @@ drawn_stands r d n x at is = record {
   calls = at.calls;
   runs = drawn-runs (length r.seats.items) d n (step_on d.drawing) d.calls at.runs.drawing at.runs;
 }
+
+-- the seat at a place
+pub seat_there : (xs ys : List Seat) (k : ℕ) (m : Seat) → ys ≡ xs → k < length ys → m ≡ get_or ys k m → slice_get xs k ≡ Some m
+seat_there xs ys k m same lt is = ap (λ (zs : List Seat). slice_get zs k) (sym same) ∙ slice_get_read ys (length ys) k m refl lt is

@@ -1,6 +1,8 @@
 -- The phases of a drill: events again and again, and stopping where nothing changes any more.
 use Rattle.std.proofs.Common.{◌≡◌, ℕ, zero, suc, ◌+◌, ◌-◌, ◌*◌, ◌<◌, ◌≤◌, ◌^◌, Bool, true, false, List, [], ◌∷◌, length, map, replicate, Option, Some, None, option_map, nat_lt, if◌then◌else◌, refl, sym, ap, subst, ◌∙◌, arith, slice_get}
 use Rattle.std.proofs.lemmas.Bool.{lt-ltb, le-ltb}
+use Rattle.std.specs.Prelude.{Result, Ok, Err, IfOk, OnOk}
+use Rattle.vic_dict.specs.declared.bytes.NoMemory.{NoMemory}
 use Rattle.vic_dict.specs.declared.op.Mode.TheVariants as mode
 use Rattle.vic_server.specs.Replay.{opening as opening_server}
 use Rattle.vic_rules.specs.History.{standing}
@@ -176,3 +178,20 @@ pub first_end : (s : Scene) (i n : ℕ) → n ≡ 0 → first_waiting s i n ≡ 
 unfolding first_waiting
 first_end s i zero e = refl
 first_end s i (suc n) e = absurd (omega (arith, e))
+
+pub first_bounds : (d : Definition) (who : ℕ) → first_waiting d.scene 1 d.scene.group.count ≡ Some who → (0 < who) × (who ≤ d.scene.group.count)
+first_bounds d who e = within d.scene.group.count (first_waiting d.scene 1 d.scene.group.count) e (first_is d.scene 1 d.scene.group.count)
+  where
+    within : (n : ℕ) (o : Option ℕ) → o ≡ Some who → IsFirst d.scene 1 n o → (0 < who) × (who ≤ n)
+    within n None is f = absurd cc
+    within n (Some k) is f = let same : k ≡ who = cc in let low = f.0 in let high = f.1 in (omega (arith, same, low), omega (arith, same, high))
+
+-- ---- what may have found no memory
+
+pub on_ok_map : {T : Type 0} (r : Result T NoMemory) (P Q : Type 0) → (P → Q) → OnOk r P → OnOk r Q
+on_ok_map (Ok x) P Q f p = f p
+on_ok_map (Err e) P Q f p = tt
+
+pub if_ok_map : {T : Type 0} (r : Result T NoMemory) (P Q : T → Type 0) → ((x : T) → P x → Q x) → IfOk r P → IfOk r Q
+if_ok_map (Ok x) P Q f p = f x p
+if_ok_map (Err e) P Q f p = tt

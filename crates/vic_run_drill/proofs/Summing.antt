@@ -2,7 +2,7 @@
 use Rattle.std.proofs.Common.{◌≡◌, ℕ, List, ◌++◌, Option, Some, codes, sym, ap, ◌∙◌}
 use Rattle.vic_order.specs.Order.{Server}
 use Rattle.vic_order.specs.Scenes.{server_at}
-use Rattle.vic_drill.specs.Drills.{Drill as Definition, line, ends_done, ends_aborted, ends_refused, count_of, server_in, server_lines, summary}
+use Rattle.vic_drill.specs.Drills.{Drill as Definition, line, ends_done, ends_aborted, ends_refused, count_of, server_in, server_lines, summary, begun, turn_below, closes, repeats, most_turns, most_events, drill, print_of_drill}
 use Rattle.vic_run_drill.specs.declared.run.Drill.{Drill}
 use Rattle.vic_run_drill.specs.Running.{Stands, summary_lines}
 
@@ -18,3 +18,11 @@ summary_is r d n clients calls at =
     ∙ ap (λ (k : ℕ). lines_by clients calls (count_of ends_done d.scene.history) k r.tally.refused own) at.scene.aborted
     ∙ ap (λ (k : ℕ). lines_by clients calls (count_of ends_done d.scene.history) (count_of ends_aborted d.scene.history) k own) at.scene.refused
     ∙ ap (λ (o : Option Server). lines_by clients calls (count_of ends_done d.scene.history) (count_of ends_aborted d.scene.history) (count_of ends_refused d.scene.history) o) (sym server)
+
+-- where the phases have their bounds, it is what is printed
+pub printed : (number clients calls most events : ℕ) → most ≡ most_turns calls → events ≡ most_events clients calls
+    → summary clients calls (repeats events closes (repeats most (turn_below calls) (begun number clients))).scene ≡ print_of_drill number clients calls
+unfolding drill
+printed number clients calls most events e f =
+    ap (λ (k : ℕ). summary clients calls (repeats events closes (repeats k (turn_below calls) (begun number clients))).scene) e
+    ∙ ap (λ (k : ℕ). summary clients calls (repeats k closes (repeats (most_turns calls) (turn_below calls) (begun number clients))).scene) f

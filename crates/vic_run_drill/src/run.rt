@@ -211,12 +211,7 @@ fn calls_in(act: &Act) -> u32
 ///
 /// It takes memory for what its clients keep, for the server and its history, and for one message a client. Each turn costs what
 /// the one serving or the one step costs; each event of the closing phase a look at each client as well.
-pub fn summary_of(
-    alloc: Global,
-    number: u32,
-    clients: u8,
-    calls: u32,
-) -> Result<Bytes, NoMemory>
+pub fn summary_of(alloc: Global, number: u32, clients: u8, calls: u32) -> Result<Bytes, NoMemory>
     requires some { 0 < clients }
     requires few { clients ≤ 64 }
     requires bound { calls ≤ 100000 }

@@ -94,12 +94,7 @@ impl Seat {
 
     /// The message that is under way goes on by one step: the server answers it, or the client takes it. After want of memory all
     /// is as before.
-    pub fn go_on(
-        &mut self,
-        alloc: Global,
-        served: &mut Served,
-        who: u8,
-    ) -> Result<Went, NoMemory>
+    pub fn go_on(&mut self, alloc: Global, served: &mut Served, who: u8) -> Result<Went, NoMemory>
         ensures { (g : Group) (h : List TraceStep) → SeatStands g h self.old who → IfOk result (λ w. Goes g h who self.old self.new served.old.server served.new.server w) }
     {
         match &self.under_way {

@@ -5,4 +5,4 @@ use Rattle.vic_run_drill.proofs.run.Drill.seal_all.Given as goal
 
 -- so many events happened
 abbrev pub invariant-loop-event : goal.invariant-loop-event
-invariant-loop-event l = (d : Definition) (n : ℕ) → Stands l.fn.self d n → Stands l.self (repeats l.event closes d) (n + l.event)
+invariant-loop-event l = (d : Definition) (n : ℕ) → Stands l.fn.self d n → Stands l.self (repeats l._event closes d) (n + l._event)
