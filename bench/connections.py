@@ -47,6 +47,7 @@ import sys
 import threading
 import time
 
+sys.dont_write_bytecode = True  # no folder of Python's own beside the measures
 from scale import built, default_program, number, numbers, processor, stop
 
 KEY = "6578616d706c65"  # the group's key, which the server isn't given
