@@ -81,7 +81,7 @@ module _ {S V : Type 0} (state : S → V) (rule : Serving V) where
   line_fits : (s : SceneOf V) (l : Line) → HasBytes l → bad_kind s l ≡ None → is_honest_line l ≡ true → FitsLine l
   unfolding bad_kind
   line_fits s (line.Clients n) bytes good honest = absurd cc
-  line_fits s (line.Key digits) bytes good honest = tt
+  line_fits s (line.Key digits) bytes good honest = absurd cc
   line_fits s (line.Hostile name n) bytes good honest = tt
   line_fits s (line.Call i o) bytes good honest = ((fits_op_is o).0 (and_parts (same_mode s.group.mode mode.Plain) (fits_op o) (called_first s i o good)).1, bytes)
   line_fits s (line.Poll i) bytes good honest = tt

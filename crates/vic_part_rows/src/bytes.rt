@@ -6,9 +6,8 @@ use std::test::*;
 use std::thread;
 use std::thread::Threads;
 use vic_dict::{Answer, Bytes, NoMemory, Op};
-use vic_hash::Digest32;
 use vic_proof::{ProofFault, bare_bytes, cut_bytes, part_bytes, part_of};
-use vic_prune::{PruneFault, cut_for, cut_none};
+use vic_prune::{PruneFault, Pruned, cut_for, cut_none};
 use vic_trie::Trie;
 
 // `a` = `x` and `b` = `y`: the bits of the keys part at 7.
@@ -150,34 +149,72 @@ fn goes_deep(alloc: Global) -> Result<bool, NoMemory> {
     }
 }
 
-// Whether operations walk such a part down to its bottom. The key's bits are 1 but for the last one, 2,295: there its leaf stands on
-// the left, and the stub that a list meets on the right.
-fn walks_down(alloc: Global) -> Result<bool, NoMemory> {
-    let key = [0xffu8; 255];
+// A part whose key, of 255 bytes 0xff, stands at its bottom. The key's bits are 1 but for the last one, 2,295: there its leaf stands on
+// the left, and a stub on the right.
+fn lowest(alloc: Global, key: &[u8]) -> Result<Bytes, NoMemory> {
     let mut last = Bytes::of(alloc, &[2, 0x08, 0xf7, 1, 255])?;
-    last.append(&key)?;
+    last.append(key)?;
     last.append(&[1, 0x78])?;
-    let bytes = deep(alloc, 2295, last.as_slice())?;
-    let get = Op::Get(Bytes::of(alloc, &key)?);
-    let put = Op::Put(Bytes::of(alloc, &key)?, Bytes::of(alloc, b"y")?);
-    let del = Op::Del(Bytes::of(alloc, &key)?);
-    let list = Op::List(Bytes::of(alloc, &key)?);
-    if !(get.fits() && put.fits() && del.fits() && list.fits()) {
+    deep(alloc, 2295, last.as_slice())
+}
+
+// Whether a get of the key finds its value at the bottom.
+fn finds(alloc: Global, part: &Pruned, key: &[u8]) -> Result<bool, NoMemory>
+    requires { length key.now < 256 }
+{
+    let get = Op::Get(Bytes::of(alloc, key)?);
+    if !get.fits() {
         return Ok(false);
     }
+    let answer = part.try_op(alloc, &get);
+    match &answer {
+        Ok(Answer::Found(value)) => Ok(value.as_slice() == b"x".as_slice()),
+        _ => Ok(false),
+    }
+}
+
+// Whether a list of the key's names meets the stub on the right.
+fn list_stops(alloc: Global, part: &Pruned, key: &[u8]) -> Result<bool, NoMemory>
+    requires { length key.now < 256 }
+{
+    let list = Op::List(Bytes::of(alloc, key)?);
+    if !list.fits() {
+        return Ok(false);
+    }
+    let names = part.try_op(alloc, &list);
+    Ok(matches!(&names, Err(PruneFault::Stub)))
+}
+
+// Whether the part has this root behind an operation that fits.
+fn leaves(part: &Pruned, op: &Op, root: &[u8; 32]) -> bool {
+    if !op.fits() {
+        return false;
+    }
+    match part.after(op) {
+        Ok(found) => found.bytes == *root,
+        Err(_) => false,
+    }
+}
+
+// Whether a put of another value and a del rehash the whole way up.
+fn changes(alloc: Global, part: &Pruned, key: &[u8]) -> Result<bool, NoMemory>
+    requires { length key.now < 256 }
+{
+    let put = Op::Put(Bytes::of(alloc, key)?, Bytes::of(alloc, b"y")?);
+    let del = Op::Del(Bytes::of(alloc, key)?);
+    Ok(leaves(part, &put, &LOWEST_PUT) && leaves(part, &del, &LOWEST_GONE))
+}
+
+// Whether operations walk such a part down to its bottom.
+fn walks_down(alloc: Global) -> Result<bool, NoMemory> {
+    let key = [0xffu8; 255];
+    let bytes = lowest(alloc, &key)?;
     match part_of(alloc, bytes.as_slice()) {
-        Ok(part) => {
-            let answer = part.try_op(alloc, &get);
-            let found = match &answer {
-                Ok(Answer::Found(value)) => value.as_slice() == b"x".as_slice(),
-                _ => false,
-            };
-            let changed = part.after(&put) == Ok(Digest32 { bytes: LOWEST_PUT })
-                && part.after(&del) == Ok(Digest32 { bytes: LOWEST_GONE });
-            let names = part.try_op(alloc, &list);
-            let stopped = matches!(&names, Err(PruneFault::Stub));
-            Ok(part.reaches(&get) && found && changed && stopped)
-        }
+        Ok(part) => Ok(
+            finds(alloc, &part, &key)?
+                && changes(alloc, &part, &key)?
+                && list_stops(alloc, &part, &key)?,
+        ),
         Err(_) => Ok(false),
     }
 }

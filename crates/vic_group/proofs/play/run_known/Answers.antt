@@ -35,7 +35,7 @@ returns-in-Bad c =
     let run : Run = play total 0 1 Before (lines_of c.args.known.now) in
     let spelled : Option Line = line_of (mode_in (scene_in place)) text in
     let on = heading_line run total c.loop-rest.before n behind place c.loop-rest.rest.now text others c.loop-rest.invariant.run c.first_line.ensures.lines c.place_behind-behind.ensures in
-    let leads : Leads place spelled (headed.Bad c.in-Bad.kind) = subst (λ (h : Headed). Leads place spelled h) c.in-Bad.is c.in_ok-head_line.ensures in
+    let leads : Leads place spelled (headed.Bad c.in-Bad.kind) = subst (λ (h : Headed). Leads place spelled h) c.in-Bad.is c.in_ok-next.ensures in
     let within : behind ≤ limit = omega (arith, c.if-behind-gt-SCRIPT_LIMIT.false) in
     subst (λ (r : Ran). Leaves run r) (sym c.unopened-in-Bad.ensures)
     (head_stops run n c.in-Bad.kind place (tried_at behind place text) (λ next. play total behind (n + 1) next (lines_of others)) on (tried_short behind place text within ∙ leads))
@@ -44,14 +44,14 @@ pub opened-requires : goal.opened-requires
 opened-requires c =
     let place : Place = place_by c.loop-rest.header in
     let spelled : Option Line = line_of (mode_in (scene_in place)) c.first_line.result.0.now in
-    let leads : Leads place spelled (headed.Ends c.in-Ends.header) = subst (λ (h : Headed). Leads place spelled h) c.in-Ends.is c.in_ok-head_line.ensures in
+    let leads : Leads place spelled (headed.Ends c.in-Ends.header) = subst (λ (h : Headed). Leads place spelled h) c.in-Ends.is c.in_ok-next.ensures in
     leads.1.1
 
 pub run_on-requires-clause-shows : goal.run_on-requires-clause-shows
-run_on-requires-clause-shows c = opened_shows c.in_ok-world.world (group_by (header_by c.in-Ends.header)) c.in_ok-world.ensures
+run_on-requires-clause-shows c = opened_shows c.in_ok-world-in-Ends.world (group_by (header_by c.in-Ends.header)) c.in_ok-world-in-Ends.ensures
 
 pub run_on-requires-clause-reached : goal.run_on-requires-clause-reached
-run_on-requires-clause-reached c = opened_reached c.in_ok-world.world c.in-Ends.header c.loop-rest.number c.in_ok-world.ensures
+run_on-requires-clause-reached c = opened_reached c.in_ok-world-in-Ends.world c.in-Ends.header c.loop-rest.number c.in_ok-world-in-Ends.ensures
 
 pub returns-in-Ends : goal.returns-in-Ends
 returns-in-Ends c =
@@ -62,9 +62,9 @@ returns-in-Ends c =
     let others : List ℕ = c.first_line.result.1.now in
     let run : Run = play total 0 1 Before (lines_of c.args.known.now) in
     let spelled : Option Line = line_of (mode_in (scene_in place)) text in
-    let leads : Leads place spelled (headed.Ends c.in-Ends.header) = subst (λ (h : Headed). Leads place spelled h) c.in-Ends.is c.in_ok-head_line.ensures in
+    let leads : Leads place spelled (headed.Ends c.in-Ends.header) = subst (λ (h : Headed). Leads place spelled h) c.in-Ends.is c.in_ok-next.ensures in
     let within : place_behind total c.loop-rest.before text ≤ limit = omega (arith, c.place_behind-behind.ensures, c.if-behind-gt-SCRIPT_LIMIT.false) in
-    let on = head_ends run total c.loop-rest.before n place c.in-Ends.header c.in_ok-world.world c.loop-rest.rest.now text others c.loop-rest.invariant.run c.first_line.ensures.lines within leads c.in_ok-world.ensures in
+    let on = head_ends run total c.loop-rest.before n place c.in-Ends.header c.in_ok-world-in-Ends.world c.loop-rest.rest.now text others c.loop-rest.invariant.run c.first_line.ensures.lines within leads c.in_ok-world-in-Ends.ensures in
     if_ok-map c.run_on.result _ _ (λ r h. subst (λ (x : Run). Leaves x r) (sym on) h) c.run_on.ensures
 
 pub loop-rest-preserved : goal.loop-rest-preserved
@@ -78,7 +78,7 @@ loop-rest-preserved c =
     let run : Run = play total 0 1 Before (lines_of c.args.known.now) in
     let spelled : Option Line = line_of (mode_in (scene_in place)) text in
     let on = heading_line run total c.loop-rest.before n behind place c.loop-rest.rest.now text others c.loop-rest.invariant.run c.first_line.ensures.lines c.place_behind-behind.ensures in
-    let leads : Leads place spelled (headed.Goes c.in-Goes.next) = subst (λ (h : Headed). Leads place spelled h) c.in-Goes.is c.in_ok-head_line.ensures in
+    let leads : Leads place spelled (headed.Goes c.in-Goes.next) = subst (λ (h : Headed). Leads place spelled h) c.in-Goes.is c.in_ok-next.ensures in
     let within : behind ≤ limit = omega (arith, c.if-behind-gt-SCRIPT_LIMIT.false) in
     record {
       header = leads.1;
