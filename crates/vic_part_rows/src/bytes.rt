@@ -1,5 +1,7 @@
 ghost use Rattle.std.specs.Prelude.{◌≡◌, ◌<◌, ◌≤◌, length, IfOk};
 ghost use Rattle.vic_dict.specs.Dictionary.{Fits, IsKey};
+ghost use Rattle.vic_prune.specs.Parts.{part as part_in};
+ghost use Rattle.vic_wire.specs.Parts.{IsPart};
 
 use std::alloc::Global;
 use std::test::*;
@@ -160,7 +162,8 @@ fn lowest(alloc: Global, key: &[u8]) -> Result<Bytes, NoMemory> {
 
 // Whether a get of the key finds its value at the bottom.
 fn finds(alloc: Global, part: &Pruned, key: &[u8]) -> Result<bool, NoMemory>
-    requires { length key.now < 256 }
+    requires key { length key.now < 256 }
+    requires part { IsPart (part_in part.now) }
 {
     let get = Op::Get(Bytes::of(alloc, key)?);
     if !get.fits() {
@@ -175,7 +178,8 @@ fn finds(alloc: Global, part: &Pruned, key: &[u8]) -> Result<bool, NoMemory>
 
 // Whether a list of the key's names meets the stub on the right.
 fn list_stops(alloc: Global, part: &Pruned, key: &[u8]) -> Result<bool, NoMemory>
-    requires { length key.now < 256 }
+    requires key { length key.now < 256 }
+    requires part { IsPart (part_in part.now) }
 {
     let list = Op::List(Bytes::of(alloc, key)?);
     if !list.fits() {
@@ -186,7 +190,9 @@ fn list_stops(alloc: Global, part: &Pruned, key: &[u8]) -> Result<bool, NoMemory
 }
 
 // Whether the part has this root behind an operation that fits.
-fn leaves(part: &Pruned, op: &Op, root: &[u8; 32]) -> bool {
+fn leaves(part: &Pruned, op: &Op, root: &[u8; 32]) -> bool
+    requires { IsPart (part_in part.now) }
+{
     if !op.fits() {
         return false;
     }
@@ -198,7 +204,8 @@ fn leaves(part: &Pruned, op: &Op, root: &[u8; 32]) -> bool {
 
 // Whether a put of another value and a del rehash the whole way up.
 fn changes(alloc: Global, part: &Pruned, key: &[u8]) -> Result<bool, NoMemory>
-    requires { length key.now < 256 }
+    requires key { length key.now < 256 }
+    requires part { IsPart (part_in part.now) }
 {
     let put = Op::Put(Bytes::of(alloc, key)?, Bytes::of(alloc, b"y")?);
     let del = Op::Del(Bytes::of(alloc, key)?);
