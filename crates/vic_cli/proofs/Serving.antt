@@ -32,7 +32,7 @@ pub without_memory : (asked : Option Asked) (d : Opened) (s : Status) (text : Li
 without_memory asked d s text kept e t right h = subst (λ (x : Status). Plans asked d x text kept) (sym e) (right, (t, h))
 
 -- a text that was written whole was written to a front
-whole_is_front : (text : List ℕ) (w : Given) → WroteAll text w → WroteFront text w
+pub whole_is_front : (text : List ℕ) (w : Given) → WroteAll text w → WroteFront text w
 whole_is_front text w a = (a.0, front w.old a.1)
   where
     front : (old : Option (List ℕ)) → AppendedAll text old w.new → AppendedFront text old w.new

@@ -160,13 +160,16 @@ fn lowest(alloc: Global, key: &[u8]) -> Result<Bytes, NoMemory> {
     deep(alloc, 2295, last.as_slice())
 }
 
-// Whether a get of the key finds its value at the bottom.
+// Whether the part reaches a get of the key, which finds its value at the bottom.
 fn finds(alloc: Global, part: &Pruned, key: &[u8]) -> Result<bool, NoMemory>
     requires key { length key.now < 256 }
     requires part { IsPart (part_in part.now) }
 {
     let get = Op::Get(Bytes::of(alloc, key)?);
     if !get.fits() {
+        return Ok(false);
+    }
+    if !part.reaches(&get) {
         return Ok(false);
     }
     let answer = part.try_op(alloc, &get);
