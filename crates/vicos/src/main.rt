@@ -1,8 +1,9 @@
-//! `vicos group` reads a script from standard input, runs it, and writes what it prints to standard output. `vicos client` reads the
-//! script of one client, does it over a connection to a server, and writes what it prints. `vicos serve` is such a server, of so many
-//! connections; it prints nothing before the last of them has ended. The exit status is the number of the `Status` that `run_group`,
-//! `run_client` or `run_serve` answers, and its contract says what that number stands for. Where there is no memory for the words,
-//! the program ends as the command does for want of memory.
+//! `vicos group` reads a script from standard input, runs it, and writes what it prints to standard output. `vicos drill` runs a group on
+//! calls that are drawn from a number, and writes a summary. `vicos client` reads the script of one client, does it over a connection to
+//! a server, and writes what it prints. `vicos serve` is such a server, of so many connections; it prints nothing before the last of them
+//! has ended. The exit status is the number of the `Status` that `run_group`, `run_drill`, `run_client` or `run_serve` answers, and its
+//! contract says what that number stands for. Where there is no memory for the words, the program ends as the command does for want of
+//! memory.
 #![tactic(auto)]
 
 use std::process::ExitCode;
