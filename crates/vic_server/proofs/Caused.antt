@@ -1,6 +1,6 @@
 -- Each answer of the rule has its cause.
-use Rattle.std.proofs.Common.{◌≡◌, ℕ, ◌+◌, ◌-◌, ◌<◌, ◌≤◌, Bool, true, false, not, ◌&&◌, ◌||◌, List, [], ◌∷◌, length, min, Option, Some, None, refl, ap, arith, inl, inr, ◌⊎◌, Decides, MatchBool}
-use Rattle.std.specs.Prelude.{◌↔◌, if◌then◌else◌, nat_eq, nat_lt, nat_le}
+use Rattle.std.proofs.Common.{◌≡◌, ℕ, ◌+◌, ◌-◌, ◌<◌, ◌≤◌, Bool, true, false, not, ◌&&◌, ◌||◌, List, [], ◌∷◌, length, min, Option, Some, None, refl, ap, arith, inl, inr, ◌⊎◌, Decides, MatchBool, sym, ◌∙◌}
+use Rattle.std.specs.Prelude.{◌↔◌, if◌then◌else◌, nat_eq, nat_lt, nat_le, is_some}
 use Rattle.std.proofs.lemmas.Bool.Decides.{Decides-eqb, Decides-ltb, Decides-and, nat_tests}
 use Rattle.vic_dict.specs.declared.op.Op.{Op}
 use Rattle.vic_dict.specs.declared.op.Op.TheVariants as op
@@ -21,7 +21,10 @@ use Rattle.std.specs.Str.{bytes_eq}
 use Rattle.vic_order.specs.declared.Stage.{Stage}
 use Rattle.vic_order.specs.declared.Stage.TheVariants as stage
 use Rattle.vic_order.specs.Order.{Ordered, Server, Answered, says, guarded, member, size, sealed_count, weight, op_weight, ordered_at, commit_at, with_commit, with_seal, is_ready, is_inside, is_away, is_open_at, is_put, is_member, same_mode, owns_committed, turn_on, turn, top_seal, update_part, becomes, set_stage, on_hello, ordered_next, entries_above, seal_at_position, is_kept, content_with, serve_read, serve}
-use Rattle.vic_server.specs.Causes.{IsInside, HasComeIn, IsExpected, IsReady, IsOwnCommitted, IsInOrder, IsOutOfOrder, IsNoMember, IsLogFull, IsPendingFull, IsPut, IsTooHeavy, IsTooFar, OfCall, IsNotDue, HasNoTurn, IsToWait, Causes}
+use Rattle.vic_server.specs.Causes.{IsInside, HasComeIn, IsExpected, IsReady, IsOwnCommitted, IsInOrder, IsOutOfOrder, IsNoMember, IsLogFull, IsPendingFull, IsPut, IsTooHeavy, IsTooFar, OfCall, OfKeep, OfFetch, IsUnknown, IsNotDue, HasNoTurn, IsToWait, Causes}
+use Rattle.vic_rules.specs.Objects.{content_hash}
+use Rattle.vic_blob.specs.Keeping.{has_hash, kept_under, IsRoom}
+use Rattle.vic_server.proofs.Contents.{any_found}
 
 -- ---- what the tests decide
 
@@ -136,17 +139,19 @@ module _ (s : Server) (n : ℕ) (tests : List (ℕ × Bool)) (a : Answered) wher
 abbrev IsBeyond : ToClient → Type 0
 IsBeyond a = (r : ℕ) → r < 7 → a ≡ say.Refused r → ⊥
 
--- the causes where a request has no limits: P says that it is admitted, Q that it is in order, and W that it is to wait
-record Plainly (P Q W : Type 0) (a : ToClient) : Type 0 where
+-- the causes where a request has no limits: P says that it is admitted, Q that it is in order, W that it is to wait, K that contents are
+-- too many, and B that one is absent
+record Plainly (P Q W K B : Type 0) (a : ToClient) : Type 0 where
   order : (a ≡ say.Refused 5) ↔ (P × (Q → ⊥))
   member : (a ≡ say.Refused 6) ↔ (P → ⊥)
   limits : (r : ℕ) → r < 5 → (a ≡ say.Refused r) ↔ ⊥
   waits : (a ≡ say.Wait) ↔ (P × (Q × W))
-  no_contents : HasNone a
+  full : (a ≡ say.Refused 7) ↔ (P × (Q × K))
+  absent : (a ≡ say.Absent) ↔ (P × (Q × B))
 
-plainly : (s : Server) (b c : Bool) (P Q W : Type 0) (a : Answered) → Decides b P → Decides c Q → IsBeyond a.answer → (a.answer ≡ say.Wait) ↔ W
-    → (Q → HasNone a.answer) → Plainly P Q W (guarded s ((6, b) ∷ []) (guarded s ((5, c) ∷ []) a)).answer
-plainly s b c P Q W a p q beyond w none =
+plainly : (s : Server) (b c : Bool) (P Q W K B : Type 0) (a : Answered) → Decides b P → Decides c Q → IsBeyond a.answer → (a.answer ≡ say.Wait) ↔ W
+    → (a.answer ≡ say.Refused 7) ↔ K → (a.answer ≡ say.Absent) ↔ B → Plainly P Q W K B (guarded s ((6, b) ∷ []) (guarded s ((5, c) ∷ []) a)).answer
+plainly s b c P Q W K B a p q beyond w k x =
     let inner : Answered = guarded s ((5, c) ∷ []) a in
     let no : (P : Type 0) → P → (P → ⊥) → ⊥ = λ P x n. n x in
     record {
@@ -156,8 +161,18 @@ plainly s b c P Q W a p q beyond w none =
       limits = λ r low. (clear s 6 [] inner b r (λ e. omega (arith, e, low)) (clear s 5 [] a c r (λ e. omega (arith, e, low)) (beyond r (omega (arith, low)))), λ h. absurd h);
       waits = past s 6 [] inner b P (P → ⊥) (Q × W) say.Wait (tells b P p) (no P) (λ e. absurd cc)
           (past s 5 [] a c Q (Q → ⊥) W say.Wait (tells c Q q) (no Q) (λ e. absurd cc) w);
-      no_contents = silent s 6 [] inner b P p (λ e. omega (arith, e)) (λ h. silent s 5 [] a c Q q (λ e. omega (arith, e)) none);
+      full = past s 6 [] inner b P (P → ⊥) (Q × K) (say.Refused 7) (tells b P p) (no P) (λ e. let is = refused-is 6 7 e in omega (arith, is))
+          (past s 5 [] a c Q (Q → ⊥) K (say.Refused 7) (tells c Q q) (no Q) (λ e. let is = refused-is 5 7 e in omega (arith, is)) k);
+      absent = past s 6 [] inner b P (P → ⊥) (Q × B) say.Absent (tells b P p) (no P) (λ e. absurd cc)
+          (past s 5 [] a c Q (Q → ⊥) B say.Absent (tells c Q q) (no Q) (λ e. absurd cc) x);
     }
+
+-- an answer that is neither of the two comes from neither cause
+never_full : (a : ToClient) → HasNone a → (a ≡ say.Refused 7) ↔ ⊥
+never_full a none = (λ e. none (inl e), λ h. absurd h)
+
+never_absent : (a : ToClient) → HasNone a → (a ≡ say.Absent) ↔ ⊥
+never_absent a none = (λ e. none (inr e), λ h. absurd h)
 
 never_waits : (a : ToClient) → (a ≡ say.Wait → ⊥) → (a ≡ say.Wait) ↔ ⊥
 never_waits a n = (n, λ h. absurd h)
@@ -174,10 +189,6 @@ turn_none s who (Some o) (Some done) = by_owner (nat_eq o.entry.client who)
     by_owner : (b : Bool) → HasNone (if b then say.Update (top_seal s) (update_part s.dictionary o.entry.op done) else say.Wait)
     by_owner true = has_none _ (λ e. absurd cc) (λ e. absurd cc)
     by_owner false = has_none _ (λ e. absurd cc) (λ e. absurd cc)
-
--- no Keep and no Fetch is in order in a group in mode plain
-apart_modes : (s : Server) (a : ToClient) (P : Type 0) → s.mode ≡ mode.Plain → P × (s.mode ≡ mode.Objects) → HasNone a
-apart_modes s a P plain h e = let objects : s.mode ≡ mode.Objects = h.1 in absurd cc
 
 turn_beyond : (s : Server) (who : ℕ) (o : Option Ordered) (status : Option Bool) → IsBeyond (turn_on s who o status)
 turn_beyond s who None status = λ r low e. absurd cc
@@ -217,6 +228,36 @@ keep_beyond s content = keep_answers IsBeyond s content (λ r low e. absurd cc) 
 keep_goes : (s : Server) (content : List ℕ) → (kept_or_full s content).answer ≡ say.Wait → ⊥
 keep_goes s content = keep_answers (λ a. a ≡ say.Wait → ⊥) s content (λ e. absurd cc) (λ e. absurd cc)
 
+-- no content has the hash of this one, and there is no room for it
+abbrev HasNoRoom : Server → List ℕ → Type 0
+HasNoRoom s content = IsUnknown s (content_hash content) × (IsRoom s.contents content → ⊥)
+
+known : (s : Server) (h : List ℕ) → Decides (not (is_kept s.contents h)) (IsUnknown s h)
+known s h = by_found (find (has_hash h) s.contents) (any_found (has_hash h) s.contents)
+  where
+    by_found : (o : Option (List ℕ)) → is_kept s.contents h ≡ is_some o → Decides (not (is_kept s.contents h)) (o ≡ None)
+    by_found None e = (λ x. refl, λ x. ap not e)
+    by_found (Some c) e = (λ x. let wrong : not (is_some (Some c)) ≡ true = sym (ap not e) ∙ x in absurd cc, λ x. absurd cc)
+
+room : (s : Server) (content : List ℕ) → Decides (not (nat_le 1048576 (length s.contents)) && nat_le (sum_by length s.contents + length content) 1073741824) (IsRoom s.contents content)
+room s content = Decides-and (not (nat_le 1048576 (length s.contents))) (nat_le (sum_by length s.contents + length content) 1073741824) below (Decides-leb (sum_by length s.contents + length content) 1073741824)
+  where
+    below : Decides (not (nat_le 1048576 (length s.contents))) (length s.contents < 1048576)
+    below = (λ e. grind (arith, nat_tests), λ h. grind (arith, nat_tests))
+
+keep_full : (s : Server) (content : List ℕ) → ((kept_or_full s content).answer ≡ say.Refused 7) ↔ HasNoRoom s content
+keep_full s content = by_tests (is_kept s.contents (hash (content_text content))) (not (nat_le 1048576 (length s.contents)) && nat_le (sum_by length s.contents + length content) 1073741824)
+    (known s (content_hash content)) (room s content)
+  where
+    by_tests : (b c : Bool) → Decides (not b) (IsUnknown s (content_hash content)) → Decides c (IsRoom s.contents content)
+        → ((if b then says s say.Kept else guarded s ((7, c) ∷ []) (becomes (record s { contents = content ∷ s.contents }) say.Kept)).answer ≡ say.Refused 7) ↔ HasNoRoom s content
+    by_tests true c n r = (λ e. absurd cc, λ h. let wrong : not true ≡ true = n.1 h.0 in absurd cc)
+    by_tests false true n r = (λ e. absurd cc, λ h. absurd (h.1 (r.0 refl)))
+    by_tests false false n r = (λ e. (n.0 refl, λ h. let wrong : false ≡ true = r.1 h in absurd cc), λ h. refl)
+
+keep_present : (s : Server) (content : List ℕ) → (kept_or_full s content).answer ≡ say.Absent → ⊥
+keep_present s content = keep_answers (λ a. a ≡ say.Absent → ⊥) s content (λ e. absurd cc) (λ e. absurd cc)
+
 fetch_answers : (C : ToClient → Type 0) (contents : List (List ℕ)) (h : List ℕ) → ((c : List ℕ) → C (say.Content c)) → C say.Absent → C (content_with contents h)
 fetch_answers C contents h some none = by_found (find (λ c. bytes_eq (hash (content_text c)) h) contents)
   where
@@ -230,6 +271,16 @@ fetch_beyond contents h = fetch_answers IsBeyond contents h (λ c r low e. absur
 fetch_goes : (contents : List (List ℕ)) (h : List ℕ) → content_with contents h ≡ say.Wait → ⊥
 fetch_goes contents h = fetch_answers (λ a. a ≡ say.Wait → ⊥) contents h (λ c e. absurd cc) (λ e. absurd cc)
 
+fetch_room : (contents : List (List ℕ)) (h : List ℕ) → content_with contents h ≡ say.Refused 7 → ⊥
+fetch_room contents h = fetch_answers (λ a. a ≡ say.Refused 7 → ⊥) contents h (λ c e. absurd cc) (λ e. absurd cc)
+
+fetch_absent : (contents : List (List ℕ)) (h : List ℕ) → (content_with contents h ≡ say.Absent) ↔ (kept_under contents h ≡ None)
+fetch_absent contents h = by_found (find (has_hash h) contents)
+  where
+    by_found : (o : Option (List ℕ)) → ((elim o [ Some c ↦ say.Content c | None ↦ say.Absent ]) ≡ say.Absent) ↔ (o ≡ None)
+    by_found (Some c) = (λ e. absurd cc, λ e. absurd cc)
+    by_found None = (λ e. refl, λ e. refl)
+
 joined : {A B C : Type 0} → A ↔ B → B ↔ C → A ↔ C
 joined h k = (λ x. k.0 (h.0 x), λ z. h.1 (k.1 z))
 
@@ -241,10 +292,11 @@ stays : {P Q : Type 0} → (P × (Q × ⊥)) ↔ ⊥
 stays = (λ h. h.1.1, λ n. absurd n)
 
 -- what is plain of a request that is no call are its causes
-of_plain : (s : Server) (who : ℕ) (m : ToServer) (a : ToClient) (Q W : Type 0) → Plainly (HasComeIn s who) Q W a
+of_plain : (s : Server) (who : ℕ) (m : ToServer) (a : ToClient) (Q W K B : Type 0) → Plainly (HasComeIn s who) Q W K B a
     → (HasComeIn s who × (Q → ⊥)) ↔ IsOutOfOrder s who (Some m) → (HasComeIn s who → ⊥) ↔ IsNoMember s who (Some m) → ((F : ℕ → Op → Type 0) → OfCall s who (Some m) F → ⊥)
-    → (HasComeIn s who × (Q × W)) ↔ IsToWait s who (Some m) → Causes s who (Some m) a
-of_plain s who m a Q W p order member none waits =
+    → (HasComeIn s who × (Q × W)) ↔ IsToWait s who (Some m)
+    → (HasComeIn s who × (Q × K)) ↔ OfKeep s who (Some m) (λ content. HasNoRoom s content) → (HasComeIn s who × (Q × B)) ↔ OfFetch s who (Some m) (IsUnknown s) → Causes s who (Some m) a
+of_plain s who m a Q W K B p order member none waits full absent =
     let limit : (r : ℕ) → r < 5 → (F : ℕ → Op → Type 0) → (a ≡ say.Refused r) ↔ OfCall s who (Some m) F = λ r low F. joined (p.limits r low) (λ n. absurd n, none F) in
     record {
       out_of_order = joined p.order order;
@@ -254,7 +306,8 @@ of_plain s who m a Q W p order member none waits =
       too_heavy = limit 3 (omega arith) _;
       too_far = limit 1 (omega arith) _;
       waits = joined p.waits waits;
-      no_contents = p.no_contents;
+      full = joined p.full full;
+      absent = joined p.absent absent;
     }
 
 expected : (s : Server) (kind : Mode) (client : ℕ) → Decides (nat_lt 0 client && (nat_le client (length s.members) && (same_mode kind s.mode && is_away (member s client).stage))) (IsExpected s kind client)
@@ -276,6 +329,7 @@ hello_caused s who kind client =
     let limit : (r : ℕ) → r < 5 → ((guarded s ((5, first) ∷ rest) hi).answer ≡ say.Refused r) ↔ ⊥ = λ r low. (never r low, λ n. absurd n) in
     let waits = past s 5 rest hi first (who ≡ 0) (who ≡ 0 → ⊥) _ say.Wait first_tells (no _) (λ e. absurd cc)
     (past s 6 [] hi member (IsExpected s kind client) (IsExpected s kind client → ⊥) ⊥ say.Wait (tells member _ (expected s kind client)) (no _) (λ e. absurd cc) (λ e. absurd cc, λ n. absurd n)) in
+    let none : HasNone (guarded s ((5, first) ∷ rest) hi).answer = silent s 5 rest hi first (who ≡ 0) (Decides-eqb who 0) (λ e. omega (arith, e)) (λ h. silent s 6 [] hi member _ (expected s kind client) (λ e. omega (arith, e)) (λ h. has_none _ (λ e. absurd cc) (λ e. absurd cc))) in
     record {
       out_of_order = here s 5 rest hi first (who ≡ 0) (who ≡ 0 → ⊥) first_tells (no _) (clear s 6 [] hi member 5 (λ e. omega (arith, e)) (λ e. absurd cc));
       no_member = past s 5 rest hi first (who ≡ 0) (who ≡ 0 → ⊥) (IsExpected s kind client → ⊥) (say.Refused 6) first_tells (no _) (λ e. let is = refused-is 5 6 e in omega (arith, is))
@@ -285,7 +339,8 @@ hello_caused s who kind client =
       too_heavy = limit 3 (omega arith);
       too_far = limit 1 (omega arith);
       waits = joined waits stays;
-      no_contents = silent s 5 rest hi first (who ≡ 0) (Decides-eqb who 0) (λ e. omega (arith, e)) (λ h. silent s 6 [] hi member _ (expected s kind client) (λ e. omega (arith, e)) (λ h. has_none _ (λ e. absurd cc) (λ e. absurd cc)));
+      full = never_full _ none;
+      absent = never_absent _ none;
     }
 
 -- a call
@@ -328,6 +383,8 @@ invoke_caused s who known seq o tag =
     let after4 : (C : Type 0) (x : ToClient) → (say.Refused 4 ≡ x → ⊥) → ((guarded s t2 a).answer ≡ x) ↔ C → ((guarded s t4 a).answer ≡ x) ↔ ((L → ⊥) × C) = λ C x. past s 4 t2 a k4 (L → ⊥) L C x m4 (on L) in
     let after2 : (C : Type 0) (x : ToClient) → (say.Refused 2 ≡ x → ⊥) → ((guarded s t3 a).answer ≡ x) ↔ C → ((guarded s t2 a).answer ≡ x) ↔ ((U → ⊥) × C) = λ C x. past s 2 t3 a k2 (U → ⊥) U C x m2 (on U) in
     let after3 : (C : Type 0) (x : ToClient) → (say.Refused 3 ≡ x → ⊥) → ((guarded s t1 a).answer ≡ x) ↔ C → ((guarded s t3 a).answer ≡ x) ↔ ((H → ⊥) × C) = λ C x. past s 3 t1 a k3 (H → ⊥) H C x m3 (on H) in
+    let none : HasNone (guarded s ((6, is_member s who) ∷ []) inner).answer = passed (is_member s who) 6 [] inner (λ e. omega (arith, e)) (passed k5 5 t4 a (λ e. omega (arith, e)) (passed k4 4 t2 a (λ e. omega (arith, e)) (passed k2 2 t3 a (λ e. omega (arith, e))
+    (passed k3 3 t1 a (λ e. omega (arith, e)) (passed k1 1 [] a (λ e. omega (arith, e)) (has_none _ (λ e. absurd cc) (λ e. absurd cc))))))) in
     record {
       out_of_order = after6 (Q → ⊥) (say.Refused 5) (other 6 5 (λ i. omega arith)) (here s 5 t4 a k5 Q (Q → ⊥) m5 (no Q) (clear4 5 (λ i. omega arith) (λ i. omega arith) (λ i. omega arith) (λ i. omega arith)));
       no_member = here s 6 [] inner (is_member s who) P (P → ⊥) m6 (no P) (clear s 5 t4 a k5 6 (λ i. omega arith) (clear4 6 (λ i. omega arith) (λ i. omega arith) (λ i. omega arith) (λ i. omega arith)));
@@ -336,8 +393,8 @@ invoke_caused s who known seq o tag =
       too_heavy = after6 _ _ (other 6 3 (λ i. omega arith)) (after5 _ _ (other 5 3 (λ i. omega arith)) (after4 _ _ (other 4 3 (λ i. omega arith)) (after2 _ _ (other 2 3 (λ i. omega arith)) (here s 3 t1 a k3 (H → ⊥) H m3 (on H) (clear1 3 (λ i. omega arith))))));
       too_far = after6 _ _ (other 6 1 (λ i. omega arith)) (after5 _ _ (other 5 1 (λ i. omega arith)) (after4 _ _ (other 4 1 (λ i. omega arith)) (after2 _ _ (other 2 1 (λ i. omega arith)) (after3 _ _ (other 3 1 (λ i. omega arith)) (here s 1 [] a k1 (F → ⊥) F m1 (on F) (λ e. absurd cc))))));
       waits = (λ e. no_wait (is_member s who) k5 k4 k2 k3 k1 e, λ n. absurd n);
-      no_contents = passed (is_member s who) 6 [] inner (λ e. omega (arith, e)) (passed k5 5 t4 a (λ e. omega (arith, e)) (passed k4 4 t2 a (λ e. omega (arith, e)) (passed k2 2 t3 a (λ e. omega (arith, e))
-          (passed k3 3 t1 a (λ e. omega (arith, e)) (passed k1 1 [] a (λ e. omega (arith, e)) (has_none _ (λ e. absurd cc) (λ e. absurd cc)))))));
+      full = never_full _ none;
+      absent = never_absent _ none;
     }
   where
     passed : (b : Bool) (n : ℕ) (tests : List (ℕ × Bool)) (a : Answered) → (n ≡ 7 → ⊥) → HasNone (guarded s tests a).answer → HasNone (guarded s ((n, b) ∷ tests) a).answer
@@ -355,8 +412,8 @@ invoke_caused s who known seq o tag =
 
 -- ---- every request
 
-pub caused : (s : Server) (who : ℕ) (request : Option ToServer) → s.mode ≡ mode.Plain → Causes s who request (serve_read s who request).answer
-caused s who None plain = record {
+pub caused : (s : Server) (who : ℕ) (request : Option ToServer) → Causes s who request (serve_read s who request).answer
+caused s who None = record {
   out_of_order = (λ e. tt, λ h. refl);
   no_member = (λ e. let is = refused-is 5 6 e in omega (arith, is), λ h. absurd h);
   log_full = (λ e. let is = refused-is 5 4 e in omega (arith, is), λ h. absurd h);
@@ -364,56 +421,57 @@ caused s who None plain = record {
   too_heavy = (λ e. let is = refused-is 5 3 e in omega (arith, is), λ h. absurd h);
   too_far = (λ e. let is = refused-is 5 1 e in omega (arith, is), λ h. absurd h);
   waits = (λ e. absurd cc, λ h. absurd h);
-  no_contents = has_none _ (λ e. let is = refused-is 5 7 e in omega (arith, is)) (λ e. absurd cc);
+  full = (λ e. let is = refused-is 5 7 e in omega (arith, is), λ h. absurd h);
+  absent = (λ e. absurd cc, λ h. absurd h);
 }
-caused s who (Some (ask.Hello kind client)) plain = hello_caused s who kind client
-caused s who (Some (ask.Invoke known seq o tag)) plain = invoke_caused s who known seq o tag
-caused s who (Some (ask.Commit position done tag)) plain =
+caused s who (Some (ask.Hello kind client)) = hello_caused s who kind client
+caused s who (Some (ask.Invoke known seq o tag)) = invoke_caused s who known seq o tag
+caused s who (Some (ask.Commit position done tag)) =
     let next : Server = set_stage (with_commit s position done tag) who stage.Ready in
     let k : Bool = is_open_at position (member s who).stage in
     let owner = ordered_at next (sealed_count next + 1) in
     let status = commit_at next (sealed_count next + 1) in
-    of_plain s who (ask.Commit position done tag) _ ((member s who).stage ≡ stage.Open position) (HasNoTurn (with_commit s position done tag) who)
-    (plainly s (is_member s who) k (HasComeIn s who) _ _ (becomes next (turn next who)) (come_in s who) (open_at position (member s who).stage) (turn_beyond next who owner status) (turn_waits next who owner status) (λ h. turn_none next who owner status))
-    same same (λ F h. h) same
-caused s who (Some ask.Poll) plain =
+    of_plain s who (ask.Commit position done tag) _ ((member s who).stage ≡ stage.Open position) (HasNoTurn (with_commit s position done tag) who) ⊥ ⊥
+    (plainly s (is_member s who) k (HasComeIn s who) _ _ _ _ (becomes next (turn next who)) (come_in s who) (open_at position (member s who).stage) (turn_beyond next who owner status) (turn_waits next who owner status) (never_full _ (turn_none next who owner status)) (never_absent _ (turn_none next who owner status)))
+    same same (λ F h. h) same stays stays
+caused s who (Some ask.Poll) =
     let owner = ordered_at s (sealed_count s + 1) in
     let status = commit_at s (sealed_count s + 1) in
-    of_plain s who ask.Poll _ (IsReady s who) (HasNoTurn s who)
-    (plainly s (is_member s who) (is_ready (member s who).stage) (HasComeIn s who) _ _ (says s (turn s who)) (come_in s who) (ready (member s who).stage) (turn_beyond s who owner status) (turn_waits s who owner status) (λ h. turn_none s who owner status))
-    same same (λ F h. h) same
-caused s who (Some (ask.Seal position root tag)) plain =
+    of_plain s who ask.Poll _ (IsReady s who) (HasNoTurn s who) ⊥ ⊥
+    (plainly s (is_member s who) (is_ready (member s who).stage) (HasComeIn s who) _ _ _ _ (says s (turn s who)) (come_in s who) (ready (member s who).stage) (turn_beyond s who owner status) (turn_waits s who owner status) (never_full _ (turn_none s who owner status)) (never_absent _ (turn_none s who owner status)))
+    same same (λ F h. h) same stays stays
+caused s who (Some (ask.Seal position root tag)) =
     let next : Server = with_seal s (record { position = position; root = root; tag = tag }) in
     let owner = ordered_at next (sealed_count next + 1) in
     let status = commit_at next (sealed_count next + 1) in
     let k : Bool = is_ready (member s who).stage && (nat_eq position (sealed_count s + 1) && owns_committed who (ordered_at s position) (commit_at s position)) in
     let d = Decides-and (is_ready (member s who).stage) _ (ready (member s who).stage)
     (Decides-and (nat_eq position (sealed_count s + 1)) _ (Decides-eqb position (sealed_count s + 1)) (owned who (ordered_at s position) (commit_at s position))) in
-    of_plain s who (ask.Seal position root tag) _ (IsInOrder s who (ask.Seal position root tag)) (HasNoTurn next who)
-    (plainly s (is_member s who) k (HasComeIn s who) _ _ (becomes next (turn next who)) (come_in s who) d (turn_beyond next who owner status) (turn_waits next who owner status) (λ h. turn_none next who owner status))
-    same same (λ F h. h) same
-caused s who (Some (ask.Sync known)) plain =
+    of_plain s who (ask.Seal position root tag) _ (IsInOrder s who (ask.Seal position root tag)) (HasNoTurn next who) ⊥ ⊥
+    (plainly s (is_member s who) k (HasComeIn s who) _ _ _ _ (becomes next (turn next who)) (come_in s who) d (turn_beyond next who owner status) (turn_waits next who owner status) (never_full _ (turn_none next who owner status)) (never_absent _ (turn_none next who owner status)))
+    same same (λ F h. h) same stays stays
+caused s who (Some (ask.Sync known)) =
     let k : Bool = is_ready (member s who).stage && nat_le known (size s) in
     let end = min (size s) (known + 8192) in
     let a : Answered = says s (say.Entries (seal_at_position s (min (sealed_count s) end)) (entries_above known (front end s.log))) in
-    of_plain s who (ask.Sync known) _ (IsInOrder s who (ask.Sync known)) ⊥
-    (plainly s (is_member s who) k (HasComeIn s who) _ _ a (come_in s who) (Decides-and (is_ready (member s who).stage) _ (ready (member s who).stage) (Decides-leb known (size s))) (λ r low e. absurd cc) (never_waits _ (λ e. absurd cc)) (λ h. has_none _ (λ e. absurd cc) (λ e. absurd cc)))
-    same same (λ F h. h) stays
-caused s who (Some (ask.Keep content)) plain =
+    of_plain s who (ask.Sync known) _ (IsInOrder s who (ask.Sync known)) ⊥ ⊥ ⊥
+    (plainly s (is_member s who) k (HasComeIn s who) _ _ _ _ a (come_in s who) (Decides-and (is_ready (member s who).stage) _ (ready (member s who).stage) (Decides-leb known (size s))) (λ r low e. absurd cc) (never_waits _ (λ e. absurd cc)) (never_full _ (has_none _ (λ e. absurd cc) (λ e. absurd cc))) (never_absent _ (has_none _ (λ e. absurd cc) (λ e. absurd cc))))
+    same same (λ F h. h) stays stays stays
+caused s who (Some (ask.Keep content)) =
     let k : Bool = is_ready (member s who).stage && same_mode s.mode mode.Objects in
-    of_plain s who (ask.Keep content) _ (IsInOrder s who (ask.Keep content)) ⊥
-    (plainly s (is_member s who) k (HasComeIn s who) _ _ (kept_or_full s content) (come_in s who) (Decides-and (is_ready (member s who).stage) _ (ready (member s who).stage) (mode_is s.mode mode.Objects)) (keep_beyond s content) (never_waits _ (keep_goes s content)) (apart_modes s _ _ plain))
-    same same (λ F h. h) stays
-caused s who (Some (ask.Fetch h)) plain =
+    of_plain s who (ask.Keep content) _ (IsInOrder s who (ask.Keep content)) ⊥ (HasNoRoom s content) ⊥
+    (plainly s (is_member s who) k (HasComeIn s who) _ _ _ _ (kept_or_full s content) (come_in s who) (Decides-and (is_ready (member s who).stage) _ (ready (member s who).stage) (mode_is s.mode mode.Objects)) (keep_beyond s content) (never_waits _ (keep_goes s content)) (keep_full s content) (keep_present s content, λ n. absurd n))
+    same same (λ F h. h) stays same stays
+caused s who (Some (ask.Fetch h)) =
     let k : Bool = is_ready (member s who).stage && same_mode s.mode mode.Objects in
-    of_plain s who (ask.Fetch h) _ (IsInOrder s who (ask.Fetch h)) ⊥
-    (plainly s (is_member s who) k (HasComeIn s who) _ _ (says s (content_with s.contents h.bytes)) (come_in s who) (Decides-and (is_ready (member s who).stage) _ (ready (member s who).stage) (mode_is s.mode mode.Objects)) (fetch_beyond s.contents h.bytes) (never_waits _ (fetch_goes s.contents h.bytes)) (apart_modes s _ _ plain))
-    same same (λ F x. x) stays
-caused s who (Some ask.Bye) plain =
-    of_plain s who ask.Bye _ (IsReady s who) ⊥
-    (plainly s (is_member s who) (is_ready (member s who).stage) (HasComeIn s who) _ _ (becomes (set_stage s who stage.Left) say.Gone) (come_in s who) (ready (member s who).stage) (λ r low e. absurd cc) (never_waits _ (λ e. absurd cc)) (λ h. has_none _ (λ e. absurd cc) (λ e. absurd cc)))
-    same same (λ F h. h) stays
+    of_plain s who (ask.Fetch h) _ (IsInOrder s who (ask.Fetch h)) ⊥ ⊥ (IsUnknown s h.bytes)
+    (plainly s (is_member s who) k (HasComeIn s who) _ _ _ _ (says s (content_with s.contents h.bytes)) (come_in s who) (Decides-and (is_ready (member s who).stage) _ (ready (member s who).stage) (mode_is s.mode mode.Objects)) (fetch_beyond s.contents h.bytes) (never_waits _ (fetch_goes s.contents h.bytes)) (fetch_room s.contents h.bytes, λ n. absurd n) (fetch_absent s.contents h.bytes))
+    same same (λ F x. x) stays stays same
+caused s who (Some ask.Bye) =
+    of_plain s who ask.Bye _ (IsReady s who) ⊥ ⊥ ⊥
+    (plainly s (is_member s who) (is_ready (member s who).stage) (HasComeIn s who) _ _ _ _ (becomes (set_stage s who stage.Left) say.Gone) (come_in s who) (ready (member s who).stage) (λ r low e. absurd cc) (never_waits _ (λ e. absurd cc)) (never_full _ (has_none _ (λ e. absurd cc) (λ e. absurd cc))) (never_absent _ (has_none _ (λ e. absurd cc) (λ e. absurd cc))))
+    same same (λ F h. h) stays stays stays
 
-pub caused_served : (s : Server) (who : ℕ) (payload : List ℕ) → s.mode ≡ mode.Plain → Causes s who (read_request payload) (serve s who payload).answer
+pub caused_served : (s : Server) (who : ℕ) (payload : List ℕ) → Causes s who (read_request payload) (serve s who payload).answer
 unfolding serve
-caused_served s who payload plain = caused s who (read_request payload) plain
+caused_served s who payload = caused s who (read_request payload)

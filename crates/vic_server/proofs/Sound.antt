@@ -3,11 +3,9 @@ use Rattle.std.proofs.Common.{◌≡◌, ℕ, zero, suc, ◌+◌, ◌-◌, ◌<�
 use Rattle.std.specs.Prelude.{slice_get}
 use Rattle.std.proofs.lemmas.List.{reverse-append, length-set, length-replicate, length_push}
 use Rattle.vic_dict.specs.declared.op.Op.{Op}
-use Rattle.vic_dict.specs.declared.op.Mode.{Mode}
 use Rattle.std.specs.List.{sum_by}
 use Rattle.std.specs.FinMap as map
 use Rattle.std.proofs.lemmas.Option.{slice_get_past}
-use Rattle.vic_dict.specs.declared.op.Mode.TheVariants as mode
 use Rattle.vic_dict.specs.Dictionary.{Dictionary, nothing}
 use Rattle.vic_dict.proofs.Rows.{no_rows, rows_of}
 use Rattle.vic_wire.specs.declared.message.Seal.{Seal}
@@ -68,11 +66,10 @@ no_entries : unsealed_weight 0 [] ≡ 0
 unfolding unsealed_weight
 no_entries = refl
 
-pub sound_fresh : (count : ℕ) (m : Member) → (0 < count) × (count ≤ 64) → IsWithin 0 m.stage → IsSound mode.Plain [] [] [] [] nothing (replicate count m) 0
+pub sound_fresh : (count : ℕ) (m : Member) → (0 < count) × (count ≤ 64) → IsWithin 0 m.stage → IsSound [] [] [] [] nothing (replicate count m) 0
 sound_fresh count m bounds w =
     let len = length-replicate count m in
     record {
-      plain = refl;
       room = omega arith;
       sealed = omega arith;
       indexed = omega arith;
@@ -85,18 +82,17 @@ sound_fresh count m bounds w =
 
 -- ---- the changes
 
-module _ (kind : Mode) (rows : List Ordered) (commits : List Committed) (index : List (Option Bool)) (seals : List Seal) (d : Dictionary) (members : List Member) (counted : ℕ) where
+module _ (rows : List Ordered) (commits : List Committed) (index : List (Option Bool)) (seals : List Seal) (d : Dictionary) (members : List Member) (counted : ℕ) where
   -- an entry comes in
-  pub sound_row : (x : Ordered) (more : List (Option Bool)) → IsSound kind rows commits index seals d members counted → length rows < 1048576 → counted + op_weight x.entry.op ≤ 8388608
+  pub sound_row : (x : Ordered) (more : List (Option Bool)) → IsSound rows commits index seals d members counted → length rows < 1048576 → counted + op_weight x.entry.op ≤ 8388608
       → ((place : ℕ) → status_in more place ≡ status_in index place) → length rows < length more
-      → IsSound kind (rows ++ x ∷ []) commits more seals d members (counted + op_weight x.entry.op)
+      → IsSound (rows ++ x ∷ []) commits more seals d members (counted + op_weight x.entry.op)
   sound_row x more h room light same fits =
       let len = length_push rows x in
       let sealed = h.sealed in
       let before = h.weight in
       let grows = unsealed_weight-more (length seals) rows x sealed in
       record {
-        plain = h.plain;
         room = omega (arith, room, len);
         sealed = omega (arith, sealed, len);
         indexed = omega (arith, fits, len);
@@ -118,13 +114,12 @@ module _ (kind : Mode) (rows : List Ordered) (commits : List Committed) (index :
       ] refl
 
   -- a commit comes in
-  pub sound_commit : (c : Committed) (q : ℕ) → IsSound kind rows commits index seals d members counted → c.position ≡ suc q → q < length rows
-      → IsSound kind rows (commits ++ c ∷ []) (set index q (Some c.done)) seals d members counted
+  pub sound_commit : (c : Committed) (q : ℕ) → IsSound rows commits index seals d members counted → c.position ≡ suc q → q < length rows
+      → IsSound rows (commits ++ c ∷ []) (set index q (Some c.done)) seals d members counted
   sound_commit c q h is lt =
       let indexed = h.indexed in
       let len = length-set index q (Some c.done) in
       record {
-        plain = h.plain;
         room = h.room;
         sealed = h.sealed;
         indexed = omega (arith, indexed, len);
@@ -136,12 +131,11 @@ module _ (kind : Mode) (rows : List Ordered) (commits : List Committed) (index :
       }
 
   -- a client stands elsewhere
-  pub sound_member : (i : ℕ) (m : Member) → IsSound kind rows commits index seals d members counted → IsWithin (length rows) m.stage → IsSound kind rows commits index seals d (set members i m) counted
+  pub sound_member : (i : ℕ) (m : Member) → IsSound rows commits index seals d members counted → IsWithin (length rows) m.stage → IsSound rows commits index seals d (set members i m) counted
   sound_member i m h w =
       let count = h.count in
       let len = length-set members i m in
       record {
-        plain = h.plain;
         room = h.room;
         sealed = h.sealed;
         indexed = h.indexed;
@@ -153,9 +147,9 @@ module _ (kind : Mode) (rows : List Ordered) (commits : List Committed) (index :
       }
 
   -- the next position is sealed, with the dictionary that it leaves and what the weight loses
-  pub sound_seal : (x : Seal) (next : Dictionary) (freed : ℕ) (e : Ordered) → IsSound kind rows commits index seals d members counted → length seals < length rows
+  pub sound_seal : (x : Seal) (next : Dictionary) (freed : ℕ) (e : Ordered) → IsSound rows commits index seals d members counted → length seals < length rows
       → pairs_weight next + freed ≡ pairs_weight d + op_weight (get_or rows (length seals) e).entry.op
-      → IsSound kind rows commits index (seals ++ x ∷ []) next members (counted - freed) × (freed ≤ counted)
+      → IsSound rows commits index (seals ++ x ∷ []) next members (counted - freed) × (freed ≤ counted)
   sound_seal x next freed e h lt weighs =
       let len = length_push seals x in
       let suc_len : length (seals ++ x ∷ []) ≡ suc (length seals) = omega (arith, len) in
@@ -164,7 +158,6 @@ module _ (kind : Mode) (rows : List Ordered) (commits : List Committed) (index :
       let light = h.light in
       let now : counted - freed ≡ pairs_weight next + unsealed_weight (suc (length seals)) (reverse rows) = omega (arith, before, step, weighs) in (
         record {
-          plain = h.plain;
           room = h.room;
           sealed = omega (arith, lt, len);
           indexed = h.indexed;
@@ -178,8 +171,8 @@ module _ (kind : Mode) (rows : List Ordered) (commits : List Committed) (index :
       )
 
   -- the same, from what the code knows of the entry
-  pub sound_sealed : (x : Seal) (next : Dictionary) (freed : ℕ) (row : Ordered) (o : Op) (place : ℕ) → IsSound kind rows commits index seals d members counted → length seals < length rows
+  pub sound_sealed : (x : Seal) (next : Dictionary) (freed : ℕ) (row : Ordered) (o : Op) (place : ℕ) → IsSound rows commits index seals d members counted → length seals < length rows
       → place ≡ length seals → row ≡ get_or rows place row → o ≡ row.entry.op → pairs_weight next + freed ≡ pairs_weight d + op_weight o
-      → IsSound kind rows commits index (seals ++ x ∷ []) next members (counted - freed) × (freed ≤ counted)
+      → IsSound rows commits index (seals ++ x ∷ []) next members (counted - freed) × (freed ≤ counted)
   sound_sealed x next freed row o place h lt here at op weighs =
       sound_seal x next freed row h lt (weighs ∙ ap (λ q. pairs_weight d + op_weight q) (op ∙ ap (λ r. r.entry.op) (at ∙ ap (λ n. get_or rows n row) here)))

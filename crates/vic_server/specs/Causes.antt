@@ -1,5 +1,5 @@
 -- The causes of the server's answers, each by a condition of its own on the request that a payload spells, if it spells one.
-use Rattle.std.specs.Prelude.{◌≡◌, ℕ, ◌+◌, ◌-◌, ◌<◌, ◌≤◌, ◌↔◌, ◌⊎◌, Bool, length, Option, Some, None}
+use Rattle.std.specs.Prelude.{◌≡◌, ℕ, ◌+◌, ◌-◌, ◌<◌, ◌≤◌, ◌↔◌, Bool, List, length, Option, Some, None}
 use Rattle.vic_dict.specs.declared.op.Op.{Op}
 use Rattle.vic_dict.specs.declared.op.Op.TheVariants as op
 use Rattle.vic_dict.specs.declared.op.Mode.{Mode}
@@ -8,6 +8,8 @@ use Rattle.vic_wire.specs.declared.message.ToServer.{ToServer}
 use Rattle.vic_wire.specs.declared.message.ToServer.TheVariants as ask
 use Rattle.vic_wire.specs.declared.message.ToClient.{ToClient}
 use Rattle.vic_wire.specs.declared.message.ToClient.TheVariants as say
+use Rattle.vic_rules.specs.Objects.{content_hash}
+use Rattle.vic_blob.specs.Keeping.{kept_under, IsRoom}
 use Rattle.vic_order.specs.declared.Stage.{Stage}
 use Rattle.vic_order.specs.declared.Stage.TheVariants as stage
 use Rattle.vic_order.specs.Order.{Ordered, Server, member, size, sealed_count, weight, op_weight, ordered_at, commit_at, with_commit, with_seal}
@@ -94,6 +96,22 @@ abbrev pub OfCall : Server → ℕ → Option ToServer → (ℕ → Op → Type 
 OfCall s who (Some (ask.Invoke known seq o tag)) P = HasComeIn s who × (IsInOrder s who (ask.Invoke known seq o tag) × P known o)
 OfCall s who _ P = ⊥
 
+-- ---- contents
+
+-- no content is kept under this hash
+abbrev pub IsUnknown : Server → List ℕ → Type 0
+IsUnknown s h = kept_under s.contents h ≡ None
+
+-- the request is a Keep of a client that has come in, in its order, and of its content this holds
+abbrev pub OfKeep : Server → ℕ → Option ToServer → (List ℕ → Type 0) → Type 0
+OfKeep s who (Some (ask.Keep content)) P = HasComeIn s who × (IsInOrder s who (ask.Keep content) × P content)
+OfKeep s who _ P = ⊥
+
+-- the same of a Fetch and its hash
+abbrev pub OfFetch : Server → ℕ → Option ToServer → (List ℕ → Type 0) → Type 0
+OfFetch s who (Some (ask.Fetch h)) P = HasComeIn s who × (IsInOrder s who (ask.Fetch h) × P h.bytes)
+OfFetch s who _ P = ⊥
+
 -- ---- waiting
 
 -- the first entry that isn't sealed is missing, isn't committed, or is another client's
@@ -116,8 +134,8 @@ IsToWait s who _ = ⊥
 -- ---- the causes
 
 -- each answer comes exactly where its cause holds. Of a call's limits the full log is asked first, then the entries that aren't
--- sealed, the weight, and how far the client is behind. The group is one in mode plain, where a Keep and a Fetch are out of
--- order: it never answers that contents are too many, nor that one is absent
+-- sealed, the weight, and how far the client is behind. Contents are too many where one of a new hash has no room; one is absent where
+-- none has its hash
 pub record Causes (s : Server) (who : ℕ) (request : Option ToServer) (a : ToClient) : Type 0 where
   pub out_of_order : (a ≡ say.Refused 5) ↔ IsOutOfOrder s who request
   pub no_member : (a ≡ say.Refused 6) ↔ IsNoMember s who request
@@ -126,4 +144,5 @@ pub record Causes (s : Server) (who : ℕ) (request : Option ToServer) (a : ToCl
   pub too_heavy : (a ≡ say.Refused 3) ↔ OfCall s who request (λ known o. (IsLogFull s → ⊥) × ((IsPendingFull s → ⊥) × IsTooHeavy s o))
   pub too_far : (a ≡ say.Refused 1) ↔ OfCall s who request (λ known o. (IsLogFull s → ⊥) × ((IsPendingFull s → ⊥) × ((IsTooHeavy s o → ⊥) × IsTooFar s known)))
   pub waits : (a ≡ say.Wait) ↔ IsToWait s who request
-  pub no_contents : (a ≡ say.Refused 7) ⊎ (a ≡ say.Absent) → ⊥
+  pub full : (a ≡ say.Refused 7) ↔ OfKeep s who request (λ content. IsUnknown s (content_hash content) × (IsRoom s.contents content → ⊥))
+  pub absent : (a ≡ say.Absent) ↔ OfFetch s who request (IsUnknown s)

@@ -1,10 +1,12 @@
 -- What a request changes, once it was accepted.
-use Rattle.std.specs.Prelude.{◌≡◌, ℕ, ◌+◌, ◌<◌, ◌≤◌, ◌∷◌, length, Some, Bool, true, false}
+use Rattle.std.specs.Prelude.{◌≡◌, ℕ, ◌+◌, ◌<◌, ◌≤◌, ◌∷◌, length, Some, None, Bool, true, false}
 use Rattle.vic_wire.specs.declared.message.ToClient.TheVariants as say
 use Rattle.vic_wire.specs.Messages.{HasSpelling, IsSeal}
 use Rattle.vic_bounds.specs.Bounds.{HasShortPart}
 use Rattle.vic_order.specs.declared.Stage.TheVariants as stage
 use Rattle.vic_order.specs.Order.{Server, Answered, set_member, set_stage, size, sealed_count, weight, op_weight, commit_at, with_commit, with_seal}
+use Rattle.vic_rules.specs.Objects.{content_hash}
+use Rattle.vic_blob.specs.Keeping.{kept_under, IsRoom}
 use Rattle.vic_server.specs.declared.change.Change.{Change}
 use Rattle.vic_server.specs.declared.change.Change.TheVariants as change
 use Rattle.vic_server.specs.declared.change.Plan.{Plan}
@@ -16,6 +18,7 @@ leaves s (change.Enters client) = set_stage s client stage.Ready
 leaves s (change.Orders who row) = set_member (record s { log = row ∷ s.log }) who (record { last = row.entry.seq; stage = stage.Open (size s + 1) })
 leaves s (change.Commits who position done tag) = set_stage (with_commit s position done tag) who stage.Ready
 leaves s (change.Seals seal done) = with_seal s seal
+leaves s (change.Keeps hash content) = record s { contents = content ∷ s.contents }
 leaves s (change.Leaves who) = set_stage s who stage.Left
 
 -- whether anything changes
@@ -25,6 +28,7 @@ makes (change.Enters client) = true
 makes (change.Orders who row) = true
 makes (change.Commits who position done tag) = true
 makes (change.Seals seal done) = true
+makes (change.Keeps hash content) = true
 makes (change.Leaves who) = true
 
 abbrev pub IsSeat : Server → ℕ → Type 0
@@ -37,6 +41,7 @@ IsPossible s (change.Enters client) = IsSeat s client
 IsPossible s (change.Orders who row) = IsSeat s who × ((size s < 1048576) × (weight s + op_weight row.entry.op ≤ 8388608))
 IsPossible s (change.Commits who position done tag) = IsSeat s who × ((0 < position) × (position ≤ size s))
 IsPossible s (change.Seals seal done) = (seal.position ≡ sealed_count s + 1) × ((seal.position ≤ size s) × ((commit_at s seal.position ≡ Some done) × IsSeal seal))
+IsPossible s (change.Keeps hash content) = (hash.bytes ≡ content_hash content) × ((kept_under s.contents hash.bytes ≡ None) × (IsRoom s.contents content × (length content ≤ 8388608)))
 IsPossible s (change.Leaves who) = IsSeat s who
 
 -- a plan is what the rule says: the server that it leaves, and the answer, which has a spelling

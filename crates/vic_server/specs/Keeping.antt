@@ -4,8 +4,6 @@ use Rattle.std.specs.List.{sum_by, AllByRecursion}
 use Rattle.std.specs.FinMap as map
 use Rattle.vic_dict.specs.declared.op.Op.{Op}
 use Rattle.vic_dict.specs.declared.op.Op.TheVariants as op
-use Rattle.vic_dict.specs.declared.op.Mode.{Mode}
-use Rattle.vic_dict.specs.declared.op.Mode.TheVariants as mode
 use Rattle.std.specs.Coded.{Coded}
 use Rattle.vic_dict.specs.Dictionary.{Dictionary, bytes_code}
 use Rattle.vic_wire.specs.declared.message.Seal.{Seal}
@@ -53,8 +51,7 @@ freed_by d (op.Del k) = held_weight k (map.get d k)
 freed_by d (op.List p) = 0
 
 -- what a server in memory keeps true
-pub record IsSound (kind : Mode) (rows : List Ordered) (commits : List Committed) (index : List (Option Bool)) (seals : List Seal) (d : Dictionary) (members : List Member) (counted : ℕ) : Type 0 where
-  pub plain : kind ≡ mode.Plain
+pub record IsSound (rows : List Ordered) (commits : List Committed) (index : List (Option Bool)) (seals : List Seal) (d : Dictionary) (members : List Member) (counted : ℕ) : Type 0 where
   pub room : length rows ≤ 1048576
   pub sealed : length seals ≤ length rows
   pub indexed : length rows ≤ length index

@@ -2,3 +2,4 @@ pub mod Keeping
 pub mod Changes
 pub mod Causes
 pub mod Replay
+pub mod Next

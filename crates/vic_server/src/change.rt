@@ -1,6 +1,7 @@
 //! What a request changes, planned before anything is changed.
 
 use crate::rows::Row;
+use vic_dict::Bytes;
 use vic_wire::{Digest32, Seal, ToClient};
 
 /// A change of the server.
@@ -15,6 +16,8 @@ pub enum Change {
     Commits(u8, u32, bool, Digest32),
     /// The next position is sealed, whose entry was done, or else aborted.
     Seals(Seal, bool),
+    /// A content is kept under its hash.
+    Keeps(Digest32, Bytes),
     /// A client leaves.
     Leaves(u8),
 }

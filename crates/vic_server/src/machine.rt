@@ -1,9 +1,9 @@
 //! What the server keeps, and how it is read and changed.
 
-ghost use Rattle.std.specs.Prelude.{◌≡◌, ℕ, ◌<◌, ◌≤◌, ◌+◌, ◌-◌, ◌^◌, ◌∷◌, length, vec_len, Ok, Some, is_some, IfSome, IfOk, OnOk, OnErr, option_copied, replicate, if◌then◌else◌};
+ghost use Rattle.std.specs.Prelude.{◌≡◌, ℕ, ◌&&◌, not, nat_le, List, ◌<◌, ◌≤◌, ◌+◌, ◌-◌, ◌^◌, ◌∷◌, false, length, vec_len, Ok, Some, None, is_some, IfSome, IfOk, OnOk, OnErr, IsTrue, option_copied, replicate, if◌then◌else◌};
 ghost use Rattle.std.specs.Prelude.{map as map_list};
 ghost use Rattle.std.specs.Option.{option_map};
-ghost use Rattle.std.specs.List.{AllByRecursion};
+ghost use Rattle.std.specs.List.{AllByRecursion, sum_by};
 ghost use Rattle.std.specs.FinMap as map;
 ghost use Rattle.vic_dict.specs.Lists.{front};
 ghost use Rattle.vic_dict.specs.Dictionary.{Fits, after};
@@ -11,13 +11,16 @@ ghost use Rattle.vic_wire.specs.Messages.{IsSeal, IsTagged, HasSpelling};
 ghost use Rattle.vic_wire.specs.declared.message.ToClient.TheVariants as say;
 ghost use Rattle.vic_wire.specs.Parts.{part_for};
 ghost use Rattle.vic_rules.specs.Client.{is_write as writes};
-ghost use Rattle.vic_order.specs.Order.{fresh_server, away, ready, member, set_member, size, sealed_count, no_seal, seal_at_position, ordered_at, commit_at, tagged, entries_above, op_weight, weight, update_part, with_commit, with_seal, owns_committed, turn};
+ghost use Rattle.vic_order.specs.Order.{fresh_server, away, ready, member, set_member, size, sealed_count, no_seal, seal_at_position, ordered_at, commit_at, tagged, entries_above, op_weight, weight, update_part, with_commit, with_seal, owns_committed, turn, is_kept, content_with};
+ghost use Rattle.vic_rules.specs.Objects.{content_hash};
+ghost use Rattle.vic_blob.specs.Keeping.{kept_under, IsRoom};
 ghost use Rattle.vic_bounds.specs.Bounds.{HasShortPart};
 ghost use Rattle.vic_server.specs.Keeping.{IsWithin, status_in, pairs_weight, turn_from};
 
 use crate::rows::{Commit, Row, SealRow, Seat};
 use std::alloc::Global;
 use std::marker::Model;
+use vic_blob::Blobs;
 use vic_dict::{Bytes, Mode, NoMemory, Op};
 use vic_order::Stage;
 use vic_proof::{bare_bytes, cut_bytes};
@@ -28,7 +31,7 @@ use vic_wire::{Digest32, Seal, TaggedList, ToClient};
 /// nodes; a stub and an inner node for each of 2,296 levels, 36 bytes, and a form byte come on top.
 pub const LONGEST_PART: usize = 8_471_265;
 
-/// A server of a group: its log, commits and seals, the sealed dictionary, and where each client stands.
+/// A server of a group: its log, commits and seals, the sealed dictionary, the contents that it keeps, and where each client stands.
 #[derive(Debug, Drop)]
 pub struct Machine {
     mode: Mode,
@@ -38,13 +41,14 @@ pub struct Machine {
     statuses: Vec<Option<bool>>,
     seals: Vec<SealRow>,
     dictionary: Trie,
+    blobs: Blobs,
     members: Vec<Seat>,
     /// Of the sealed pairs and the unsealed puts.
     weight: u64,
 }
 
 impl Model for Machine {
-    ghost use Rattle.std.specs.Prelude.{reverse, []};
+    ghost use Rattle.std.specs.Prelude.{reverse};
     ghost use Rattle.vic_order.specs.Order.{Server};
     ghost use Rattle.std.specs.Coded.{codes};
     ghost use Rattle.vic_server.specs.Keeping.{IsSound, dictionary_code};
@@ -53,9 +57,9 @@ impl Model for Machine {
 
     ghost coded = { Prim.hlevel (codes, dictionary_code) };
 
-    ghost view = { λ a. record { mode = a.mode; log = reverse a.rows.items; commits = reverse a.commits.items; seals = reverse a.seals.items; dictionary = a.dictionary; contents = []; members = a.members.items } };
+    ghost view = { λ a. record { mode = a.mode; log = reverse a.rows.items; commits = reverse a.commits.items; seals = reverse a.seals.items; dictionary = a.dictionary; contents = a.blobs; members = a.members.items } };
 
-    ghost invariant = { λ a. IsSound a.mode a.rows.items a.commits.items a.statuses.items a.seals.items a.dictionary a.members.items a.weight };
+    ghost invariant = { λ a. IsSound a.rows.items a.commits.items a.statuses.items a.seals.items a.dictionary a.members.items a.weight };
 }
 
 // ---- parts of what is kept
@@ -84,7 +88,7 @@ fn copies(alloc: Global, rows: &[Row]) -> Result<TaggedList, NoMemory>
     Ok(items)
 }
 
-fn is_write(op: &Op) -> bool
+pub(crate) fn is_write(op: &Op) -> bool
     ensures { result ≡ writes op.now }
 {
     matches!(op, Op::Put(_, _) | Op::Del(_))
@@ -281,7 +285,6 @@ fn seats(alloc: Global, count: u8, stage: Stage) -> Result<Vec<Seat>, NoMemory>
 impl Machine {
     fn fresh(alloc: Global, mode: Mode, count: u8, stage: Stage) -> Result<Machine, NoMemory>
         requires count { (0 < count) × (count ≤ 64) }
-        requires plain { mode ≡ Mode.Plain }
         requires stage { IsWithin 0 stage }
         ensures { IfOk result (λ s. s ≡ fresh_server mode count (record { last = 0; stage = stage })) }
     {
@@ -293,6 +296,7 @@ impl Machine {
             statuses: Vec::new(alloc),
             seals: Vec::new(alloc),
             dictionary: Trie::new(alloc),
+            blobs: Blobs::new(alloc),
             members,
             weight: 0,
         })
@@ -301,7 +305,6 @@ impl Machine {
     /// A server of so many clients, of which none has come in.
     pub fn new(alloc: Global, mode: Mode, count: u8) -> Result<Machine, NoMemory>
         requires count { (0 < count) × (count ≤ 64) }
-        requires plain { mode ≡ Mode.Plain }
         ensures { IfOk result (λ s. s ≡ fresh_server mode count away) }
     {
         Machine::fresh(alloc, mode, count, Stage::Away)
@@ -310,7 +313,6 @@ impl Machine {
     /// A server of so many clients, all of which have come in.
     pub fn gathered(alloc: Global, mode: Mode, count: u8) -> Result<Machine, NoMemory>
         requires count { (0 < count) × (count ≤ 64) }
-        requires plain { mode ≡ Mode.Plain }
         ensures { IfOk result (λ s. s ≡ fresh_server mode count ready) }
     {
         Machine::fresh(alloc, mode, count, Stage::Ready)
@@ -340,6 +342,13 @@ impl Machine {
         self.dictionary.len()
     }
 
+    pub(crate) fn dict(&self) -> &Trie
+        ensures is { result.now ≡ self.now.dictionary }
+        ensures light { pairs_weight result.now ≤ 8388608 }
+    {
+        &self.dictionary
+    }
+
     /// Whose the first entry is that isn't sealed, if there is one.
     pub fn owner_of_next(&self) -> Option<u8>
         ensures { result ≡ option_map (λ o. o.entry.client) (ordered_at self.now (sealed_count self.now + 1)) }
@@ -367,6 +376,7 @@ impl Machine {
         let statuses = copied_statuses(alloc, &self.statuses)?;
         let seals = copied_seals(alloc, &self.seals)?;
         let dictionary = self.dictionary.copy()?;
+        let blobs = self.blobs.copy(alloc)?;
         let members = copied_seats(alloc, &self.members)?;
         Ok(Machine {
             mode: self.mode,
@@ -375,6 +385,7 @@ impl Machine {
             statuses,
             seals,
             dictionary,
+            blobs,
             members,
             weight: self.weight,
         })
@@ -456,8 +467,7 @@ impl Machine {
     }
 
     pub(crate) fn mode(&self) -> Mode
-        ensures is { result ≡ self.now.mode }
-        ensures plain { result ≡ Mode.Plain }
+        ensures { result ≡ self.now.mode }
     {
         self.mode
     }
@@ -542,6 +552,37 @@ impl Machine {
         cut_bytes(alloc, &self.dictionary, op)
     }
 
+    /// Whether a content is kept under a hash.
+    #[tactic(auto, using(crate::proofs::Contents::kept_found, crate::proofs::Contents::kept_none))]
+    pub(crate) fn is_kept(&self, hash: &Digest32) -> bool
+        ensures is { result ≡ is_kept self.now.contents hash.now.bytes }
+        ensures none { result ≡ false → kept_under self.now.contents hash.now.bytes ≡ None }
+    {
+        self.blobs.fetch(hash).is_some()
+    }
+
+    /// Whether there is room for a content of so many bytes.
+    pub(crate) fn has_room(&self, len: usize) -> bool
+        requires { len ≤ 8388608 }
+        ensures is { (content : List ℕ) → length content ≡ len
+            → result ≡ (not (nat_le 1048576 (length self.now.contents)) && nat_le (sum_by length self.now.contents + length content) 1073741824) }
+        ensures room { (content : List ℕ) → length content ≡ len → IsTrue result → IsRoom self.now.contents content }
+    {
+        self.blobs.has_room(len)
+    }
+
+    /// The answer to a Fetch. It costs the content.
+    pub(crate) fn content_with(&self, alloc: Global, hash: &Digest32) -> Result<ToClient, NoMemory>
+        ensures is { IfOk result (λ a. a ≡ content_with self.now.contents hash.now.bytes) }
+        ensures spelled { IfOk result (λ a. HasSpelling a) }
+        ensures short { IfOk result (λ a. HasShortPart a) }
+    {
+        match self.blobs.fetch(hash) {
+            Some(content) => Ok(ToClient::Content(content.copy(alloc)?)),
+            None => Ok(ToClient::Absent),
+        }
+    }
+
     // ---- what the requests change
 
     pub(crate) fn set_seat(&mut self, who: u8, seat: Seat)
@@ -580,6 +621,18 @@ impl Machine {
         self.commits.push(Commit::new(position, done, tag))?;
         self.statuses[position as usize - 1] = Some(done);
         Ok(())
+    }
+
+    /// Keeps a content under its hash.
+    pub(crate) fn add_content(&mut self, hash: &Digest32, content: Bytes) -> Result<(), NoMemory>
+        requires hash { hash.now.bytes ≡ content_hash content }
+        requires new { kept_under self.old.contents hash.now.bytes ≡ None }
+        requires small { length content ≤ 8388608 }
+        requires room { IsRoom self.old.contents content }
+        ensures ok { OnOk result (self.new ≡ record self.old { contents = content ∷ self.old.contents }) }
+        ensures err { OnErr result (self.new ≡ self.old) }
+    {
+        self.blobs.add(hash, content)
     }
 
     /// Keeps the seal of the next position, and applies its entry where it was done.

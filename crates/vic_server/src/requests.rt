@@ -1,16 +1,16 @@
 //! One function for each kind of request: the tests in the order of the rule, what changes, and the answer.
 
-ghost use Rattle.std.specs.Prelude.{◌≡◌, ℕ, ◌&&◌, ◌||◌, not, nat_lt, nat_le, List, ◌∷◌, ◌<◌, ◌≤◌, ◌+◌, true, false, None, length, Ok, Some, IfNone, IfSome, IfOk, IsOk, OnOk, OnErr, IsTrue};
+ghost use Rattle.std.specs.Prelude.{◌≡◌, ℕ, ◌&&◌, ◌||◌, not, nat_lt, nat_le, ◌∷◌, ◌<◌, ◌≤◌, ◌+◌, true, false, None, length, Ok, Some, IfNone, IfSome, IfOk, IsOk, OnOk, OnErr, IsTrue};
 ghost use Rattle.vic_dict.specs.Dictionary.{Fits};
 ghost use Rattle.vic_wire.specs.declared.message.ToServer.TheVariants as ask;
 ghost use Rattle.vic_wire.specs.Messages.{HasRequestSpelling, HasSpelling, IsSeal, IsTagged};
-ghost use Rattle.vic_wire.specs.declared.message.Digest32.{Digest32 as ADigest};
+ghost use Rattle.vic_dict.specs.declared.op.Mode.TheVariants as mode;
 ghost use Rattle.vic_wire.specs.declared.message.ToClient.TheVariants as say;
 ghost use Rattle.vic_wire.specs.Parts.{part_for};
 ghost use Rattle.vic_wire.specs.Reading.{read_request};
 ghost use Rattle.vic_rules.specs.Client.{first_failing};
 ghost use Rattle.vic_server.specs.declared.change.Change.TheVariants as change;
-ghost use Rattle.vic_order.specs.Order.{is_ready, is_away, is_open_at, is_inside, is_put, same_mode, is_member, owns_committed, ordered_at, commit_at, size, sealed_count, op_weight, weight, turn, turn_on, set_stage, with_seal, on_request, on_hello, serve_read, serve, top_seal, entries_above};
+ghost use Rattle.vic_order.specs.Order.{is_ready, is_away, is_open_at, is_inside, is_put, same_mode, is_member, owns_committed, ordered_at, commit_at, size, sealed_count, op_weight, weight, turn, turn_on, set_stage, with_seal, member, on_request, on_hello, serve_read, serve, top_seal, entries_above};
 ghost use Rattle.vic_bounds.specs.Bounds.{HasShortPart};
 ghost use Rattle.vic_server.specs.Keeping.{IsWithin, IsAllowed, invoke_tests};
 ghost use Rattle.vic_server.specs.Changes.{Follows, IsSeat, IsPossible, leaves, to_wait};
@@ -20,7 +20,7 @@ use crate::change::{Change, Plan};
 use crate::machine::{Machine, op_weight};
 use crate::rows::{Row, Seat};
 use std::alloc::Global;
-use vic_dict::{Entry, Mode, NoMemory, Op};
+use vic_dict::{Bytes, Entry, Mode, NoMemory, Op};
 use vic_frames::decode_request;
 use vic_order::Stage;
 use vic_wire::{Digest32, Seal, Tagged, ToClient, ToServer};
@@ -322,13 +322,44 @@ impl Machine {
         }
     }
 
-    /// A group without objects keeps no contents.
-    fn on_content(&self) -> Plan
-        ensures keep { (who : ℕ) (content : List ℕ) → Follows (on_request self.now who (ask.Keep content)) self.now result }
-        ensures fetch { (who : ℕ) (hash : ADigest) → Follows (on_request self.now who (ask.Fetch hash)) self.now result }
+    /// Whether a client may ask for contents.
+    fn may_ask(&self, who: u8) -> bool
+        ensures { result ≡ (is_ready (member self.now who).stage && same_mode self.now.mode mode.Objects) }
     {
-        let _plain = self.mode();
-        refused(5)
+        is_ready(self.stage_of(who)) && same_mode(self.mode(), Mode::Objects)
+    }
+
+    /// A content is kept, unless it is already, or there is no room. It costs the content's hash, which is computed here and nowhere
+    /// else.
+    fn on_keep(&self, who: u8, content: Bytes) -> Plan
+        requires { length content ≤ 8388608 }
+        ensures { Follows (on_request self.now who (ask.Keep content)) self.now result }
+    {
+        if !self.may_ask(who) {
+            return refused(5);
+        }
+        let hash = vic_hash::content(content.as_slice());
+        if self.is_kept(&hash) {
+            return only(ToClient::Kept);
+        }
+        if !self.has_room(content.len()) {
+            return refused(7);
+        }
+        Plan {
+            answer: ToClient::Kept,
+            change: Change::Keeps(hash, content),
+        }
+    }
+
+    /// The content with a hash. It costs a copy of the content.
+    fn on_fetch(&self, alloc: Global, who: u8, hash: Digest32) -> Result<Plan, NoMemory>
+        ensures { IfOk result (λ p. Follows (on_request self.now who (ask.Fetch hash)) self.now p) }
+    {
+        if !self.may_ask(who) {
+            return Ok(refused(5));
+        }
+        let answer = self.content_with(alloc, &hash)?;
+        Ok(only(answer))
     }
 
     fn on_request(&mut self, alloc: Global, who: u8, request: ToServer) -> Result<Plan, NoMemory>
@@ -366,8 +397,8 @@ impl Machine {
                 },
             ),
             ToServer::Sync(known) => self.on_sync(alloc, who, known),
-            ToServer::Keep(_) => Ok(self.on_content()),
-            ToServer::Fetch(_) => Ok(self.on_content()),
+            ToServer::Keep(content) => Ok(self.on_keep(who, content)),
+            ToServer::Fetch(hash) => self.on_fetch(alloc, who, hash),
             ToServer::Bye => Ok(self.on_bye(who)),
         }
     }
@@ -424,6 +455,7 @@ impl Machine {
                 self.set_stage(who, Stage::Ready);
             }
             Change::Seals(seal, done) => self.add_seal(alloc, seal, done)?,
+            Change::Keeps(hash, content) => self.add_content(&hash, content)?,
             Change::Leaves(who) => self.set_stage(who, Stage::Left),
         }
         Ok(())
@@ -441,8 +473,8 @@ impl Machine {
         Ok(())
     }
 
-    /// Serves one request: what it changes, and the answer. It costs what its answer costs, and a Seal what the change of the
-    /// dictionary costs. The seat is that of the connection; the rule doesn't ask for it.
+    /// Serves one request: what it changes, and the answer. It costs what its answer costs, a Seal what the change of the dictionary
+    /// costs, and a Keep its content's hash and a copy of it. The seat is that of the connection; the rule doesn't ask for it.
     pub fn step(
         &mut self,
         alloc: Global,
@@ -460,7 +492,6 @@ impl Machine {
         ensures waits { read_request payload.now ≡ Some ask.Poll → (serve self.old who payload.now).answer ≡ say.Wait → result ≡ Ok say.Wait }
         ensures err { OnErr result (self.new ≡ self.old) }
     {
-        let _plain = self.mode();
         let Plan { answer, change } = self.plan(alloc, who, payload)?;
         self.enact(alloc, change)?;
         Ok(answer)

@@ -1,14 +1,17 @@
 //! The server with the history of its changes.
 
-ghost use Rattle.std.specs.Prelude.{◌≡◌, ◌+◌, ◌≢◌, ◌<◌, ◌≤◌, ◌++◌, ◌∷◌, ℕ, [], length, Ok, Some, IfOk, IsOk, OnOk, OnErr, false, true};
+ghost use Rattle.std.specs.Prelude.{◌≡◌, ◌+◌, ◌≢◌, ◌<◌, ◌≤◌, ◌++◌, ◌∷◌, ℕ, [], length, Ok, Some, IfOk, IfSome, IsOk, OnOk, OnErr, false, true, option_copied};
 ghost use Rattle.std.specs.FinMap as map;
 ghost use Rattle.std.specs.Option.{option_map};
 ghost use Rattle.vic_wire.specs.declared.message.ToServer.TheVariants as ask;
 ghost use Rattle.vic_wire.specs.declared.message.ToClient.TheVariants as say;
 ghost use Rattle.vic_wire.specs.Messages.{HasSpelling, answer_text};
 ghost use Rattle.vic_wire.specs.Reading.{read_request};
+ghost use Rattle.vic_dict.specs.Dictionary.{Fits};
 ghost use Rattle.vic_order.specs.Order.{serve, size, sealed_count, weight, ordered_at};
 ghost use Rattle.vic_change.specs.Changes.{change};
+ghost use Rattle.vic_server.specs.Keeping.{pairs_weight};
+ghost use Rattle.vic_server.specs.Next.{next_op, op_at};
 ghost use Rattle.vic_server.specs.Changes.{Follows, IsPossible, leaves, makes, to_wait};
 ghost use Rattle.vic_server.specs.Causes.{Causes};
 ghost use Rattle.vic_server.specs.declared.change.Change.TheVariants as effect;
@@ -19,7 +22,8 @@ use crate::machine::Machine;
 use std::alloc::Global;
 use std::marker::Model;
 use vic_change::Change;
-use vic_dict::{Bytes, Mode, NoMemory};
+use vic_dict::{Bytes, Mode, NoMemory, Op};
+use vic_trie::Trie;
 use vic_wire::ToClient;
 
 /// A server of a group, and the history of the changes that requests made.
@@ -63,7 +67,6 @@ impl Served {
     #[tactic(auto, unfolding(crate::specs::Replay::replay))]
     pub fn new(alloc: Global, mode: Mode, count: u8) -> Result<Served, NoMemory>
         requires count { (0 < count) × (count ≤ 64) }
-        requires plain { mode ≡ Mode.Plain }
         ensures { IfOk result (λ s. s ≡ kept (opening mode count false) [] (opening mode count false)) }
     {
         let machine = Machine::new(alloc, mode, count)?;
@@ -80,7 +83,6 @@ impl Served {
     #[tactic(auto, unfolding(crate::specs::Replay::replay))]
     pub fn gathered(alloc: Global, mode: Mode, count: u8) -> Result<Served, NoMemory>
         requires count { (0 < count) × (count ≤ 64) }
-        requires plain { mode ≡ Mode.Plain }
         ensures { IfOk result (λ s. s ≡ kept (opening mode count true) [] (opening mode count true)) }
     {
         let machine = Machine::gathered(alloc, mode, count)?;
@@ -131,6 +133,42 @@ impl Served {
         self.machine.pairs()
     }
 
+    /// The sealed dictionary. Its pairs weigh at most 8,388,608 bytes, so a part of it fits an answer.
+    pub fn dict(&self) -> &Trie
+        ensures is { result.now ≡ self.now.server.dictionary }
+        ensures light { pairs_weight result.now ≤ 8388608 }
+    {
+        self.machine.dict()
+    }
+
+    /// The operation of the first entry that isn't sealed, where it is a put or a del that was committed done; None in all other cases.
+    pub fn next_op(&self) -> Option<&Op>
+        ensures is { option_copied result ≡ next_op self.now.server }
+        ensures fits { IfSome (option_copied result) (λ o. Fits o) }
+    {
+        self.machine.next_op()
+    }
+
+    /// What `next_op` says once a planned change was made, where the position is one above the entries that are sealed then
+    /// ([`Served::sealed_after`]). At any other position, the operation of the entry there, where it is then a put or a del that was
+    /// committed done.
+    pub fn op_above<'a>(&'a self, change: &'a Effect, position: u32) -> Option<&'a Op>
+        requires { 0 < position }
+        ensures is { option_copied result ≡ op_at (leaves self.now.server change.now) position }
+        ensures next { position ≡ sealed_count (leaves self.now.server change.now) + 1 → option_copied result ≡ next_op (leaves self.now.server change.now) }
+        ensures fits { IfSome (option_copied result) (λ o. Fits o) }
+    {
+        self.machine.op_above(change, position)
+    }
+
+    /// How many entries are sealed once a planned change was made.
+    pub fn sealed_after(&self, change: &Effect) -> u32
+        ensures is { result ≡ sealed_count (leaves self.now.server change.now) }
+        ensures room { result ≤ 1048577 }
+    {
+        self.machine.sealed_after(change)
+    }
+
     /// Whose the first entry is that isn't sealed, if there is one.
     pub fn owner_of_next(&self) -> Option<u8>
         ensures { result ≡ option_map (λ o. o.entry.client) (ordered_at self.now.server (sealed_count self.now.server + 1)) }
@@ -146,8 +184,9 @@ impl Served {
         self.machine.weight()
     }
 
-    // What the rule says of a payload. Nothing is changed afterwards.
-    pub(crate) fn plan(&mut self, alloc: Global, who: u8, payload: &[u8]) -> Result<Plan, NoMemory>
+    /// What the rule says of a payload: the answer, and what would change. It is the first phase of serving. The server is the same
+    /// afterwards, so the caller can still fail: it encodes the answer and takes its own memory now, before it calls [`Served::keep`].
+    pub fn plan(&mut self, alloc: Global, who: u8, payload: &[u8]) -> Result<Plan, NoMemory>
         ensures follows { IfOk result (λ p. Follows (serve self.old.server who payload.now) self.old.server p) }
         ensures waits { read_request payload.now ≡ Some ask.Poll → (serve self.old.server who payload.now).answer ≡ say.Wait → result ≡ Ok to_wait }
         ensures same { self.new ≡ self.old }
@@ -155,8 +194,10 @@ impl Served {
         self.machine.plan(alloc, who, payload)
     }
 
-    // Makes the change that was planned for a request, and keeps it in the history; where there is none, nothing.
-    pub(crate) fn keep(
+    /// Makes the change that was planned for a request, and keeps it in the history; where there is none, nothing. It is the second
+    /// phase of serving, to be called with the change of a [`Served::plan`] for the same client and payload, and with no other request
+    /// served between them. Where memory runs out, nothing has changed.
+    pub fn keep(
         &mut self,
         alloc: Global,
         seat: u32,
@@ -206,7 +247,9 @@ impl Served {
         })
     }
 
-    /// Serves one request: what it changes, and the answer. The memory for both is taken before anything changes.
+    /// Serves one request: what it changes, and the answer. The answer's memory is taken before anything changes. A change takes its own as
+    /// it is made: a seal stands on its list before the dictionary asks for memory, and a content before its index does; where there is
+    /// none, they are taken off again. A content is copied twice, since the history keeps its request too.
     #[tactic(auto, using(vic_bounds::proofs::Lengths::answer_short))]
     pub fn step(
         &mut self,
@@ -228,7 +271,6 @@ impl Served {
         ensures waits { read_request payload.now ≡ Some ask.Poll → (serve self.old.server who payload.now).answer ≡ say.Wait → result ≡ Ok say.Wait }
         ensures err { OnErr result (self.new ≡ self.old) }
     {
-        let _plain = self.machine.mode();
         let Plan { answer, change } = self.plan(alloc, who, payload)?;
         self.keep(alloc, seat, who, payload, change)?;
         Ok(answer)

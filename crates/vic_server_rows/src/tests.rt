@@ -6,13 +6,26 @@ use vic_dict::{Bytes, Mode, NoMemory};
 use vic_server::{Serve, Served};
 use vic_wire::ToClient;
 
-/// A client, its request and the answer, in the spelling of messages, where the byte 255 stands for a digest, and 254 for `ROOT`.
+/// A client, its request and the answer, in the spelling of messages, where the byte 255 stands for a digest, 254 for `ROOT`, 253 for
+/// `HELLO` and 252 for `EMPTY`.
 type Row = (u8, &'static [u8], &'static [u8]);
 
 /// The root of the dictionary in which `a` has `x`: the hash of the bytes 03 01 61 78.
 const ROOT: [u8; 32] = [
     0xea, 0x09, 0xc1, 0xe7, 0xf7, 0xdd, 0xd3, 0x75, 0xc0, 0x98, 0xac, 0xc3, 0x81, 0x73, 0xa2, 0x8e,
     0x6f, 0x70, 0x55, 0xc6, 0x96, 0xe8, 0x6d, 0x66, 0x98, 0xee, 0x0e, 0xa1, 0x34, 0x38, 0xa2, 0xbb,
+];
+
+/// The hash of the content `hello`: that of the bytes 06 68 65 6c 6c 6f.
+const HELLO: [u8; 32] = [
+    0x31, 0x4a, 0xb0, 0x41, 0xde, 0xca, 0x3c, 0xb4, 0x2b, 0xe7, 0x4b, 0xc9, 0x91, 0x13, 0x25, 0xb3,
+    0x90, 0x43, 0x64, 0x59, 0x0e, 0xb4, 0x60, 0x0b, 0x87, 0x5d, 0x64, 0x08, 0x9f, 0x69, 0xe0, 0x77,
+];
+
+/// The hash of the empty content: that of the byte 06.
+const EMPTY: [u8; 32] = [
+    0x67, 0x58, 0x6e, 0x98, 0xfa, 0xd2, 0x7d, 0xa0, 0xb9, 0x96, 0x8b, 0xc0, 0x39, 0xa1, 0xef, 0x34,
+    0xc9, 0x39, 0xb9, 0xb8, 0xe5, 0x23, 0xa8, 0xbe, 0xf8, 0x9d, 0x47, 0x86, 0x08, 0xc5, 0xec, 0xf6,
 ];
 
 /// A server of two clients, of which the first comes in, makes two calls, seals both and leaves.
@@ -79,15 +92,52 @@ const TURNS: [Row; 8] = [
     ),
 ];
 
+/// Contents in a group with objects: each is kept once, and found under its hash.
+const CONTENTS: [Row; 13] = [
+    (1, b"\x27hello", b"\x46\x06"),
+    (0, b"\x21\x01\0\x01", b"\x46\x06"),
+    (0, b"\x21\x01\x01\x01", b"\x41"),
+    (1, b"\x28\xfd", b"\x4a"),
+    (1, b"\x27hello", b"\x47"),
+    (1, b"\x27hello", b"\x47"),
+    (1, b"\x28\xfd", b"\x48hello"),
+    (1, b"\x28\xfc", b"\x4a"),
+    (1, b"\x27", b"\x47"),
+    (1, b"\x28\xfc", b"\x48"),
+    // A client with an open call keeps and fetches nothing.
+    (
+        1,
+        b"\x22\0\0\0\0\0\0\0\x01\x02\x01a\xff",
+        b"\x42\0\0\0\0\0\x01\x01\0\0\0\x01\x02\x01a\xff\x01\0",
+    ),
+    (1, b"\x27hello", b"\x46\x05"),
+    (1, b"\x28\xfd", b"\x46\x05"),
+];
+
+/// A group in mode plain has no contents.
+const NO_CONTENTS: [Row; 3] = [
+    (1, b"\x27hello", b"\x46\x05"),
+    (1, b"\x27", b"\x46\x05"),
+    (1, b"\x28\xfd", b"\x46\x05"),
+];
+
+/// The bytes for which a byte of a row stands, if it stands for any.
+fn digest_of(byte: u8) -> Option<[u8; 32]> {
+    match byte {
+        255 => Some([7; 32]),
+        254 => Some(ROOT),
+        253 => Some(HELLO),
+        252 => Some(EMPTY),
+        _ => None,
+    }
+}
+
 fn payload_of(alloc: Global, text: &[u8]) -> Result<Bytes, NoMemory> {
     let mut payload = Bytes::new(alloc);
     for byte in text {
-        if *byte == 255 {
-            payload.append(&[7; 32])?;
-        } else if *byte == 254 {
-            payload.append(&ROOT)?;
-        } else {
-            payload.push(*byte)?;
+        match digest_of(*byte) {
+            Some(digest) => payload.append(digest.as_slice())?,
+            None => payload.push(*byte)?,
         }
     }
     Ok(payload)
@@ -117,6 +167,14 @@ fn answers_rows<S: Serve>(alloc: Global, server: &mut S) -> Result<bool, NoMemor
 
 fn answers_turns<S: Serve>(alloc: Global, server: &mut S) -> Result<bool, NoMemory> {
     answers_all(alloc, server, &TURNS)
+}
+
+fn answers_contents<S: Serve>(alloc: Global, server: &mut S) -> Result<bool, NoMemory> {
+    answers_all(alloc, server, &CONTENTS)
+}
+
+fn answers_no_contents<S: Serve>(alloc: Global, server: &mut S) -> Result<bool, NoMemory> {
+    answers_all(alloc, server, &NO_CONTENTS)
 }
 
 #[test]
@@ -341,5 +399,64 @@ fn full_dictionary(rt: HostRuntime) -> Result<(), Fail> {
     let light = put_from(alloc, &mut server, 25_040, &key[..128], &value)?;
     assert_eq!(rt; told(&light), 1);
     assert_eq!(rt; server.weight(), 8_388_608);
+    Ok(())
+}
+
+/// The first Keep of a content makes a change, and the second none.
+#[test]
+fn contents(rt: HostRuntime) -> Result<(), Fail> {
+    let alloc = rt.alloc();
+    let mut server = Served::new(alloc, Mode::Objects, 2)?;
+    assert!(rt; answers_contents(alloc, &mut server)?);
+    assert_eq!(rt; server.changes(), 4);
+    assert!(rt; server.length() == 1 && server.weight() == 0);
+    let mut plain = Served::gathered(alloc, Mode::Plain, 1)?;
+    assert!(rt; answers_no_contents(alloc, &mut plain)?);
+    assert_eq!(rt; plain.changes(), 0);
+    Ok(())
+}
+
+/// A copy has the contents, and keeps its own from then on.
+#[test]
+fn copied_contents(rt: HostRuntime) -> Result<(), Fail> {
+    let alloc = rt.alloc();
+    let mut server = Served::gathered(alloc, Mode::Objects, 1)?;
+    assert!(rt; matches!(keep(alloc, &mut server, b"hello")?, ToClient::Kept));
+    let mut other = Serve::copy(&server, alloc)?;
+    assert!(rt; matches!(keep(alloc, &mut other, b"")?, ToClient::Kept));
+    assert!(rt; answers(alloc, &mut other, &(1, b"\x28\xfd", b"\x48hello"))?);
+    assert!(rt; answers(alloc, &mut other, &(1, b"\x28\xfc", b"\x48"))?);
+    assert!(rt; answers(alloc, &mut server, &(1, b"\x28\xfc", b"\x4a"))?);
+    Ok(())
+}
+
+/// The Keep of a content.
+fn keep(alloc: Global, server: &mut Served, content: &[u8]) -> Result<ToClient, NoMemory> {
+    let mut payload = Bytes::of(alloc, b"\x27")?;
+    payload.append(content)?;
+    server.step(alloc, 0, 1, payload.as_slice())
+}
+
+/// Contents of four bytes. Whether each was kept.
+fn keep_often(alloc: Global, server: &mut Served, count: u32) -> Result<bool, NoMemory> {
+    let mut all = true;
+    for n in 0..count {
+        let answer = keep(alloc, server, n.to_be_bytes().as_slice())?;
+        all &= matches!(answer, ToClient::Kept);
+    }
+    Ok(all)
+}
+
+/// There is room for 1,048,576 contents. One that is kept is kept again, though there is room for no other.
+#[test]
+fn full_contents(rt: HostRuntime) -> Result<(), Fail> {
+    let alloc = rt.alloc();
+    let mut server = Served::gathered(alloc, Mode::Objects, 1)?;
+    assert!(rt; keep_often(alloc, &mut server, 1_048_576)?);
+    let full = keep(alloc, &mut server, b"")?;
+    assert!(rt; matches!(full, ToClient::Refused(7)));
+    let again = keep(alloc, &mut server, &[0, 0, 0, 9])?;
+    assert!(rt; matches!(again, ToClient::Kept));
+    assert_eq!(rt; server.changes(), 1_048_576);
     Ok(())
 }

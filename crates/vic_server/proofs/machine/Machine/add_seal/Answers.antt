@@ -13,7 +13,7 @@ overflow_sub-self c =
     let a = c.self.inside in
     let len = size-rows a.rows.items c.args.self.now (ap (λ s. s.log) c.self.view_is) in
     let sealed = sealed_count-rows a.seals.items c.args.self.now (ap (λ s. s.seals) c.self.view_is) in
-    (sound_sealed _ _ _ _ _ _ _ _ c.args.seal c.apply.new.dictionary c.in-Ok.freed c.index-row.result.now c.op.result.now c.len-place.result c.self.invariant
+    (sound_sealed _ _ _ _ _ _ _ c.args.seal c.apply.new.dictionary c.in-Ok.freed c.index-row.result.now c.op.result.now c.len-place.result c.self.invariant
     (omega (arith, len, sealed, c.requires.next, c.requires.within)) (omega (arith, c.len-place.ensures, a.seals.ok)) c.index-row.ensures c.op.ensures.is c.in-Ok.ensures.freed).1
 
 pub invariant_of-self-in-Ok : goal.invariant_of-self-in-Ok
@@ -22,8 +22,8 @@ invariant_of-self-in-Ok c =
     let len = size-rows a.rows.items c.args.self.now (ap (λ s. s.log) c.self.view_is) in
     let sealed = sealed_count-rows a.seals.items c.args.self.now (ap (λ s. s.seals) c.self.view_is) in
     let items : c.push.new.self.items ≡ a.seals.items ++ c.args.seal ∷ [] = ◌∙◌ {A = List Seal} c.in_ok-push.ensures.items (ap (λ x. a.seals.items ++ x ∷ []) c.new.ensures) in
-    subst (λ l. IsSound a.mode a.rows.items a.commits.items a.statuses.items l c.apply.new.dictionary a.members.items (a.weight - c.in-Ok.freed)) (sym items)
-    (sound_sealed _ _ _ _ _ _ _ _ c.args.seal c.apply.new.dictionary c.in-Ok.freed c.index-row.result.now c.op.result.now c.len-place.result c.self.invariant
+    subst (λ l. IsSound a.rows.items a.commits.items a.statuses.items l c.apply.new.dictionary a.members.items (a.weight - c.in-Ok.freed)) (sym items)
+    (sound_sealed _ _ _ _ _ _ _ c.args.seal c.apply.new.dictionary c.in-Ok.freed c.index-row.result.now c.op.result.now c.len-place.result c.self.invariant
     (omega (arith, len, sealed, c.requires.next, c.requires.within)) (omega (arith, c.len-place.ensures, a.seals.ok)) c.index-row.ensures c.op.ensures.is c.in-Ok.ensures.freed).0
 
 pub returns-in-Ok-clause-ok : goal.returns-in-Ok-clause-ok

@@ -1,5 +1,4 @@
 use Rattle.std.proofs.Common.{◌≡◌, sym, ap, subst, ◌∙◌}
-use Rattle.vic_dict.specs.declared.op.Mode.TheVariants as mode
 use Rattle.vic_wire.specs.declared.message.ToClient.{ToClient}
 use Rattle.vic_wire.specs.declared.message.ToClient.TheVariants as say
 use Rattle.vic_wire.specs.Reading.{read_request}
@@ -12,8 +11,7 @@ use Rattle.vic_server.proofs.machine.Machine.step.Goals as goal
 
 pub returns-clause-causes : goal.returns-clause-causes
 returns-clause-causes c =
-    let plain : c.args.self.now.mode ≡ mode.Plain = cc in
-    subst (λ (a : ToClient). Causes c.args.self.now c.args.who (read_request c.args.payload.now) a) (sym c.in_ok-answer.ensures.follows.1.0) (caused_served c.args.self.now c.args.who c.args.payload.now plain)
+    subst (λ (a : ToClient). Causes c.args.self.now c.args.who (read_request c.args.payload.now) a) (sym c.in_ok-answer.ensures.follows.1.0) (caused_served c.args.self.now c.args.who c.args.payload.now)
 
 pub returns-clause-refused : goal.returns-clause-refused
 returns-clause-refused c r e =

@@ -12,7 +12,7 @@ turn_over-requires-clause-light c =
     let a = c.self.inside in
     let len = size-rows a.rows.items c.args.self.now (ap (λ s. s.log) c.self.view_is) in
     let sealed = sealed_count-rows a.seals.items c.args.self.now (ap (λ s. s.seals) c.self.view_is) in
-    let sound = sound_sealed _ _ _ _ _ _ _ _ c.args.seal a.dictionary (op_weight c.op.result.now) c.index-row.result.now c.op.result.now (c.args.seal.position - 1) c.self.invariant
+    let sound = sound_sealed _ _ _ _ _ _ _ c.args.seal a.dictionary (op_weight c.op.result.now) c.index-row.result.now c.op.result.now (c.args.seal.position - 1) c.self.invariant
     (omega (arith, len, sealed, c.requires.next, c.requires.within)) (omega (arith, sealed, c.requires.next)) c.index-row.ensures c.op.ensures.is refl in
     omega (arith, sound.0.weight, sound.1, c.self.invariant.light)
 

@@ -1,5 +1,4 @@
-use Rattle.std.proofs.Common.{◌≡◌, ◌++◌, ◌∷◌, [], List, sym, ap, subst, ◌∙◌}
-use Rattle.vic_change.specs.declared.Change.{Change}
+use Rattle.std.proofs.Common.{◌≡◌, ◌++◌, ◌∷◌, [], sym, ap, subst, ◌∙◌}
 use Rattle.vic_order.specs.Order.{Server, serve}
 use Rattle.vic_server.specs.Changes.{leaves}
 use Rattle.vic_server.specs.Replay.{replay, opening, Kept}
