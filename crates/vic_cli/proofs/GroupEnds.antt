@@ -25,7 +25,9 @@ use Rattle.vic_laws.proofs.SealsHeld.{seals_hold}
 use Rattle.vic_runs.proofs.Agreed.{agreements_reach}
 use Rattle.vic_script.proofs.Forged.{is_forged-Decides}
 use Rattle.vic_order.specs.Honest.{IsSame}
-use Rattle.vic_runs.proofs.Runs.{all_hold, holds_at, all_honest, none_forged}
+use Rattle.vic_script_runs.proofs.Leading.{scripts_come}
+use Rattle.vic_script_runs.proofs.Honest.{honest_runs}
+use Rattle.vic_runs.proofs.Runs.{all_hold, holds_at, none_forged}
 use Rattle.vic_runs.proofs.Halted.{none_for_halting}
 use Rattle.vic_runs.proofs.Prints.{prints_returns}
 use Rattle.vic_group.specs.declared.play.End.{End}
@@ -213,9 +215,10 @@ said_last p good = ap (λ b. p.text ++ end_text (group_in p.scene) (history_in p
 
 honestly : (script : List ℕ) → is_honest_script script ≡ true → IsHonest script
 honestly script honest = record {
-  comes = all_honest script honest;
+  comes = λ s is. (honest_runs script honest s is).0;
+  lines = λ s is. (honest_runs script honest s is).1;
   tags_made = (none_forged script honest).0;
-  holds = λ s is. holds_at IsSame s (all_honest script honest s is);
+  holds = λ s is. holds_at IsSame s (honest_runs script honest s is).0;
   none_halted = none_for_halting script honest;
 }
 
@@ -230,6 +233,7 @@ pub claimed : (script : List ℕ) → IsAsClaimed script
 claimed script =
     let good = all_hold script in
     record {
+      comes = scripts_come script;
       lawful = good.lawful;
       paths = λ i j m n. hashes_tell_paths (group_of script) (history_of script) good.lawful.steps i j m n;
       seals = seals_hold (group_of script) (history_of script) good.lawful;

@@ -1,5 +1,5 @@
 -- How the command on a script ends: what was read, what was written, and why.
-use Rattle.std.specs.Prelude.{◌≡◌, ℕ, ◌⊎◌, ◌↔◌, Bool, true, false, List, ◌++◌, reverse, Option, Some, None, IsSome, IfSome}
+use Rattle.std.specs.Prelude.{◌≡◌, ℕ, ◌⊎◌, ◌↔◌, Bool, true, false, List, ◌++◌, reverse, Some, None, IsSome, IfSome}
 use Rattle.std.specs.List.{flat_map}
 use Rattle.vic_rules.specs.declared.trace.TraceStep.{TraceStep}
 use Rattle.vic_rules.specs.History.{IsLawful}
@@ -18,6 +18,8 @@ use Rattle.vic_runs.specs.Agreements.{AgreementsCountIn}
 use Rattle.vic_order.specs.Honest.{ComesHonestly, IsSame}
 use Rattle.vic_runs.specs.Claims.{line_of_step}
 use Rattle.vic_honest.specs.Claims.{IsHonestScene}
+use Rattle.vic_script_runs.specs.Events.{script_events}
+use Rattle.vic_script_runs.specs.Claims.{ComesOf}
 use Rattle.vic_text.specs.declared.status.Status.{Status}
 use Rattle.vic_text.specs.declared.status.Status.TheVariants as status
 use Rattle.vic_text.specs.Statuses.{usage_line, read_fault_line, no_memory_line}
@@ -70,6 +72,8 @@ IsComplete right t k result =
 pub record IsHonest (script : List ℕ) : Type 0 where
   -- honest events lead where it ends, with one server that follows the rule
   pub comes : (s : Scene) → (run_of script).scene ≡ Some s → ComesHonestly IsSame s
+  -- these are the events of its lines, one line after the other
+  pub lines : (s : Scene) (is : (run_of script).scene ≡ Some s) → (comes s is).events ≡ script_events script
   -- every tag that a client took was made by a client before
   pub tags_made : is_forged (group_of script) (history_of script) ≡ false
   -- so what holds of honest runs holds there: each completed call returned what becomes of it in the server's log, no step returned
@@ -80,6 +84,8 @@ pub record IsHonest (script : List ℕ) : Type 0 where
 
 -- what holds of the run of a script, whatever its lines give, change, repeat or send again, and whatever servers they copy and join
 pub record IsAsClaimed (script : List ℕ) : Type 0 where
+  -- the events of its lines, one line after the other, may happen, and lead where it ends
+  pub comes : (s : Scene) → (run_of script).scene ≡ Some s → ComesOf s (script_events script)
   -- its clients step by the rules
   pub lawful : IsLawful (group_of script) (history_of script)
   -- two fronts of its clients' paths that have one hash are equal, or two listed texts collide

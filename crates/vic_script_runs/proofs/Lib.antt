@@ -1,0 +1,4 @@
+pub mod Leading
+pub mod Honest
+mod Adding
+mod Rows

@@ -1,0 +1,15 @@
+-- The events of the small script, computed.
+use Rattle.std.proofs.Common.{refl}
+use Rattle.vic_wire.specs.Reading.{read_request, request_of_kind, read_answer, answer_of_kind}
+use Rattle.vic_rules.specs.Client.{step, verdict}
+use Rattle.vic_rules.specs.History.{standing}
+use Rattle.vic_order.specs.Order.{serve}
+use Rattle.vic_order.specs.Scenes.{steps, serves, takes}
+use Rattle.vic_script.specs.Lines.{lines_of, line_of, words_of}
+use Rattle.vic_script.specs.Scenes.{bad_kind, turns}
+use Rattle.vic_script_runs.specs.Events.{events_from, script_events}
+use Rattle.vic_script_runs.specs.Rows.{SmallScriptIs}
+
+pub small_script_is : SmallScriptIs
+unfolding script_events events_from lines_of words_of line_of bad_kind turns standing step verdict steps serves takes serve read_request request_of_kind read_answer answer_of_kind
+small_script_is = refl

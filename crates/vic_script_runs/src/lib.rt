@@ -1,0 +1,30 @@
+//! The events of a script: what its lines do, one line after the other, and nothing else.
+//!
+//! `specs/Events.antt` defines them. This crate has no code of its own: `specs/Claims.antt` states the laws, and each is the contract
+//! of a function without parameters and with an empty body. `specs/Rows.antt` has a script with its events beside it.
+#![tactic(auto)]
+
+ghost use Rattle.vic_script_runs.specs.Claims.{HonestRunsAreTheirLines, LinesAddTheirOwn, NoLinesAddNone, ScriptsComeOfTheirLines};
+ghost use Rattle.vic_script_runs.specs.Rows.{SmallScriptIs};
+
+/// Every script comes of the events of its lines, whatever these do.
+pub fn scripts_come_of_their_lines()
+    ensures { ScriptsComeOfTheirLines }
+{}
+
+/// The honest run behind an honest script is the events of its lines.
+pub fn honest_runs_are_their_lines()
+    ensures { HonestRunsAreTheirLines }
+{}
+
+/// No lines have no events, and a line more adds its own in the scene where the lines before it leave off. So the events of each
+/// script of such lines are told by `run_of` and `events_of`.
+pub fn lines_add_their_own()
+    ensures none { NoLinesAddNone }
+    ensures adds { LinesAddTheirOwn }
+{}
+
+/// The events of a small script are those that were written beside it.
+pub fn small_script_is()
+    ensures { SmallScriptIs }
+{}
