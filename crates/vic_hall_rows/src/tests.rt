@@ -1,4 +1,4 @@
-ghost use Rattle.std.specs.Prelude.{◌≡◌};
+ghost use Rattle.std.specs.Prelude.{◌≡◌, length, IfOk, All};
 ghost use Rattle.vic_turn.specs.Passes.{IsPassOf};
 
 use std::alloc::Global;
@@ -134,6 +134,24 @@ fn met<R: Wait + Abort>(
     (one, two)
 }
 
+/// Both passes, as a lock takes them back.
+fn back(
+    alloc: Global,
+    lock: &TurnLock<Recorder>,
+    one: Pass<Recorder>,
+    two: Pass<Recorder>,
+) -> Result<Passes<Recorder>, NoMemory>
+    requires one { IsPassOf lock.now one }
+    requires two { IsPassOf lock.now two }
+    ensures count { IfOk result (λ all. length all ≡ 2) }
+    ensures own { IfOk result (λ all. All (λ p. p.lock ≡ lock.now.id) all) }
+{
+    let mut passes = Vec::new(alloc);
+    passes.push(one)?;
+    passes.push(two)?;
+    Ok(Passes::of(passes))
+}
+
 fn meets_a_note<R: Wait + Abort>(rt: &R, alloc: Global) -> Result<(), Fail> {
     let Ok(served) = Served::new(alloc, Mode::Plain, 1) else {
         panic!(rt; "no memory")
@@ -145,9 +163,8 @@ fn meets_a_note<R: Wait + Abort>(rt: &R, alloc: Global) -> Result<(), Fail> {
     let two = passes.pop().ok_or("two")?;
     let one = passes.pop().ok_or("one")?;
     let (one, two) = met(rt, alloc, &lock, one, two);
-    passes.push(one)?;
-    passes.push(two)?;
-    let Recorder { served } = lock.close(Passes::of(passes));
+    let all = back(alloc, &lock, one, two)?;
+    let Recorder { served } = lock.close(all);
     assert_eq!(rt; served.changes(), 1);
     Ok(())
 }
