@@ -1,0 +1,3 @@
+mod Honesty
+mod FirstOnes
+mod Counting
