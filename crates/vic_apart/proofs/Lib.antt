@@ -1,0 +1,6 @@
+pub mod Chained
+pub mod Gathered
+pub mod Leaving
+pub mod NodeTexts
+pub mod Seen
+pub mod Standing

@@ -1,0 +1,4 @@
+pub mod ByHash
+pub mod Places
+pub mod Stands
+pub mod Sealed
