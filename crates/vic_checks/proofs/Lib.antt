@@ -3,3 +3,4 @@ pub mod Digests
 pub mod Paths
 pub mod Verdicts
 pub mod Decisions
+pub mod Finding

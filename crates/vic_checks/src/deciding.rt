@@ -44,7 +44,7 @@ fn entry_at<'a>(window: &'a Window, entries: &'a TaggedList, position: u32) -> &
 
 // The least position above `base` whose entry is in the way, on the window's path with these entries put onto it; the last
 // entry, which is the client's own, is left out.
-fn first_in_the_way(
+pub(crate) fn first_in_the_way(
     me: u8,
     op: &Op,
     window: &Window,

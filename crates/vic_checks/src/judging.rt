@@ -8,6 +8,7 @@ ghost use Rattle.vic_chain.specs.Held.{held_length};
 ghost use Rattle.vic_checks.specs.Parted.{part_of, part_in, seen, IsGrammar, IsAbove, IsLow};
 ghost use Rattle.vic_checks.specs.Passing.{IsFormed, HasTurn, IsTurn, IsShownTo, AwaitsFit};
 
+use crate::contents::has_content;
 use crate::form::has_form;
 use crate::members::{has_members, has_tags};
 use crate::seals::{is_proved, is_sealed};
@@ -99,6 +100,9 @@ fn judge_message(state: &State, message: &ToClient, part: Option<&Pruned>) -> Ve
     }
     if !has_turn(&state.own, message) {
         return Verdict::Halt(8);
+    }
+    if !has_content(state, message, part) {
+        return Verdict::Halt(9);
     }
     Verdict::Pass
 }

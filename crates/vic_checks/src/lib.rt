@@ -6,6 +6,7 @@
 //! entries and of seals compare with them.
 #![tactic(auto)]
 
+pub mod contents;
 pub mod deciding;
 pub mod form;
 pub mod judging;

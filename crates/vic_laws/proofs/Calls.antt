@@ -1,5 +1,5 @@
 -- Calls and completions along a history: each completion is that of a call, and a call has at most one.
-use Rattle.std.proofs.Common.{◌≡◌, ℕ, ◌+◌, ◌<◌, ◌≤◌, ◌⊎◌, inl, inr, Bool, false, List, [], ◌∷◌, ◌++◌, Option, Some, None, refl, sym, ◌∙◌, ap, subst, arith}
+use Rattle.std.proofs.Common.{◌≡◌, ℕ, ◌+◌, ◌<◌, ◌≤◌, ◌⊎◌, inl, inr, Bool, List, [], ◌∷◌, ◌++◌, Option, Some, None, refl, sym, ◌∙◌, ap, subst, arith}
 use Rattle.std.proofs.lemmas.Bool.{cases_eq}
 use Rattle.vic_dict.specs.declared.op.Op.{Op}
 use Rattle.vic_dict.specs.declared.op.Entry.{Entry}
@@ -9,14 +9,13 @@ use Rattle.vic_dict.specs.Lists.{IsIn}
 use Rattle.vic_wire.specs.Hashes.{Group}
 use Rattle.vic_rules.specs.declared.state.Awaiting.TheVariants as awaits
 use Rattle.vic_rules.specs.declared.trace.Input.{Input}
-use Rattle.vic_rules.specs.declared.trace.Input.TheVariants as input
 use Rattle.vic_rules.specs.declared.trace.TraceStep.{TraceStep}
-use Rattle.vic_rules.specs.Client.{Standing, Move, decision, decided}
+use Rattle.vic_rules.specs.Client.{Standing, Move, Sending, Invokes, Commits, Seals, decision, decided}
 use Rattle.vic_rules.specs.History.{standing, path, move_of, IsStep, AreSteps, Completion, completion, completions}
-use Rattle.vic_rules.specs.Views.{IsCall, MakesCall, NoStepOf, IsAnswered}
+use Rattle.vic_rules.specs.Views.{MakesCall, NoStepOf, IsAnswered}
 use Rattle.vic_laws.proofs.Words.{in_left, in_right, in_either}
-use Rattle.vic_laws.proofs.Steps.{Called, Replied, Kind, is_quiet, is_called, is_replied, is_updated, is_listed, call_of}
-use Rattle.vic_laws.proofs.StepKinds.{step_kind}
+use Rattle.vic_laws.proofs.Steps.{PhaseFits, Called, Replied, Kind, is_quiet, is_called, is_replied, is_updated, is_listed, call_of}
+use Rattle.vic_laws.proofs.StepKinds.{step_kind, decided_opens}
 use Rattle.vic_laws.proofs.Standings.{standing_moved, standing_kept}
 
 -- ---- what kind a step is
@@ -24,6 +23,50 @@ use Rattle.vic_laws.proofs.Standings.{standing_moved, standing_kept}
 -- each step of a lawful history is of one kind
 pub kind_of : (g : Group) (past : List TraceStep) (x : TraceStep) → IsStep g past x → Kind g x.client (standing g x.client past) x.input (move_of g past x)
 kind_of g past x is = step_kind g x.client (standing g x.client past) x.input is.may
+
+-- ---- what a call on objects keeps can be called
+
+opens_kind : (g : Group) (me : ℕ) (s : Standing) (i : Input) (v : Move) → Kind g me s i v → PhaseFits s.calls s.phase → PhaseFits v.next.calls v.next.phase
+opens_kind g me s i v (is_quiet q) h = subst (λ (n : ℕ). PhaseFits n v.next.phase) (sym q.calls) (q.opens h)
+opens_kind g me s i v (is_called a) h = subst (λ (m : Move). PhaseFits m.next.calls m.next.phase) (sym a.moved) (a.opens (s.calls + 1))
+opens_kind g me s i v (is_replied r) h = subst (λ (m : Move). PhaseFits m.next.calls m.next.phase) (sym r.moved) (decided_opens s s.phase (decision me s (r.others ++ s.path) r.seal.position r.part r.op) h)
+opens_kind g me s i v (is_updated u) h = subst (λ (m : Move). PhaseFits m.next.calls m.next.phase) (sym u.moved) h
+opens_kind g me s i v (is_listed l) h = subst (λ (m : Move). PhaseFits m.next.calls m.next.phase) (sym l.moved) h
+
+pub phases_fit : (g : Group) (h : List TraceStep) → AreSteps g h → (me : ℕ) → PhaseFits (standing g me h).calls (standing g me h).phase
+unfolding standing
+phases_fit g [] steps me = tt
+phases_fit g (x ∷ past) steps me =
+    let Goal : (x.client ≡ me) ⊎ (x.client ≡ me → ⊥) → Type 0 = λ c. PhaseFits (standing g me (x ∷ past)).calls (standing g me (x ∷ past)).phase in
+    elim (cases_eq x.client me) as Goal [
+      | inl same ↦ subst (λ (m : ℕ). PhaseFits (standing g m (x ∷ past)).calls (standing g m (x ∷ past)).phase) same
+          (subst (λ (s : Standing). PhaseFits s.calls s.phase) (sym (standing_moved g x.client x past refl))
+          (opens_kind g x.client (standing g x.client past) x.input (move_of g past x) (kind_of g past x steps.1) (phases_fit g past steps.0 x.client)))
+      | inr differ ↦ subst (λ (s : Standing). PhaseFits s.calls s.phase) (sym (standing_kept g me x past differ)) (phases_fit g past steps.0 me)
+    ]
+
+-- ---- what a step calls
+
+same_invoke : (n m : ℕ) (o q : Op) → Some (Invokes n o) ≡ Some (Invokes m q) → (n ≡ m) × (o ≡ q)
+same_invoke n m o q e = (cc, cc)
+
+no_commit : (done : Bool) (n : ℕ) (o : Op) → Some (Commits done) ≡ Some (Invokes n o) → ⊥
+no_commit done n o e = cc
+
+no_seal : (n : ℕ) (o : Op) → Some Seals ≡ Some (Invokes n o) → ⊥
+no_seal n o e = cc
+
+nothing_called : (n : ℕ) (o : Op) → ◌≡◌ {A = Option Sending} None (Some (Invokes n o)) → ⊥
+nothing_called n o e = cc
+
+-- a step that sends a call is one that calls
+pub called_if : (g : Group) (me : ℕ) (s : Standing) (i : Input) (v : Move) → Kind g me s i v → (n : ℕ) (o : Op) → v.sends ≡ Some (Invokes n o)
+    → (a : Called g me s i v) × ((s.calls + 1 ≡ n) × (a.op ≡ o))
+called_if g me s i v (is_quiet q) n o e = absurd (q.calls_nothing n o e)
+called_if g me s i v (is_called a) n o e = (a, same_invoke (s.calls + 1) n a.op o (sym (ap (λ (m : Move). m.sends) a.moved) ∙ e))
+called_if g me s i v (is_replied r) n o e = absurd (no_commit _ n o (sym (ap (λ (m : Move). m.sends) r.moved) ∙ e))
+called_if g me s i v (is_updated u) n o e = absurd (no_seal n o (sym (ap (λ (m : Move). m.sends) u.moved) ∙ e))
+called_if g me s i v (is_listed l) n o e = absurd (nothing_called n o (sym (ap (λ (m : Move). m.sends) l.moved) ∙ e))
 
 -- ---- paths grow
 
@@ -178,10 +221,10 @@ counts_own g me s i v (is_quiet q) cs h =
 counts_own g me s i v (is_called a) cs h =
     subst (λ (m : Move). Counts me m.next (completion me m.next.path m.returns ++ cs)) (sym a.moved) (record {
       most = λ c w e. let k : number_of c.prefix ≤ s.calls = h.most c w e in omega arith;
-      awaited = λ n o load alive e. sym (same_number (s.calls + 1) n a.op o false load e);
+      awaited = λ n o load alive e. sym (same_number (s.calls + 1) n a.op o a.load load e);
       newer = λ n o load alive e c w f.
           let k : number_of c.prefix ≤ s.calls = h.most c w f in
-          let is : s.calls + 1 ≡ n = same_number (s.calls + 1) n a.op o false load e in
+          let is : s.calls + 1 ≡ n = same_number (s.calls + 1) n a.op o a.load load e in
           omega arith;
     })
 counts_own g me s i v (is_replied r) cs h =
@@ -302,7 +345,7 @@ pub record Asked (g : Group) (h : List TraceStep) (me n : ℕ) (o : Op) : Type 0
   pub past : List TraceStep
   pub is : h ≡ between ++ call ∷ past
   pub makes : MakesCall g past call (call_of me n o)
-  pub asked : call.input ≡ input.Call o
+  pub asked : (move_of g past call).sends ≡ Some (Invokes n o)
   pub quiet : NoStepOf me between
 
 asked_other : (g : Group) (x : TraceStep) (past : List TraceStep) (me n : ℕ) (o : Op) → (x.client ≡ me → ⊥) → Asked g past me n o → Asked g (x ∷ past) me n o
@@ -320,16 +363,17 @@ asked_now : (g : Group) (x : TraceStep) (past : List TraceStep) → Called g x.c
     → (n : ℕ) (o : Op) (load : Bool) → (move_of g past x).next.awaiting ≡ awaits.Reply n o load → Asked g (x ∷ past) x.client n o
 asked_now g x past a n o load e =
     let s : Standing = standing g x.client past in
-    let awaiting : awaits.Reply (s.calls + 1) a.op false ≡ awaits.Reply n o load = sym (ap (λ (m : Move). m.next.awaiting) a.moved) ∙ e in
-    let number : s.calls + 1 ≡ n = same_number (s.calls + 1) n a.op o false load awaiting in
-    let op : a.op ≡ o = same_asked (s.calls + 1) n a.op o false load awaiting in
+    let awaiting : awaits.Reply (s.calls + 1) a.op a.load ≡ awaits.Reply n o load = sym (ap (λ (m : Move). m.next.awaiting) a.moved) ∙ e in
+    let number : s.calls + 1 ≡ n = same_number (s.calls + 1) n a.op o a.load load awaiting in
+    let op : a.op ≡ o = same_asked (s.calls + 1) n a.op o a.load load awaiting in
+    let sends : (move_of g past x).sends ≡ Some (Invokes n o) = ap (λ (m : Move). m.sends) a.moved ∙ (ap (λ (k : ℕ). Some (Invokes k a.op)) number ∙ ap (λ (q : Op). Some (Invokes n q)) op) in
     record {
       between = [];
       call = x;
       past = past;
       is = refl;
-      makes = record { client = refl; call = subst IsCall (sym a.asked) tt; seq = number };
-      asked = a.asked ∙ ap input.Call op;
+      makes = record { client = refl; op = o; sends = sends };
+      asked = sends;
       quiet = tt;
     }
 

@@ -22,7 +22,7 @@ use Rattle.vic_laws.specs.OrderClaims.{CompletedAs, CompletionsAre, ViewsComplet
 use Rattle.vic_laws.proofs.Words.{in_right}
 use Rattle.vic_laws.proofs.Steps.{Replied, Kind, is_quiet, is_called, is_replied, is_updated, is_listed, call_of}
 use Rattle.vic_laws.proofs.Standings.{standing_moved, standing_kept, earlier_steps}
-use Rattle.vic_laws.proofs.Calls.{kind_of, Grows, path_grows, completed_by, completes_one, RepliedAt, completions_after, completion_after, completion_stays, completion_joins, completion_answers, same_number, same_asked}
+use Rattle.vic_laws.proofs.Calls.{kind_of, called_if, Grows, path_grows, completed_by, completes_one, RepliedAt, completions_after, completion_after, completion_stays, completion_joins, completion_answers, same_number, same_asked}
 use Rattle.vic_laws.proofs.Agreement.{confirmed_by, completion_owner, ShownAt, shown_at, shown_in, splits_at, confirmed_more, same_place}
 
 -- ---- an answered call is completed
@@ -65,7 +65,7 @@ one_outcome : (o p : Outcome) → ◌≡◌ {A = Option Outcome} (Some o) (Some 
 one_outcome o p e = cc
 
 -- a step that returned a completed outcome took a Reply
-replied_if : (g : Group) (me : ℕ) (s : Standing) (i : Input) (v : Move) → Kind g me s i v → (o : Outcome) → IsCompleted o → v.returns ≡ Some o → Replied g me s i v
+pub replied_if : (g : Group) (me : ℕ) (s : Standing) (i : Input) (v : Move) → Kind g me s i v → (o : Outcome) → IsCompleted o → v.returns ≡ Some o → Replied g me s i v
 replied_if g me s i v (is_quiet q) o done e =
     absurd (completion_some me v.next.path o done (ap (completion me v.next.path) (sym e) ∙ q.completes_nothing me v.next.path))
 replied_if g me s i v (is_called a) o done e = absurd (no_outcome o (sym (ap (λ (m : Move). m.returns) a.moved) ∙ e))
@@ -100,13 +100,14 @@ answered_completion g h steps e o done a =
     let quiet : standing g e.client rest ≡ standing g e.client (a.call ∷ a.past) = standing_quiet g e.client a.between (a.call ∷ a.past) a.quiet in
     let moved : standing g e.client (a.call ∷ a.past) ≡ (move_of g a.past a.call).next = standing_moved g e.client a.call a.past a.makes.client in
     let s : Standing = standing g a.call.client a.past in
-    let called : (move_of g a.past a.call).next.awaiting ≡ awaits.Reply (s.calls + 1) e.op false =
-    ap (λ (i : Input). (step g a.call.client s i).next.awaiting) a.asked ∙ awaits_call g a.call.client s e.op in
-    let awaiting : (standing g e.client rest).awaiting ≡ awaits.Reply e.seq e.op false =
-    ap (λ (t : Standing). t.awaiting) (quiet ∙ moved) ∙ called ∙ ap (λ (n : ℕ). awaits.Reply n e.op false) a.makes.seq in
+    let made : AreSteps g (a.call ∷ a.past) = earlier_steps g a.between (a.call ∷ a.past) now.0 in
+    let c = called_if g a.call.client s a.call.input (move_of g a.past a.call) (kind_of g a.past a.call made.1) e.seq e.op a.asked in
+    let called : (move_of g a.past a.call).next.awaiting ≡ awaits.Reply (s.calls + 1) c.0.op c.0.load = ap (λ (m : Move). m.next.awaiting) c.0.moved in
+    let awaiting : (standing g e.client rest).awaiting ≡ awaits.Reply e.seq e.op c.0.load =
+    ap (λ (t : Standing). t.awaiting) (quiet ∙ moved) ∙ called ∙ (ap (λ (n : ℕ). awaits.Reply n c.0.op c.0.load) c.1.0 ∙ ap (λ (o : Op). awaits.Reply e.seq o c.0.load) c.1.1) in
     subst (λ (k : List TraceStep). CompletedAs g k e o) (sym a.is)
     (completed_later g a.later (a.answer ∷ rest) e o
-    (completed_here g rest a.answer now.1 e o a.owner a.returned done false awaiting))
+    (completed_here g rest a.answer now.1 e o a.owner a.returned done c.0.load awaiting))
 
 decided_completed : (u : Option ℕ) (d : Dictionary) (o : Op) → IsCompleted (decided u d o)
 decided_completed None d o = tt

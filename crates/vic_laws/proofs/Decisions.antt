@@ -47,7 +47,7 @@ pub reply_taken : (g : Group) (x : TraceStep) (past : List TraceStep) → Kind g
     → took g past x ≡ Some (say.Reply seal entries part) → (r : RepliedAt g past x) × ((r.seal ≡ seal) × (r.bytes ≡ part))
 unfolding took
 reply_taken g x past (is_quiet k) seal entries part t = absurd (none_is_some (sym (k.seals_nothing (say.Reply seal entries part) t).0))
-reply_taken g x past (is_called k) seal entries part t = absurd (none_is_some (ap (taken_by (move_of g past x).next) (sym k.asked) ∙ t))
+reply_taken g x past (is_called k) seal entries part t = absurd (let e = k.takes (say.Reply seal entries part) t in cc)
 reply_taken g x past (is_replied k) seal entries part t = (k, same_reply k.seal seal k.entries entries k.bytes part (some_same (sym k.takes ∙ t)))
 reply_taken g x past (is_updated k) seal entries part t = absurd (let e = some_same (sym k.takes ∙ t) in cc)
 reply_taken g x past (is_listed k) seal entries part t = absurd (let e = some_same (sym k.takes ∙ t) in cc)

@@ -7,7 +7,7 @@ use Rattle.vic_dict.specs.declared.op.Outcome.TheVariants as outcome
 use Rattle.vic_dict.specs.declared.op.Entry.{Entry}
 use Rattle.vic_dict.specs.Lists.{IsIn, front}
 use Rattle.vic_dict.specs.Dictionary.{Dictionary}
-use Rattle.vic_wire.specs.Texts.{chain_text}
+use Rattle.vic_wire.specs.Texts.{chain_text, content_text}
 use Rattle.vic_wire.specs.Hashes.{Group, chain}
 use Rattle.vic_wire.specs.Parts.{Part, read_part}
 use Rattle.vic_rules.specs.declared.trace.TraceStep.{TraceStep}
@@ -15,8 +15,8 @@ use Rattle.vic_rules.specs.declared.trace.Shown.{Shown}
 use Rattle.vic_rules.specs.Client.{Standing, at_start, step, MayStep, payload_of}
 use Rattle.vic_rules.specs.History.{standing, path, IsStep, AreSteps, IsLawful}
 use Rattle.vic_rules.specs.Views.{left_by, Explains, IsLegal}
-use Rattle.vic_rules.specs.Trust.{IsListed, of_genesis, of_path, of_part, of_sealed, chain_texts, parts_in, parts_taken, applied, took}
-use Rattle.vic_laws.specs.Meanings.{IsExplained, by_answer, by_abort, LegalIs, gathered, one_to, zero_to, chain_texts_up, parts_of, nodes_of, texts_of_paths, texts_of_parts, texts_of_sealed, listed, ListedAre, own_steps, LawfulByClient}
+use Rattle.vic_rules.specs.Trust.{IsListed, of_genesis, of_path, of_part, of_content, of_sealed, chain_texts, parts_in, parts_taken, contents_known, applied, took}
+use Rattle.vic_laws.specs.Meanings.{IsExplained, by_answer, by_abort, LegalIs, gathered, one_to, zero_to, chain_texts_up, parts_of, nodes_of, texts_of_paths, texts_of_parts, texts_of_sealed, texts_of_contents, listed, ListedAre, own_steps, LawfulByClient}
 use Rattle.vic_laws.proofs.Words.{in_left, in_right, in_either}
 use Rattle.vic_laws.proofs.Standings.{standing_moved, standing_kept}
 use Rattle.vic_laws.proofs.Growth.{front_none, front_whole}
@@ -171,14 +171,23 @@ module _ (g : Group) (h : List TraceStep) (lawful : IsLawful g h) where
   first_member : IsIn members 1
   first_member = in_one_to g.count 1 (omega arith) (omega (arith, lawful.group.count.0))
 
+  abbrev behind_parts : List (List ℕ)
+  behind_parts = texts_of_sealed g h ++ texts_of_contents g h
+
+  abbrev behind_paths : List (List ℕ)
+  behind_paths = texts_of_parts g h ++ behind_parts
+
   in_paths : (t : List ℕ) → IsIn (texts_of_paths g h) t → IsIn (listed g h) t
-  in_paths t i = inr (in_left (texts_of_paths g h) (texts_of_parts g h ++ texts_of_sealed g h) t i)
+  in_paths t i = inr (in_left (texts_of_paths g h) behind_paths t i)
 
   in_parts : (t : List ℕ) → IsIn (texts_of_parts g h) t → IsIn (listed g h) t
-  in_parts t i = inr (in_right (texts_of_paths g h) (texts_of_parts g h ++ texts_of_sealed g h) t (in_left (texts_of_parts g h) (texts_of_sealed g h) t i))
+  in_parts t i = inr (in_right (texts_of_paths g h) behind_paths t (in_left (texts_of_parts g h) behind_parts t i))
 
   in_sealed : (t : List ℕ) → IsIn (texts_of_sealed g h) t → IsIn (listed g h) t
-  in_sealed t i = inr (in_right (texts_of_paths g h) (texts_of_parts g h ++ texts_of_sealed g h) t (in_right (texts_of_parts g h) (texts_of_sealed g h) t i))
+  in_sealed t i = inr (in_right (texts_of_paths g h) behind_paths t (in_right (texts_of_parts g h) behind_parts t (in_left (texts_of_sealed g h) (texts_of_contents g h) t i)))
+
+  in_contents : (t : List ℕ) → IsIn (texts_of_contents g h) t → IsIn (listed g h) t
+  in_contents t i = inr (in_right (texts_of_paths g h) behind_paths t (in_right (texts_of_parts g h) behind_parts t (in_right (texts_of_sealed g h) (texts_of_contents g h) t i)))
 
   path_to : (me : ℕ) (t : List ℕ) → IsIn (chain_texts g (path g me h)) t → IsIn members me ⊎ (standing g me h ≡ at_start) → IsIn (listed g h) t
   path_to me t i (inl there) = in_paths t (in_gathered chained members me t there (chains_to g (path g me h) t i))
@@ -203,6 +212,7 @@ module _ (g : Group) (h : List TraceStep) (lawful : IsLawful g h) where
   listed_to t (of_part bytes part i e j) =
       let r = part_owner g h lawful.steps bytes i in
       in_parts t (in_gathered parted members r.0 t (in_one_to g.count r.0 r.1 r.2) (in_gathered (λ b. nodes_of (read_part b)) (parts_of g r.0 h) bytes t r.3 (subst (λ o. IsIn (nodes_of o) t) (sym e) j)))
+  listed_to t (of_content content i e) = in_contents t (in_gathered (λ c. content_text c ∷ []) (contents_known g h) content t i (inl (sym e)))
   listed_to t (of_sealed me n le i) = sealed_to me n t le i (member_or me)
 
   of_nodes : (bytes : List ℕ) (o : Option Part) (t : List ℕ) → IsIn (parts_taken g h) bytes → read_part bytes ≡ o → IsIn (nodes_of o) t → IsListed g h t
@@ -224,11 +234,21 @@ module _ (g : Group) (h : List TraceStep) (lawful : IsLawful g h) where
       let n = of_gathered (λ k. applied g h (front k (path g r.0 h))) (zero_to (standing g r.0 h).sealed) t r.2 in
       of_sealed r.0 n.0 (of_zero_to (standing g r.0 h).sealed n.0 n.1) n.2
 
+  one_content : (content t : List ℕ) → IsIn (contents_known g h) content → IsIn (content_text content ∷ []) t → IsListed g h t
+  one_content content t known (inl e) = of_content content known (sym e)
+  one_content content t known (inr none) = absurd none
+
+  from_contents : (t : List ℕ) → IsIn (texts_of_contents g h) t → IsListed g h t
+  from_contents t i = let r = of_gathered (λ c. content_text c ∷ []) (contents_known g h) t i in one_content r.0 t r.1 r.2
+
   listed_from : (t : List ℕ) → IsIn (listed g h) t → IsListed g h t
   listed_from t (inl e) = of_genesis (sym e)
-  listed_from t (inr i) = elim (in_either (texts_of_paths g h) (texts_of_parts g h ++ texts_of_sealed g h) t i) [
+  listed_from t (inr i) = elim (in_either (texts_of_paths g h) behind_paths t i) [
     | inl a ↦ from_paths t a
-    | inr b ↦ elim (in_either (texts_of_parts g h) (texts_of_sealed g h) t b) [ inl c ↦ from_parts t c | inr d ↦ from_sealed t d ]
+    | inr b ↦ elim (in_either (texts_of_parts g h) behind_parts t b) [
+      | inl c ↦ from_parts t c
+      | inr d ↦ elim (in_either (texts_of_sealed g h) (texts_of_contents g h) t d) [ inl e ↦ from_sealed t e | inr f ↦ from_contents t f ]
+    ]
   ]
 
 pub listed_tells : ListedAre
@@ -262,6 +282,7 @@ step_at g x h k e s = record {
   may = subst (λ w. MayStep g w x.input) e s.may;
   sent = subst (λ w. x.sent ≡ payload_of g x.client (step g x.client w x.input).next (step g x.client w x.input).sends) e s.sent;
   returned = subst (λ w. x.returned ≡ (step g x.client w x.input).returns) e s.returned;
+  object = subst (λ w. x.object ≡ (step g x.client w x.input).object) e s.object;
 }
 
 steps_own : (g : Group) (me : ℕ) (h : List TraceStep) → AreSteps g h → AreSteps g (own_steps me h)

@@ -1,7 +1,7 @@
 -- Each dictionary that a lawful history speaks of is proper.
 use Rattle.std.specs.Prelude.{◌≡◌, ℕ, true, false, List, [], ◌∷◌, Option, Some, None, nat_eq, if◌then◌else◌}
 use Rattle.std.specs.List.{AllByRecursion}
-use Rattle.std.proofs.Common.{subst, inl, inr}
+use Rattle.std.proofs.Common.{refl, ap, subst, inl, inr}
 use Rattle.vic_dict.specs.declared.op.Outcome.{Outcome}
 use Rattle.vic_dict.specs.declared.op.Outcome.TheVariants as outcome
 use Rattle.vic_dict.specs.declared.op.Entry.{Entry}
@@ -20,6 +20,8 @@ use Rattle.vic_spellings.proofs.Steps.{bytes-rest}
 use Rattle.vic_spellings.proofs.SpelledParts.{part_takes, node_holds_bytes}
 use Rattle.vic_laws.specs.Claims.{DictionariesAreProper, ViewsLeaveProper, IsProperPart, PartsAreProper}
 use Rattle.vic_laws.proofs.Words.{all_append, in_either}
+use Rattle.vic_wire.specs.declared.message.ToClient.{ToClient}
+use Rattle.vic_wire.specs.declared.message.ToClient.TheVariants as say
 use Rattle.vic_laws.proofs.Steps.{Kind, is_quiet, is_called, is_replied, is_updated, is_listed}
 use Rattle.vic_laws.proofs.StepKinds.{step_kind}
 use Rattle.vic_laws.proofs.Paths.{all_drop, path_spelled}
@@ -67,9 +69,13 @@ proper_part : (read : List ℕ) (part : Part) (bytes : List ℕ) → AreBytes re
 proper_part read part bytes are_bytes is (inl e) = subst IsProperPart e (let t = part_takes read part are_bytes is in record { part = part; is = is; proper = t.0; holds = part_holds part (subst AreBytes t.1 are_bytes) })
 proper_part read part bytes are_bytes is (inr i) = absurd i
 
+no_parts : (o : Option ToClient) → ((m : ToClient) → o ≡ Some m → m ≡ say.Kept) → parts_in o ≡ []
+no_parts None h = refl
+no_parts (Some m) h = ap (λ x. parts_in (Some x)) (h m refl)
+
 kind_parts : (g : Group) (me : ℕ) (s : Standing) (i : Input) (v : Move) → Kind g me s i v → (bytes : List ℕ) → IsIn (parts_in (taken_by v.next i)) bytes → IsProperPart bytes
 kind_parts g me s i v (is_quiet k) bytes there = absurd (subst (λ l. IsIn l bytes) k.shows_nothing there)
-kind_parts g me s i v (is_called k) bytes there = absurd (subst (λ j. IsIn (parts_in (taken_by v.next j)) bytes) k.asked there)
+kind_parts g me s i v (is_called k) bytes there = absurd (subst (λ l. IsIn l bytes) (no_parts (taken_by v.next i) k.takes) there)
 kind_parts g me s i v (is_replied k) bytes there = proper_part k.bytes k.part bytes k.are_bytes k.is_part (subst (λ m. IsIn (parts_in m) bytes) k.takes there)
 kind_parts g me s i v (is_updated k) bytes there = proper_part k.bytes k.part bytes k.are_bytes k.is_part (subst (λ m. IsIn (parts_in m) bytes) k.takes there)
 kind_parts g me s i v (is_listed k) bytes there = absurd (subst (λ m. IsIn (parts_in m) bytes) k.takes there)

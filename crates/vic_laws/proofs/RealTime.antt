@@ -13,16 +13,15 @@ use Rattle.vic_wire.specs.Hashes.{Group}
 use Rattle.vic_rules.specs.declared.trace.Input.{Input}
 use Rattle.vic_rules.specs.declared.trace.TraceStep.{TraceStep}
 use Rattle.vic_rules.specs.declared.trace.Shown.{Shown}
-use Rattle.vic_rules.specs.declared.trace.Input.TheVariants as input
-use Rattle.vic_rules.specs.Client.{Standing, Move, MayStep, commit_text_on, seal_text_on}
+use Rattle.vic_rules.specs.Client.{Standing, Move, commit_text_on, seal_text_on}
 use Rattle.vic_rules.specs.History.{standing, path, move_of, IsStep, AreSteps, Completion, completions}
-use Rattle.vic_rules.specs.Views.{confirmed_calls, last_prefix, view_of, IsCall, IsCompleted, ReturnedBefore, Earlier, IsInRealTime}
+use Rattle.vic_rules.specs.Views.{confirmed_calls, last_prefix, view_of, IsCompleted, ReturnedBefore, Earlier, IsInRealTime}
 use Rattle.vic_rules.specs.Trust.{took, taken_by, checked_texts, texts_taken, text_sent, texts_made, IsForged}
 use Rattle.vic_laws.specs.OrderClaims.{CompletedAs, ViewsInRealTime}
 use Rattle.vic_laws.proofs.Words.{in_right, in_either}
-use Rattle.vic_laws.proofs.Steps.{Kind, is_quiet, is_called, is_replied, is_updated, is_listed, call_of}
+use Rattle.vic_laws.proofs.Steps.{PhaseFits, Kind, is_quiet, is_called, is_replied, is_updated, is_listed, call_of}
 use Rattle.vic_laws.proofs.Standings.{standing_moved, standing_kept, earlier_steps}
-use Rattle.vic_laws.proofs.Calls.{kind_of, Grows, completion_stays, newest_entry}
+use Rattle.vic_laws.proofs.Calls.{kind_of, phases_fit, called_if, Grows, completion_stays, newest_entry}
 use Rattle.vic_laws.proofs.Agreement.{confirmed_tells, same_completion, ShownAt, shown_in, shown_entry, shown_list}
 use Rattle.vic_laws.proofs.Complete.{answered_completion, is_completed, completions_stay, path_has, confirmed_below}
 
@@ -102,23 +101,23 @@ calls_grow g me x past is =
     ]
 
 -- a call's text that a client sends is that of its newest call
-sent_number : (g : Group) (me : ℕ) (s : Standing) (i : Input) (v : Move) → Kind g me s i v → (e : Entry) → e.seq < 2 ^ 32
+sent_number : (g : Group) (me : ℕ) (s : Standing) (i : Input) (v : Move) → Kind g me s i v → PhaseFits s.calls s.phase → (e : Entry) → e.seq < 2 ^ 32
     → IsIn (text_sent g me v.next v.sends) (invoke_text e) → (me ≡ e.client) × (e.seq ≤ v.next.calls)
-sent_number g me s i v (is_quiet q) e few w = absurd (subst (λ (ts : List (List ℕ)). IsIn ts (invoke_text e)) q.sends_nothing w)
-sent_number g me s i v (is_called a) e few w =
+sent_number g me s i v (is_quiet q) h e few w = absurd (subst (λ (ts : List (List ℕ)). IsIn ts (invoke_text e)) q.sends_nothing w)
+sent_number g me s i v (is_called a) h e few w =
     let call : Entry = call_of me (s.calls + 1) a.op in
     let sent : IsIn (invoke_text call ∷ []) (invoke_text e) = subst (λ (m : Move). IsIn (text_sent g me m.next m.sends) (invoke_text e)) a.moved w in
     let calls : v.next.calls ≡ s.calls + 1 = ap (λ (m : Move). m.next.calls) a.moved in
     let Goal : IsIn (invoke_text call ∷ []) (invoke_text e) → Type 0 = λ k. (me ≡ e.client) × (e.seq ≤ v.next.calls) in
     elim sent as Goal [
       | inl same ↦
-          (let number : s.calls + 1 ≡ e.seq = text_number call e a.few few same in
+          (let number : s.calls + 1 ≡ e.seq = text_number call e (a.few h) few same in
           (text_client call e same, omega arith))
       | inr none ↦ absurd none
     ]
-sent_number g me s i v (is_replied r) e few w = absurd (commit_not_sent g _ _ e (subst (λ (m : Move). IsIn (text_sent g me m.next m.sends) (invoke_text e)) r.moved w))
-sent_number g me s i v (is_updated u) e few w = absurd (seal_not_sent g _ _ _ e (subst (λ (m : Move). IsIn (text_sent g me m.next m.sends) (invoke_text e)) u.moved w))
-sent_number g me s i v (is_listed l) e few w = absurd (subst (λ (m : Move). IsIn (text_sent g me m.next m.sends) (invoke_text e)) l.moved w)
+sent_number g me s i v (is_replied r) h e few w = absurd (commit_not_sent g _ _ e (subst (λ (m : Move). IsIn (text_sent g me m.next m.sends) (invoke_text e)) r.moved w))
+sent_number g me s i v (is_updated u) h e few w = absurd (seal_not_sent g _ _ _ e (subst (λ (m : Move). IsIn (text_sent g me m.next m.sends) (invoke_text e)) u.moved w))
+sent_number g me s i v (is_listed l) h e few w = absurd (subst (λ (m : Move). IsIn (text_sent g me m.next m.sends) (invoke_text e)) l.moved w)
 
 -- a client has made no text of a call with a number above its count
 pub made_number : (g : Group) (h : List TraceStep) → AreSteps g h → (e : Entry) → e.seq < 2 ^ 32 → IsIn (texts_made g h) (invoke_text e) → e.seq ≤ (standing g e.client h).calls
@@ -130,7 +129,7 @@ made_number g (x ∷ past) steps e few w =
     let Goal : IsIn new (invoke_text e) ⊎ IsIn (texts_made g past) (invoke_text e) → Type 0 = λ k. e.seq ≤ (standing g e.client (x ∷ past)).calls in
     elim (in_either new (texts_made g past) (invoke_text e) w) as Goal [
       | inl now ↦
-          (let sent : (x.client ≡ e.client) × (e.seq ≤ v.next.calls) = sent_number g x.client (standing g x.client past) x.input v (kind_of g past x steps.1) e few now in
+          (let sent : (x.client ≡ e.client) × (e.seq ≤ v.next.calls) = sent_number g x.client (standing g x.client past) x.input v (kind_of g past x steps.1) (phases_fit g past steps.0 x.client) e few now in
           subst (λ (s : Standing). e.seq ≤ s.calls) (sym (standing_moved g e.client x past sent.0)) sent.1)
       | inr old ↦
           (let before : e.seq ≤ (standing g e.client past).calls = made_number g past steps.0 e few old in
@@ -234,12 +233,6 @@ ends_compare (x ∷ xs) (y ∷ ys) zs ws e = ends_compare xs ys zs ws (same_rest
     same_rest : {X : Type 0} (x y : X) (v w : List X) → x ∷ v ≡ y ∷ w → v ≡ w
     same_rest x y v w e = cc
 
-call_few : (g : Group) (s : Standing) (i : Input) → IsCall i → MayStep g s i → s.calls + 1 < 2 ^ 32
-call_few g s (input.Call o) c may = may.1.1.1.1
-call_few g s input.Poll c may = absurd c
-call_few g s input.Sync c may = absurd c
-call_few g s (input.Payload payload) c may = absurd c
-
 -- a call that was made after another had returned doesn't stand on that one's path
 never_below : (g : Group) (h : List TraceStep) → AreSteps g h → (IsForged g h → ⊥) → (p : List Entry) (a b : Shown) (older : List Shown)
     → (s : ShownAt (completions g h) p a older) → ReturnedBefore g h a b → IsIn (s.entry ∷ s.below) b.entry → ⊥
@@ -259,8 +252,9 @@ never_below g h steps honest p a b older s r w =
     let grown : Grows c.by.prefix (path g c.by.client r.past) = path_has g r.past now.0 c.by c.there in
     let on_path : IsIn (path g c.by.client r.past) b.entry =
     subst (λ (q : List Entry). IsIn q b.entry) (sym grown.1) (in_right grown.0 c.by.prefix b.entry (subst (λ (q : List Entry). IsIn q b.entry) place w)) in
-    let few : (standing g r.x.client r.past).calls + 1 < 2 ^ 32 = call_few g (standing g r.x.client r.past) r.x.input r.makes.call now.1.may in
-    let number : (standing g r.x.client r.past).calls + 1 ≡ b.entry.seq = r.makes.seq in
+    let calls = called_if g r.x.client (standing g r.x.client r.past) r.x.input (move_of g r.past r.x) (kind_of g r.past r.x now.1) b.entry.seq r.makes.op r.makes.sends in
+    let few : (standing g r.x.client r.past).calls + 1 < 2 ^ 32 = calls.0.few (phases_fit g r.past now.0 r.x.client) in
+    let number : (standing g r.x.client r.past).calls + 1 ≡ b.entry.seq = calls.1.0 in
     let here : (standing g r.x.client r.past).calls ≡ (standing g b.entry.client r.past).calls = ap (λ (m : ℕ). (standing g m r.past).calls) r.makes.client in
     not_yet g r.past now.0 honest_past c.by.client b.entry (omega arith) (omega arith) on_path
 

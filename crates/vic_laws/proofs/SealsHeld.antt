@@ -98,7 +98,7 @@ kind_sealing : (g : Group) (x : TraceStep) (past : List TraceStep) → Kind g x.
     → took g past x ≡ Some m → seal_of m ≡ Some seal → Sealing g (standing g x.client past) (move_of g past x).next.path seal
 unfolding took
 kind_sealing g x past (is_quiet k) m seal t has = absurd (none_is_some (sym (k.seals_nothing m t).0 ∙ has))
-kind_sealing g x past (is_called k) m seal t has = absurd (none_is_some (ap (taken_by (move_of g past x).next) (sym k.asked) ∙ t))
+kind_sealing g x past (is_called k) m seal t has = absurd (none_is_some (ap seal_of (sym (k.takes m t)) ∙ has))
 kind_sealing g x past (is_replied k) m seal t has =
     subst (λ p. Sealing g (standing g x.client past) p seal) (ap (λ w. w.next.path) (sym k.moved))
     (subst (Sealing g (standing g x.client past) (call_of x.client k.seq k.op ∷ (k.others ++ (standing g x.client past).path))) (some_same (ap seal_of (some_same (sym k.takes ∙ t)) ∙ has)) k.sealing)

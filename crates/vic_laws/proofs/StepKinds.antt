@@ -23,13 +23,30 @@ use Rattle.vic_rules.specs.declared.state.Awaiting.{Awaiting}
 use Rattle.vic_rules.specs.declared.state.Awaiting.TheVariants as awaits
 use Rattle.vic_rules.specs.declared.trace.Input.{Input}
 use Rattle.vic_rules.specs.declared.trace.Input.TheVariants as input
-use Rattle.vic_rules.specs.Client.{is_write, Standing, Move, Sending, Polls, Syncs, moves, IsIdle, MayStep, awaits_nothing, onto, newest_first, grown, is_awaited, has_form, has_members, has_tags, has_turn, is_other, is_reply_to, goes_on, is_sealed, keeps_own, shows, shows_open, shows_own, is_next, is_proved, entries_of, seal_of, seal_text_on, first_failing, verdict_on, verdict, halts, replied, replied_to, updated, sealed_to, listed_to, new_root, decision, is_done, taken, taken_or_halts, on_payload, step}
+use Rattle.vic_rules.specs.Client.{is_write, Standing, Move, Sending, Polls, Syncs, moves, IsIdle, MayStep, awaits_nothing, onto, newest_first, grown, is_awaited, has_form, has_members, has_tags, has_turn, is_other, is_reply_to, goes_on, is_sealed, keeps_own, shows, shows_open, shows_own, is_next, is_proved, entries_of, seal_of, seal_text_on, first_failing, verdict_on, verdict, halts, replied, replied_to, updated, sealed_to, listed_to, new_root, decision, is_done, taken, taken_or_halts, on_payload, step, has_content, calls_op, waited, goes_to, refused_at, moves_with, Invokes, Keeps, Fetches}
 use Rattle.vic_rules.specs.Trust.{taken_by, checked_texts, seal_texts, parts_in, text_sent}
-use Rattle.vic_rules.specs.Views.{IsCall}
+use Rattle.std.specs.Prelude.{◌<◌, ◌^◌}
+use Rattle.std.specs.Int.{w32, to_be_bytes}
+use Rattle.std.proofs.Common.{length-append}
+use Rattle.sha2.proofs.Facts256.{length-sha256}
+use Rattle.vic_spellings.proofs.Bytes.{bytes-append, bytes-w32, bytes-sha256}
+use Rattle.vic_dict.specs.Dictionary.{Fits, AreBytesIn}
+use Rattle.vic_dict.specs.declared.op.Op.TheVariants as op
+use Rattle.vic_dict.specs.declared.op.Answer.{Answer}
+use Rattle.vic_dict.specs.declared.op.Answer.TheVariants as answer
+use Rattle.vic_wire.specs.declared.message.Digest32.{Digest32}
+use Rattle.vic_wire.specs.Texts.{content_text}
+use Rattle.vic_rules.specs.declared.object.ObjectCall.{ObjectCall}
+use Rattle.vic_rules.specs.declared.object.ObjectCall.TheVariants as object
+use Rattle.vic_rules.specs.declared.object.ObjectOutcome.{ObjectOutcome}
+use Rattle.vic_rules.specs.declared.object.Phase.{Phase}
+use Rattle.vic_rules.specs.declared.object.Phase.TheVariants as phase
+use Rattle.vic_rules.specs.Objects.{FitsObject, AreBytesInObject, reference_text, is_reference, begun, kept_at, answered, after_decision, Stepped}
+use Rattle.vic_rules.specs.Client.{is_load}
 use Rattle.vic_rules.specs.History.{completion}
 use Rattle.vic_spellings.proofs.SpelledAnswers.{answer_fits, answer_spelled}
 use Rattle.vic_laws.proofs.Words.{some_same, some_of, none_of, none_is_some, all_true, all_weaker, in_right, are_bytes_after, bytes_same, entry_same}
-use Rattle.vic_laws.proofs.Steps.{Passes, IsOther, call_of, StandsAbove, Sealing, Arrived, Quiet, Kind, is_quiet, is_called, is_replied, is_updated, is_listed}
+use Rattle.vic_laws.proofs.Steps.{Passes, PhaseFits, IsOther, call_of, StandsAbove, Sealing, Arrived, Quiet, Kind, is_quiet, is_called, is_replied, is_updated, is_listed}
 
 -- ---- entries put onto a path
 
@@ -56,7 +73,7 @@ onto_in text (t ∷ ts) p e i = elim (onto_in text ts (t.entry ∷ p) e i) [ inl
 
 -- ---- what single checks show
 
-all_five : (a b c d e : Bool) → (a && (b && (c && (d && e)))) ≡ true → (a ≡ true) × (b ≡ true) × (c ≡ true) × (d ≡ true) × (e ≡ true)
+pub all_five : (a b c d e : Bool) → (a && (b && (c && (d && e)))) ≡ true → (a ≡ true) × (b ≡ true) × (c ≡ true) × (d ≡ true) × (e ≡ true)
 all_five a b c d e h =
     let p = and_parts a (b && (c && (d && e))) h in
     let q = and_parts b (c && (d && e)) p.1 in
@@ -64,7 +81,7 @@ all_five a b c d e h =
     let t = and_parts d e r.1 in
     (p.0, q.0, r.0, t.0, t.1)
 
-all_four : (a b c d : Bool) → (a && (b && (c && d))) ≡ true → (a ≡ true) × (b ≡ true) × (c ≡ true) × (d ≡ true)
+pub all_four : (a b c d : Bool) → (a && (b && (c && d))) ≡ true → (a ≡ true) × (b ≡ true) × (c ≡ true) × (d ≡ true)
 all_four a b c d h =
     let p = and_parts a (b && (c && d)) h in
     let q = and_parts b (c && d) p.1 in
@@ -80,11 +97,11 @@ each_passed : (cs : List (ℕ × Bool)) → first_failing cs ≡ None → AllByR
 each_passed [] e = tt
 each_passed (c ∷ cs) e = let p = passed c.0 c.1 cs e in (p.0, each_passed cs p.1)
 
--- a verdict of none shows all eight
-all_passed : (g : Group) (me : ℕ) (s : Standing) (m : ToClient) → HasSpelling m → verdict_on g me s (Some m) ≡ None → Passes g me s m
+-- a verdict of none shows all nine
+pub all_passed : (g : Group) (me : ℕ) (s : Standing) (m : ToClient) → HasSpelling m → verdict_on g me s (Some m) ≡ None → Passes g me s m
 all_passed g me s m spelled e =
     let p = each_passed ((1, has_form s m) ∷ (2, has_members g me s m) ∷ (3, has_tags g m) ∷ (4, goes_on s (seal_of m))
-    ∷ (5, is_sealed g (grown s (entries_of m)) (seal_of m)) ∷ (6, keeps_own s (seal_of m)) ∷ (7, is_proved s m) ∷ (8, has_turn s m) ∷ []) e in
+    ∷ (5, is_sealed g (grown s (entries_of m)) (seal_of m)) ∷ (6, keeps_own s (seal_of m)) ∷ (7, is_proved s m) ∷ (8, has_turn s m) ∷ (9, has_content me s m) ∷ []) e in
     record {
       form = p.0;
       members = p.1.0;
@@ -94,6 +111,7 @@ all_passed g me s m spelled e =
       own = p.1.1.1.1.1.0;
       proof = p.1.1.1.1.1.1.0;
       turn = p.1.1.1.1.1.1.1.0;
+      content = p.1.1.1.1.1.1.1.1.0;
       spelled = spelled;
     }
 
@@ -149,7 +167,8 @@ quiet_halt g me k s b same = record {
   calls = refl;
   stays = λ j e. ap Some (same j e);
   rests = λ n o load e f. cc;
-  calls_nothing = λ c. c;
+  calls_nothing = λ n o e. absurd (none_is_some e);
+  opens = λ f. f;
   sends_nothing = refl;
   completes_nothing = λ c p. refl;
   checks_nothing = λ p. refl;
@@ -158,14 +177,18 @@ quiet_halt g me k s b same = record {
 }
 
 -- what is taken where the client goes on
-takes_read : (after : Standing) (b : List ℕ) (m : Option ToClient) → after.halted ≡ None → read_answer b ≡ m → taken_by after (input.Payload b) ≡ m
+pub takes_read : (after : Standing) (b : List ℕ) (m : Option ToClient) → after.halted ≡ None → read_answer b ≡ m → taken_by after (input.Payload b) ≡ m
 takes_read after b m e r = ap (λ h. if is_none h then read_answer b else None) e ∙ r
 
-quiet_answer : (g : Group) (me : ℕ) (s : Standing) (b : List ℕ) (m : ToClient) (returns : Option Outcome) → s.halted ≡ None → read_answer b ≡ Some m
+-- a quiet answer: where the client goes, what it sends, and what it returns
+quiet_answer : (g : Group) (me : ℕ) (s : Standing) (b : List ℕ) (m : ToClient) (a : Awaiting) (turned : Phase) (sends : Option Sending) (returns : Option Outcome) (object : Option ObjectOutcome)
+    → s.halted ≡ None → read_answer b ≡ Some m
     → seal_of m ≡ None → entries_of m ≡ [] → parts_in (Some m) ≡ [] → ((p : List Entry) → checked_texts g p (Some m) ≡ []) → ((c : ℕ) (p : List Entry) → completion c p returns ≡ [])
-    → Quiet g me s (input.Payload b) (moves (record s { awaiting = awaits.Nothing }) None returns)
-quiet_answer g me s b m returns alive r e1 e2 e3 e4 e5 =
-    let t : taken_by (record s { awaiting = awaits.Nothing }) (input.Payload b) ≡ Some m = takes_read (record s { awaiting = awaits.Nothing }) b (Some m) alive r in
+    → ((n : ℕ) (o : Op) (load : Bool) → a ≡ awaits.Reply n o load → ⊥) → ((n : ℕ) (o : Op) → sends ≡ Some (Invokes n o) → ⊥) → ((x : Standing) → text_sent g me x sends ≡ [])
+    → (PhaseFits s.calls s.phase → PhaseFits s.calls turned)
+    → Quiet g me s (input.Payload b) (moves_with (record s { awaiting = a; phase = turned }) sends returns object)
+quiet_answer g me s b m a turned sends returns object alive r e1 e2 e3 e4 e5 waits calls silent opens =
+    let t : taken_by (record s { awaiting = a; phase = turned }) (input.Payload b) ≡ Some m = takes_read (record s { awaiting = a; phase = turned }) b (Some m) alive r in
     record {
       path = refl;
       sealed = refl;
@@ -173,14 +196,61 @@ quiet_answer g me s b m returns alive r e1 e2 e3 e4 e5 =
       own = refl;
       calls = refl;
       stays = λ j e. e;
-      rests = λ n o load e f. cc;
-      calls_nothing = λ c. c;
-      sends_nothing = refl;
+      rests = λ n o load e f. waits n o load f;
+      calls_nothing = calls;
+      opens = opens;
+      sends_nothing = silent (record s { awaiting = a; phase = turned });
       completes_nothing = e5;
       checks_nothing = λ p. ap (checked_texts g p) t ∙ e4 p;
       seals_nothing = λ k e. subst (λ x. (seal_of x ≡ None) × (entries_of x ≡ [])) (some_same (sym t ∙ e)) (e1, e2);
       shows_nothing = ap parts_in t ∙ e3;
     }
+
+rests_nothing : (n : ℕ) (o : Op) (load : Bool) → awaits.Nothing ≡ awaits.Reply n o load → ⊥
+rests_nothing n o load e = cc
+
+rests_content : (h : Digest32) (len : ℕ) (n : ℕ) (o : Op) (load : Bool) → awaits.Content h len ≡ awaits.Reply n o load → ⊥
+rests_content h len n o load e = cc
+
+fetches_no_call : (h : List ℕ) (n : ℕ) (o : Op) → Some (Fetches h) ≡ Some (Invokes n o) → ⊥
+fetches_no_call h n o e = cc
+
+pub decided_opens : (s : Standing) (p : Phase) (o : Outcome) → PhaseFits s.calls p → PhaseFits s.calls (after_decision p o)
+decided_opens s phase.Closed o f = tt
+decided_opens s (phase.Keeping k h len) o f = f
+decided_opens s (phase.Fetching h len) o f = tt
+decided_opens s phase.Calling (outcome.Done a) f = answered_opens a
+  where
+    chosen : (b : Bool) (x y : Stepped) → PhaseFits s.calls x.0 → PhaseFits s.calls y.0 → PhaseFits s.calls (if◌then◌else◌ {A = Stepped} b x y).0
+    chosen true x y p q = p
+    chosen false x y p q = q
+
+    answered_opens : (a : Answer) → PhaseFits s.calls (answered a).0
+    answered_opens answer.Stored = tt
+    answered_opens (answer.Found v) = chosen (is_reference v) _ _ tt tt
+    answered_opens answer.NotFound = tt
+    answered_opens answer.Removed = tt
+    answered_opens answer.Absent = tt
+    answered_opens (answer.Names names) = tt
+decided_opens s phase.Calling (outcome.Aborted u) f = tt
+decided_opens s phase.Calling (outcome.Refused r) f = tt
+decided_opens s phase.Calling (outcome.Halted k) f = tt
+
+wait_kind : (g : Group) (me : ℕ) (s : Standing) (b : List ℕ) (p : Phase) → s.phase ≡ p → s.halted ≡ None → read_answer b ≡ Some say.Wait → Quiet g me s (input.Payload b) (waited s p)
+wait_kind g me s b phase.Closed e alive read = quiet_answer g me s b say.Wait awaits.Nothing s.phase None None None alive read refl refl refl (λ p. refl) (λ c p. refl) rests_nothing (λ n o f. absurd (none_is_some f)) (λ x. refl) (λ f. f)
+wait_kind g me s b (phase.Keeping k h len) e alive read = quiet_answer g me s b say.Wait awaits.Nothing s.phase None None None alive read refl refl refl (λ p. refl) (λ c p. refl) rests_nothing (λ n o f. absurd (none_is_some f)) (λ x. refl) (λ f. f)
+wait_kind g me s b phase.Calling e alive read = quiet_answer g me s b say.Wait awaits.Nothing s.phase None None None alive read refl refl refl (λ p. refl) (λ c p. refl) rests_nothing (λ n o f. absurd (none_is_some f)) (λ x. refl) (λ f. f)
+wait_kind g me s b (phase.Fetching h len) e alive read =
+    quiet_answer g me s b say.Wait (awaits.Content h len) s.phase (Some (Fetches h.bytes)) None None alive read refl refl refl (λ p. refl) (λ c p. refl) (rests_content h len) (fetches_no_call h.bytes) (λ x. refl) (λ f. f)
+
+refused_quiet : (g : Group) (me : ℕ) (s : Standing) (b : List ℕ) (r : ℕ) (a : Awaiting) → s.halted ≡ None → read_answer b ≡ Some (say.Refused r)
+    → Quiet g me s (input.Payload b) (refused_at s r a)
+refused_quiet g me s b r awaits.Kept alive read = quiet_answer g me s b (say.Refused r) awaits.Nothing phase.Closed None None _ alive read refl refl refl (λ p. refl) (λ c p. refl) rests_nothing (λ n o f. absurd (none_is_some f)) (λ x. refl) (λ f. tt)
+refused_quiet g me s b r awaits.Nothing alive read = quiet_answer g me s b (say.Refused r) awaits.Nothing _ None (Some (outcome.Refused r)) _ alive read refl refl refl (λ p. refl) (λ c p. refl) rests_nothing (λ n o f. absurd (none_is_some f)) (λ x. refl) (decided_opens s s.phase (outcome.Refused r))
+refused_quiet g me s b r (awaits.Reply n o load) alive read = quiet_answer g me s b (say.Refused r) awaits.Nothing _ None (Some (outcome.Refused r)) _ alive read refl refl refl (λ p. refl) (λ c p. refl) rests_nothing (λ n o f. absurd (none_is_some f)) (λ x. refl) (decided_opens s s.phase (outcome.Refused r))
+refused_quiet g me s b r awaits.Turn alive read = quiet_answer g me s b (say.Refused r) awaits.Nothing _ None (Some (outcome.Refused r)) _ alive read refl refl refl (λ p. refl) (λ c p. refl) rests_nothing (λ n o f. absurd (none_is_some f)) (λ x. refl) (decided_opens s s.phase (outcome.Refused r))
+refused_quiet g me s b r awaits.Entries alive read = quiet_answer g me s b (say.Refused r) awaits.Nothing _ None (Some (outcome.Refused r)) _ alive read refl refl refl (λ p. refl) (λ c p. refl) rests_nothing (λ n o f. absurd (none_is_some f)) (λ x. refl) (decided_opens s s.phase (outcome.Refused r))
+refused_quiet g me s b r (awaits.Content h len) alive read = quiet_answer g me s b (say.Refused r) awaits.Nothing _ None (Some (outcome.Refused r)) _ alive read refl refl refl (λ p. refl) (λ c p. refl) rests_nothing (λ n o f. absurd (none_is_some f)) (λ x. refl) (decided_opens s s.phase (outcome.Refused r))
 
 -- ---- the three answers with a seal
 
@@ -333,20 +403,43 @@ halts_kind g me k s b alive = is_quiet (quiet_halt g me k s b (λ j e. absurd cc
 part_bytes : (b before part : List ℕ) → AreBytes b → b ≡ before ++ part → AreBytes part
 part_bytes b before part h e = are_bytes_after before part (subst AreBytes e h)
 
+reference_bytes : (h : List ℕ) (len : ℕ) → AreBytes h → AreBytes (reference_text h len)
+reference_bytes h len a = bytes-append h (to_be_bytes w32 len) a (bytes-w32 len)
+
+reference_length : (h : List ℕ) (len : ℕ) → length h ≡ 32 → length (reference_text h len) < 65
+reference_length h len e = let l : length (h ++ to_be_bytes w32 len) ≡ length h + length (to_be_bytes w32 len) = length-append h (to_be_bytes w32 len) in omega (arith, l)
+
+-- a store that is told that its content is kept calls its put; else nobody awaits that
+kept_kind : (g : Group) (me : ℕ) (s : Standing) (b : List ℕ) (p : Phase) → s.phase ≡ p → s.halted ≡ None → read_answer b ≡ Some say.Kept
+    → Kind g me s (input.Payload b) (goes_to s false (kept_at p))
+kept_kind g me s b (phase.Keeping k h len) e alive read = is_called (record {
+  op = op.Put k (reference_text h.bytes len);
+  load = false;
+  turned = phase.Calling;
+  alive = alive;
+  few = λ f. (subst (PhaseFits s.calls) e f).1;
+  fits = λ f. let w = (subst (PhaseFits s.calls) e f).0 in ((w.0.0, reference_length h.bytes len w.1.0), (w.0.1, reference_bytes h.bytes len w.1.1));
+  opens = λ calls. tt;
+  takes = λ m t. sym (some_same (sym (takes_read (calls_op s phase.Calling (op.Put k (reference_text h.bytes len)) false).next b (Some say.Kept) alive read) ∙ t));
+  moved = refl;
+})
+kept_kind g me s b phase.Closed e alive read = halts_kind g me 1 s b alive
+kept_kind g me s b phase.Calling e alive read = halts_kind g me 1 s b alive
+kept_kind g me s b (phase.Fetching h len) e alive read = halts_kind g me 1 s b alive
+
 taken_kind : (g : Group) (me : ℕ) (s : Standing) (b : List ℕ) (m : ToClient) → s.halted ≡ None → AreBytes b → read_answer b ≡ Some m → Passes g me s m
     → b ≡ answer_text m → Kind g me s (input.Payload b) (taken me s m)
 taken_kind g me s b say.Hi alive h read passes text = halts_kind g me 1 s b alive
 taken_kind g me s b (say.Reply seal entries bytes) alive h read passes text =
     reply_kind g me s b seal entries bytes alive (part_bytes b (0x42 ∷ seal_field seal ++ entries_field entries) bytes h text) read passes
-taken_kind g me s b say.Wait alive h read passes text =
-    is_quiet (quiet_answer g me s b say.Wait None alive read refl refl refl (λ p. refl) (λ c p. refl))
+taken_kind g me s b say.Wait alive h read passes text = is_quiet (wait_kind g me s b s.phase refl alive read)
 taken_kind g me s b (say.Update seal bytes) alive h read passes text =
     update_kind g me s b seal bytes alive (part_bytes b (0x44 ∷ seal_field seal) bytes h text) read passes
 taken_kind g me s b (say.Entries seal entries) alive h read passes text = entries_kind g me s b seal entries alive read passes
-taken_kind g me s b (say.Refused r) alive h read passes text =
-    is_quiet (quiet_answer g me s b (say.Refused r) (Some (outcome.Refused r)) alive read refl refl refl (λ p. refl) (λ c p. refl))
-taken_kind g me s b say.Kept alive h read passes text = halts_kind g me 1 s b alive
-taken_kind g me s b (say.Content c) alive h read passes text = halts_kind g me 1 s b alive
+taken_kind g me s b (say.Refused r) alive h read passes text = is_quiet (refused_quiet g me s b r s.awaiting alive read)
+taken_kind g me s b say.Kept alive h read passes text = kept_kind g me s b s.phase refl alive read
+taken_kind g me s b (say.Content c) alive h read passes text =
+    is_quiet (quiet_answer g me s b (say.Content c) awaits.Nothing phase.Closed None None _ alive read refl refl refl (λ p. refl) (λ c p. refl) rests_nothing (λ n o f. absurd (none_is_some f)) (λ x. refl) (λ f. tt))
 taken_kind g me s b say.Gone alive h read passes text = halts_kind g me 1 s b alive
 taken_kind g me s b say.Absent alive h read passes text = halts_kind g me 1 s b alive
 
@@ -365,10 +458,28 @@ payload_kind g me s b None e h = read_kind g me s b (read_answer b) (verdict_on 
 idle_alive : (s : Standing) → IsIdle s → s.halted ≡ None
 idle_alive s idle = none_of s.halted (and_parts (awaits_nothing s.awaiting) (is_none s.halted) idle).1
 
-quiet_ask : (g : Group) (me : ℕ) (s : Standing) (i : Input) (v : Move) (a : Awaiting) (sends : Sending) → IsIdle s → (IsCall i → ⊥) → ((after : Standing) → taken_by after i ≡ None)
-    → ((n : ℕ) (o : Op) (load : Bool) → a ≡ awaits.Reply n o load → ⊥) → ((x : Standing) → text_sent g me x (Some sends) ≡ [])
-    → v ≡ moves (record s { awaiting = a }) (Some sends) None → Quiet g me s i v
-quiet_ask g me s i v a sends idle asks takes waits silent e = subst (λ w. Quiet g me s i w) (sym e) (record {
+no_poll : (n : ℕ) (o : Op) → Some Polls ≡ Some (Invokes n o) → ⊥
+no_poll n o e = cc
+
+no_sync : (n : ℕ) (o : Op) → Some Syncs ≡ Some (Invokes n o) → ⊥
+no_sync n o e = cc
+
+no_keep : (c : List ℕ) (n : ℕ) (o : Op) → Some (Keeps c) ≡ Some (Invokes n o) → ⊥
+no_keep c n o e = cc
+
+rests_turn : (n : ℕ) (o : Op) (load : Bool) → awaits.Turn ≡ awaits.Reply n o load → ⊥
+rests_turn n o load e = cc
+
+rests_entries : (n : ℕ) (o : Op) (load : Bool) → awaits.Entries ≡ awaits.Reply n o load → ⊥
+rests_entries n o load e = cc
+
+rests_kept : (n : ℕ) (o : Op) (load : Bool) → awaits.Kept ≡ awaits.Reply n o load → ⊥
+rests_kept n o load e = cc
+
+quiet_ask : (g : Group) (me : ℕ) (s : Standing) (i : Input) (a : Awaiting) (turned : Phase) (sends : Sending) → ((after : Standing) → taken_by after i ≡ None)
+    → ((n : ℕ) (o : Op) (load : Bool) → a ≡ awaits.Reply n o load → ⊥) → ((n : ℕ) (o : Op) → Some sends ≡ Some (Invokes n o) → ⊥) → ((x : Standing) → text_sent g me x (Some sends) ≡ [])
+    → (PhaseFits s.calls s.phase → PhaseFits s.calls turned) → Quiet g me s i (moves (record s { awaiting = a; phase = turned }) (Some sends) None)
+quiet_ask g me s i a turned sends takes waits calls silent opens = record {
   path = refl;
   sealed = refl;
   root = refl;
@@ -376,27 +487,43 @@ quiet_ask g me s i v a sends idle asks takes waits silent e = subst (λ w. Quiet
   calls = refl;
   stays = λ j f. f;
   rests = λ n o load f w. waits n o load w;
-  calls_nothing = asks;
-  sends_nothing = silent (record s { awaiting = a });
+  calls_nothing = calls;
+  opens = opens;
+  sends_nothing = silent (record s { awaiting = a; phase = turned });
   completes_nothing = λ c p. refl;
-  checks_nothing = λ p. ap (checked_texts g p) (takes (record s { awaiting = a }));
-  seals_nothing = λ m f. absurd (none_is_some (sym (takes (record s { awaiting = a })) ∙ f));
-  shows_nothing = ap parts_in (takes (record s { awaiting = a }));
+  checks_nothing = λ p. ap (checked_texts g p) (takes (record s { awaiting = a; phase = turned }));
+  seals_nothing = λ m f. absurd (none_is_some (sym (takes (record s { awaiting = a; phase = turned })) ∙ f));
+  shows_nothing = ap parts_in (takes (record s { awaiting = a; phase = turned }));
+}
+
+asked_kind : (g : Group) (me : ℕ) (s : Standing) (i : Input) (o : Op) (load : Bool) (turned : Phase) → ((after : Standing) → taken_by after i ≡ None) → s.halted ≡ None
+    → s.calls + 1 < 2 ^ 32 → Fits o × AreBytesIn o → ((calls : ℕ) → PhaseFits calls turned) → Kind g me s i (calls_op s turned o load)
+asked_kind g me s i o load turned none alive few fits opens = is_called (record {
+  op = o;
+  load = load;
+  turned = turned;
+  alive = alive;
+  few = λ f. few;
+  fits = λ f. fits;
+  opens = opens;
+  takes = λ m t. absurd (none_is_some (sym (none (calls_op s turned o load).next) ∙ t));
+  moved = refl;
 })
+
+object_kind : (g : Group) (me : ℕ) (s : Standing) (c : ObjectCall) → s.halted ≡ None → FitsObject c → AreBytesInObject c → s.calls + 1 < 2 ^ 32
+    → Kind g me s (input.Object c) (goes_to s (is_load c) (begun c))
+object_kind g me s (object.Store k c) alive fits are_bytes few =
+    is_quiet (quiet_ask g me s (input.Object (object.Store k c)) awaits.Kept _ (Keeps c) (λ a. refl) rests_kept (no_keep c) (λ x. refl)
+    (λ f. (((fits.0, are_bytes.0), (length-sha256 (content_text c), bytes-sha256 (content_text c))), few)))
+object_kind g me s (object.Load k) alive fits are_bytes few = asked_kind g me s (input.Object (object.Load k)) (op.Get k) true phase.Calling (λ a. refl) alive few (fits, are_bytes) (λ n. tt)
+object_kind g me s (object.Erase k) alive fits are_bytes few = asked_kind g me s (input.Object (object.Erase k)) (op.Del k) false phase.Calling (λ a. refl) alive few (fits, are_bytes) (λ n. tt)
+object_kind g me s (object.Names p) alive fits are_bytes few = asked_kind g me s (input.Object (object.Names p)) (op.List p) false phase.Calling (λ a. refl) alive few (omega (arith, fits), are_bytes) (λ n. tt)
 
 -- what a client may do where it stands is of one of the five kinds
 pub step_kind : (g : Group) (me : ℕ) (s : Standing) (i : Input) → MayStep g s i → Kind g me s i (step g me s i)
 unfolding step
-step_kind g me s (input.Call o) may = is_called (record {
-  op = o;
-  asked = refl;
-  idle = may.0;
-  alive = idle_alive s may.0;
-  plain = may.1.0;
-  fits = (may.1.1.0, may.1.1.1.0);
-  few = may.1.1.1.1;
-  moved = refl;
-})
-step_kind g me s input.Poll may = is_quiet (quiet_ask g me s input.Poll _ awaits.Turn Polls may (λ c. c) (λ a. refl) (λ n o load e. absurd cc) (λ x. refl) refl)
-step_kind g me s input.Sync may = is_quiet (quiet_ask g me s input.Sync _ awaits.Entries Syncs may (λ c. c) (λ a. refl) (λ n o load e. absurd cc) (λ x. refl) refl)
+step_kind g me s (input.Call o) may = asked_kind g me s (input.Call o) o false phase.Closed (λ a. refl) (idle_alive s may.0) may.1.1.1.1 (may.1.1.0, may.1.1.1.0) (λ n. tt)
+step_kind g me s (input.Object c) may = object_kind g me s c (idle_alive s may.0) may.1.1.0 may.1.1.1.0 may.1.1.1.1
+step_kind g me s input.Poll may = is_quiet (quiet_ask g me s input.Poll awaits.Turn s.phase Polls (λ a. refl) rests_turn no_poll (λ x. refl) (λ f. f))
+step_kind g me s input.Sync may = is_quiet (quiet_ask g me s input.Sync awaits.Entries s.phase Syncs (λ a. refl) rests_entries no_sync (λ x. refl) (λ f. f))
 step_kind g me s (input.Payload b) may = payload_kind g me s b s.halted refl may

@@ -3,9 +3,10 @@ use Rattle.std.specs.Prelude.{◌≡◌, ℕ, ◌+◌, ◌<◌, ◌≤◌, ◌^�
 use Rattle.std.specs.List.{AllByRecursion}
 use Rattle.vic_dict.specs.declared.op.Op.{Op}
 use Rattle.vic_dict.specs.declared.op.Entry.{Entry}
-use Rattle.vic_dict.specs.declared.op.Mode.TheVariants as mode
 use Rattle.vic_dict.specs.Lists.{IsIn, AreBytes}
-use Rattle.vic_dict.specs.Dictionary.{Fits, AreBytesIn}
+use Rattle.vic_dict.specs.Dictionary.{Fits, AreBytesIn, IsKey}
+use Rattle.vic_rules.specs.declared.object.Phase.{Phase}
+use Rattle.vic_rules.specs.declared.object.Phase.TheVariants as phase
 use Rattle.vic_wire.specs.declared.message.Seal.{Seal}
 use Rattle.vic_wire.specs.declared.message.Tagged.{Tagged}
 use Rattle.vic_wire.specs.declared.message.ToClient.{ToClient}
@@ -18,12 +19,11 @@ use Rattle.vic_rules.specs.declared.state.Own.{Own}
 use Rattle.vic_rules.specs.declared.state.Awaiting.TheVariants as awaits
 use Rattle.vic_rules.specs.declared.trace.Input.{Input}
 use Rattle.vic_rules.specs.declared.trace.Input.TheVariants as input
-use Rattle.vic_rules.specs.Client.{Standing, Move, Invokes, moves, IsIdle, decision, is_done, is_write, new_root, replied_to, sealed_to, listed_to, has_form, has_members, has_tags, goes_on, is_sealed, keeps_own, is_proved, has_turn, entries_of, seal_of, grown, newest_first, seal_text_on}
+use Rattle.vic_rules.specs.Client.{Standing, Move, Invokes, moves, IsIdle, decision, is_done, is_write, new_root, replied_to, sealed_to, listed_to, has_form, has_members, has_tags, goes_on, is_sealed, keeps_own, is_proved, has_turn, entries_of, seal_of, grown, newest_first, seal_text_on, has_content, calls_op}
 use Rattle.vic_rules.specs.History.{completion}
 use Rattle.vic_rules.specs.Trust.{taken_by, checked_texts, text_sent, parts_in}
-use Rattle.vic_rules.specs.Views.{IsCall}
 
--- all eight checks passed, and the answer has a spelling
+-- all nine checks passed, and the answer has a spelling
 pub record Passes (g : Group) (me : ℕ) (s : Standing) (m : ToClient) : Type 0 where
   pub form : has_form s m ≡ true
   pub members : has_members g me s m ≡ true
@@ -33,6 +33,7 @@ pub record Passes (g : Group) (me : ℕ) (s : Standing) (m : ToClient) : Type 0 
   pub own : keeps_own s (seal_of m) ≡ true
   pub proof : is_proved s m ≡ true
   pub turn : has_turn s m ≡ true
+  pub content : has_content me s m ≡ true
   pub spelled : HasSpelling m
 
 -- the entry is another member's
@@ -59,6 +60,13 @@ pub record Arrived (texts : List (List ℕ)) (news : List Entry) : Type 0 where
   pub spelled : AllByRecursion IsEntry news
   pub checked : (e : Entry) → IsIn news e → IsIn texts (invoke_text e)
 
+-- a store whose content was sent can call its put
+abbrev pub PhaseFits : ℕ → Phase → Type 0
+PhaseFits calls (phase.Keeping k h len) = ((IsKey k × AreBytes k) × ((length h.bytes ≡ 32) × AreBytes h.bytes)) × (calls + 1 < 2 ^ 32)
+PhaseFits calls phase.Closed = Unit {0}
+PhaseFits calls phase.Calling = Unit {0}
+PhaseFits calls (phase.Fetching h len) = Unit {0}
+
 -- nothing joins the path, nothing is sealed, and nothing is called or completed
 pub record Quiet (g : Group) (me : ℕ) (s : Standing) (i : Input) (v : Move) : Type 0 where
   pub path : v.next.path ≡ s.path
@@ -69,23 +77,25 @@ pub record Quiet (g : Group) (me : ℕ) (s : Standing) (i : Input) (v : Move) : 
   -- a client that halted stays so, and one that goes on awaits no Reply
   pub stays : (k : ℕ) → s.halted ≡ Some k → v.next.halted ≡ Some k
   pub rests : (n : ℕ) (o : Op) (load : Bool) → v.next.halted ≡ None → v.next.awaiting ≡ awaits.Reply n o load → ⊥
-  pub calls_nothing : IsCall i → ⊥
+  pub calls_nothing : (n : ℕ) (o : Op) → v.sends ≡ Some (Invokes n o) → ⊥
+  pub opens : PhaseFits s.calls s.phase → PhaseFits s.calls v.next.phase
   pub sends_nothing : text_sent g me v.next v.sends ≡ []
   pub completes_nothing : (client : ℕ) (p : List Entry) → completion client p v.returns ≡ []
   pub checks_nothing : (p : List Entry) → checked_texts g p (taken_by v.next i) ≡ []
   pub seals_nothing : (m : ToClient) → taken_by v.next i ≡ Some m → (seal_of m ≡ None) × (entries_of m ≡ [])
   pub shows_nothing : parts_in (taken_by v.next i) ≡ []
 
--- the client was called
+-- the client called an operation: of its own, or of a call on objects, which may have been told that its content is kept
 pub record Called (g : Group) (me : ℕ) (s : Standing) (i : Input) (v : Move) : Type 0 where
   pub op : Op
-  pub asked : i ≡ input.Call op
-  pub idle : IsIdle s
+  pub load : Bool
+  pub turned : Phase
   pub alive : s.halted ≡ None
-  pub plain : g.mode ≡ mode.Plain
-  pub fits : Fits op × AreBytesIn op
-  pub few : s.calls + 1 < 2 ^ 32
-  pub moved : v ≡ moves (record s { calls = s.calls + 1; awaiting = awaits.Reply (s.calls + 1) op false }) (Some (Invokes (s.calls + 1) op)) None
+  pub few : PhaseFits s.calls s.phase → s.calls + 1 < 2 ^ 32
+  pub fits : PhaseFits s.calls s.phase → Fits op × AreBytesIn op
+  pub opens : (calls : ℕ) → PhaseFits calls turned
+  pub takes : (m : ToClient) → taken_by v.next i ≡ Some m → m ≡ say.Kept
+  pub moved : v ≡ calls_op s turned op load
 
 -- the client took the Reply to its call
 pub record Replied (g : Group) (me : ℕ) (s : Standing) (i : Input) (v : Move) : Type 0 where

@@ -40,7 +40,7 @@ nothing_taken g p m e = record {
 
 kind_tags : (g : Group) (me : ℕ) (s : Standing) (i : Input) (v : Move) → Kind g me s i v → (m : ToClient) → taken_by v.next i ≡ Some m → TagsOf g v.next.path m
 kind_tags g me s i v (is_quiet k) m e = nothing_taken g v.next.path m (k.seals_nothing m e)
-kind_tags g me s i v (is_called k) m e = absurd (none_is_some (ap (taken_by v.next) (sym k.asked) ∙ e))
+kind_tags g me s i v (is_called k) m e = nothing_taken g v.next.path m (subst (λ x. (seal_of x ≡ None) × (entries_of x ≡ [])) (sym (k.takes m e)) (refl, refl))
 kind_tags g me s i v (is_replied k) m e =
     subst (λ p. TagsOf g p m) (ap (λ w. w.next.path) (sym k.moved)) (subst (TagsOf g _) (some_same (sym k.takes ∙ e)) (tags_shown g me s _ (say.Reply k.seal k.entries k.bytes) k.seal refl k.passes k.sealing))
 kind_tags g me s i v (is_updated k) m e =

@@ -4,3 +4,5 @@ pub mod Meanings
 pub mod ByCases
 pub mod Limits
 pub mod Fields
+pub mod ContentClaims
+pub mod CountClaims

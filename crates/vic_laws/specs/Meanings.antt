@@ -11,7 +11,7 @@ use Rattle.vic_wire.specs.declared.message.Seal.{Seal}
 use Rattle.vic_wire.specs.declared.message.Tagged.{Tagged}
 use Rattle.vic_wire.specs.declared.message.ToClient.TheVariants as say
 use Rattle.vic_wire.specs.Conflict.{conflicts}
-use Rattle.vic_wire.specs.Texts.{genesis_text, chain_text}
+use Rattle.vic_wire.specs.Texts.{genesis_text, chain_text, content_text}
 use Rattle.vic_wire.specs.Hashes.{Group, chain, hash}
 use Rattle.vic_wire.specs.Parts.{Part, read_part, part_texts}
 use Rattle.vic_rules.specs.declared.trace.TraceStep.{TraceStep}
@@ -20,7 +20,7 @@ use Rattle.vic_rules.specs.History.{standing, path, IsLawful, completions}
 use Rattle.vic_dict.specs.declared.op.Answer.{Answer}
 use Rattle.vic_rules.specs.Views.{confirmed_calls, left_by, IsLegal}
 use Rattle.vic_laws.specs.OrderClaims.{BlocksAt, effect_of, PicksOwn}
-use Rattle.vic_rules.specs.Trust.{took, IsForged, Collides, IsListed, parts_in, applied}
+use Rattle.vic_rules.specs.Trust.{took, IsForged, Collides, IsListed, parts_in, contents_known, applied}
 
 -- ---- legal views
 
@@ -74,9 +74,13 @@ texts_of_parts g h = gathered (λ i. gathered (λ bytes. nodes_of (read_part byt
 abbrev pub texts_of_sealed : Group → List TraceStep → List (List ℕ)
 texts_of_sealed g h = gathered (λ i. gathered (λ n. applied g h (front n (path g i h))) (zero_to (standing g i h).sealed)) (one_to g.count)
 
+-- the texts of the contents that were sent to be kept or taken, the latest step first
+abbrev pub texts_of_contents : Group → List TraceStep → List (List ℕ)
+texts_of_contents g h = gathered (λ content. content_text content ∷ []) (contents_known g h)
+
 -- all texts of which the claim on collisions speaks, in the order in which they are looked through
 abbrev pub listed : Group → List TraceStep → List (List ℕ)
-listed g h = genesis_text g.mode g.count ∷ (texts_of_paths g h ++ (texts_of_parts g h ++ texts_of_sealed g h))
+listed g h = genesis_text g.mode g.count ∷ (texts_of_paths g h ++ (texts_of_parts g h ++ (texts_of_sealed g h ++ texts_of_contents g h)))
 
 -- the texts that are listed are those of this list
 abbrev pub ListedAre : Type 0

@@ -1,5 +1,6 @@
 //! The laws on the order of calls, and on what a client decides of its call.
 
+ghost use Rattle.vic_laws.specs.CountClaims.{SendsAreFew};
 ghost use Rattle.vic_laws.specs.OrderClaims.{CompletedOnce, CompletionsAre, SameOpIs, SameEntryIs, LeastAboveIs, NoneAboveIs, ConfirmedIs, ConfirmedByOwner, DoneMeetsNoConflict, AbortedByTheLeast, AnswersStand, ViewsAgree, ViewsComplete, ViewsInRealTime, ViewsShowOnlyCalls};
 
 /// The tests of equality of operations and of entries find what is equal.
@@ -64,4 +65,9 @@ pub fn completed_once()
 /// The completions are the calls that were asked for and answered by Done or Aborted.
 pub fn completions_are()
     ensures { CompletionsAre }
+{}
+
+/// A client sends no more than three requests for each call, one for each poll and sync, and two more for each call on objects.
+pub fn sends_are_few()
+    ensures { SendsAreFew }
 {}

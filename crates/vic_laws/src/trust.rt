@@ -1,6 +1,7 @@
 //! The laws on tags, hashes and seals, and on what views answer and leave.
 
 ghost use Rattle.vic_laws.specs.Meanings.{AbortedByConflict, ApartIs, LegalIs, LawfulByClient, ListedAre, SealedAnswersStand};
+ghost use Rattle.vic_laws.specs.ContentClaims.{LoadsGetTheLast};
 ghost use Rattle.vic_laws.specs.Claims.{CommitsTell, DictionariesAreProper, HashesTellPaths, PartsAreProper, SealsHold, TagsHold, ViewsAreLegal, ViewsLeaveProper};
 
 /// One hash tells one path.
@@ -63,4 +64,9 @@ pub fn apart_is()
 /// The answer of a call that is done is that of what is sealed, whichever entries of others above the seal take effect.
 pub fn sealed_answers_stand()
     ensures { SealedAnswersStand }
+{}
+
+/// A load returns what the last done store of its name stored.
+pub fn contents()
+    ensures { LoadsGetTheLast }
 {}

@@ -83,7 +83,7 @@ steps s i given =
     let v = step s.group i (stands s i) given in
     let sent = payload_of s.group i v.next v.sends in
     record s {
-      history = record { client = i; input = given; sent = sent; returned = v.returns } ∷ s.history;
+      history = record { client = i; input = given; sent = sent; returned = v.returns; object = v.object } ∷ s.history;
       up = set_queue s.up i (queued (queue_of s.up i) sent);
     }
 
@@ -126,6 +126,7 @@ or_before None before = before
 
 abbrev pub payload_in : Input → Option (List ℕ)
 payload_in (input.Call o) = None
+payload_in (input.Object c) = None
 payload_in input.Poll = None
 payload_in input.Sync = None
 payload_in (input.Payload payload) = Some payload

@@ -22,6 +22,15 @@ use Rattle.vic_wire.specs.Hashes.{Group, chain, tag_of, empty_root}
 use Rattle.vic_wire.specs.Conflict.{conflicts}
 use Rattle.vic_wire.specs.Messages.{request_text}
 use Rattle.vic_wire.specs.Reading.{read_answer}
+use Rattle.vic_dict.specs.declared.op.Answer.TheVariants as answer
+use Rattle.vic_rules.specs.declared.object.ObjectCall.{ObjectCall}
+use Rattle.vic_rules.specs.declared.object.ObjectCall.TheVariants as object
+use Rattle.vic_rules.specs.declared.object.ObjectOutcome.{ObjectOutcome}
+use Rattle.vic_rules.specs.declared.object.ObjectOutcome.TheVariants as ended
+use Rattle.vic_rules.specs.declared.object.Phase.{Phase}
+use Rattle.vic_rules.specs.declared.object.Phase.TheVariants as phase
+use Rattle.vic_rules.specs.declared.object.Next.TheVariants as next
+use Rattle.vic_rules.specs.Objects.{FitsObject, AreBytesInObject, is_reference, is_content_of, begun, kept_at, Stepped, after_decision, ended_by}
 use Rattle.vic_rules.specs.declared.state.Own.{Own}
 use Rattle.vic_rules.specs.declared.state.Awaiting.{Awaiting}
 use Rattle.vic_rules.specs.declared.state.Awaiting.TheVariants as awaits
@@ -32,7 +41,8 @@ use Rattle.vic_wire.specs.Parts.{Part, read_part, part_root, reaches, walked, ro
 -- ---- the state
 
 -- where a client stands: its path (the newest entry first), its highest seal (position and root), its own calls that
--- aren't sealed (the oldest first), what it awaits, how often it has invoked, and the check at which it halted
+-- aren't sealed (the oldest first), what it awaits, how often it has invoked, how far its call on objects has come, and the check
+-- at which it halted
 pub record Standing : Type 0 where
   pub path : List Entry
   pub sealed : ℕ
@@ -40,10 +50,11 @@ pub record Standing : Type 0 where
   pub own : List Own
   pub awaiting : Awaiting
   pub calls : ℕ
+  pub phase : Phase
   pub halted : Option ℕ
 
 abbrev pub at_start : Standing
-at_start = record { path = []; sealed = 0; root = empty_root; own = []; awaiting = awaits.Nothing; calls = 0; halted = None }
+at_start = record { path = []; sealed = 0; root = empty_root; own = []; awaiting = awaits.Nothing; calls = 0; phase = phase.Closed; halted = None }
 
 -- the path with the entries of an answer put onto it, one after the other
 abbrev pub onto : List Tagged → List Entry → List Entry
@@ -219,6 +230,26 @@ abbrev pub has_turn : Standing → ToClient → Bool
 has_turn s (say.Update seal part) = is_next (seal.position + 1) s.own
 has_turn s m = true
 
+abbrev pub finds_reference : Outcome → Bool
+finds_reference (outcome.Done (answer.Found v)) = is_reference v
+finds_reference _ = true
+
+-- what a load's call found is a reference
+abbrev pub loads_reference : ℕ → Standing → Seal → List Entry → Option Part → Awaiting → Bool
+loads_reference me s seal (e ∷ below) (Some part) (awaits.Reply n o true) = finds_reference (decision me s below seal.position part o)
+loads_reference me s seal path part a = true
+
+abbrev pub is_wanted : Awaiting → List ℕ → Bool
+is_wanted (awaits.Content h len) c = is_content_of h.bytes len c
+is_wanted _ c = false
+
+-- 9: what a load found is a reference, and the content is the one that it names
+abbrev pub has_content : ℕ → Standing → ToClient → Bool
+has_content me s (say.Reply seal entries part) = loads_reference me s seal (grown s entries) (read_part part) s.awaiting
+has_content me s (say.Content c) = is_wanted s.awaiting c
+has_content me s say.Absent = false
+has_content me s m = true
+
 -- the number of the first check that fails
 abbrev pub first_failing : List (ℕ × Bool) → Option ℕ
 first_failing [] = None
@@ -229,7 +260,7 @@ verdict_on g me s None = Some 1
 verdict_on g me s (Some m) = first_failing (
     (1, has_form s m) ∷ (2, has_members g me s m) ∷ (3, has_tags g m) ∷ (4, goes_on s (seal_of m))
     ∷ (5, is_sealed g (grown s (entries_of m)) (seal_of m)) ∷ (6, keeps_own s (seal_of m))
-    ∷ (7, is_proved s m) ∷ (8, has_turn s m) ∷ [])
+    ∷ (7, is_proved s m) ∷ (8, has_turn s m) ∷ (9, has_content me s m) ∷ [])
 
 -- the check at which the client halts on a payload, if it doesn't pass
 unfoldable pub verdict : Group → ℕ → Standing → List ℕ → Option ℕ
@@ -244,15 +275,21 @@ pub data Sending : Type 0 where
   Polls : Sending
   Seals : Sending
   Syncs : Sending
+  Keeps : (content : List ℕ) → Sending
+  Fetches : (h : List ℕ) → Sending
 
--- where a client stands next, what it sends, and what it returns to its caller
+-- where a client stands next, what it sends, and what it returns to its caller: of a call, and of a call on objects
 pub record Move : Type 0 where
   pub next : Standing
   pub sends : Option Sending
   pub returns : Option Outcome
+  pub object : Option ObjectOutcome
 
 abbrev pub moves : Standing → Option Sending → Option Outcome → Move
-moves s sends returns = record { next = s; sends = sends; returns = returns }
+moves s sends returns = record { next = s; sends = sends; returns = returns; object = None }
+
+abbrev pub moves_with : Standing → Option Sending → Option Outcome → Option ObjectOutcome → Move
+moves_with s sends returns object = record { next = s; sends = sends; returns = returns; object = object }
 
 -- the text of a commit of the last entry of a path
 unfoldable pub commit_text_on : Group → List Entry → Bool → List ℕ
@@ -265,6 +302,8 @@ made_text g me s (Commits done) = Some (commit_text_on g s.path done)
 made_text g me s Polls = None
 made_text g me s Seals = Some (seal_text_on g s.path s.sealed s.root)
 made_text g me s Syncs = None
+made_text g me s (Keeps content) = None
+made_text g me s (Fetches h) = None
 
 abbrev pub digest : List ℕ → Digest32
 digest bytes = record { bytes = bytes }
@@ -279,6 +318,8 @@ request_of g me s (Commits done) = ask.Commit (length s.path) done (tag_for g (c
 request_of g me s Polls = ask.Poll
 request_of g me s Seals = ask.Seal s.sealed (digest s.root) (tag_for g (seal_text_on g s.path s.sealed s.root))
 request_of g me s Syncs = ask.Sync (length s.path)
+request_of g me s (Keeps content) = ask.Keep content
+request_of g me s (Fetches h) = ask.Fetch (digest h)
 
 -- the payload that carries it
 abbrev pub payload_of : Group → ℕ → Standing → Option Sending → Option (List ℕ)
@@ -297,7 +338,8 @@ halts s k = moves (record s { halted = Some k }) None (Some (outcome.Halted k))
 -- the call is decided: its path, the seal of the Reply, and the call as own and unsealed
 abbrev pub replied_to : Standing → List Entry → ℕ → List ℕ → List Own → Outcome → Move
 replied_to s p base root own ends =
-    moves (record s { path = p; sealed = base; root = root; awaiting = awaits.Turn; own = own }) (Some (Commits (is_done ends))) (Some ends)
+    moves_with (record s { path = p; sealed = base; root = root; awaiting = awaits.Turn; own = own; phase = after_decision s.phase ends })
+    (Some (Commits (is_done ends))) (Some ends) (ended_by s.phase ends)
 
 -- after a Reply whose last entry is the open call
 abbrev pub replied : ℕ → Standing → Seal → List Entry → Option Part → Awaiting → Move
@@ -323,13 +365,37 @@ updated s seal part own = halts s 1
 abbrev pub listed_to : Standing → List Entry → ℕ → List ℕ → Move
 listed_to s p base root = moves (record s { path = p; sealed = base; root = root; awaiting = awaits.Nothing }) None None
 
+-- an operation is called
+abbrev pub calls_op : Standing → Phase → Op → Bool → Move
+calls_op s p o load = moves (record s { calls = s.calls + 1; awaiting = awaits.Reply (s.calls + 1) o load; phase = p }) (Some (Invokes (s.calls + 1) o)) None
+
+-- after Wait: a load whose reference was found fetches its content
+abbrev pub waited : Standing → Phase → Move
+waited s (phase.Fetching h len) = moves (record s { awaiting = awaits.Content h len }) (Some (Fetches h.bytes)) None
+waited s phase.Closed = moves (record s { awaiting = awaits.Nothing }) None None
+waited s (phase.Keeping k h len) = moves (record s { awaiting = awaits.Nothing }) None None
+waited s phase.Calling = moves (record s { awaiting = awaits.Nothing }) None None
+
+-- what a call on objects does next that isn't over
+abbrev pub goes_to : Standing → Bool → Stepped → Move
+goes_to s load (p, next.Keep content) = moves (record s { awaiting = awaits.Kept; phase = p }) (Some (Keeps content)) None
+goes_to s load (p, next.Call o) = calls_op s p o load
+goes_to s load (p, x) = halts s 1
+
+-- after Refused, of a call or of a content that was to be kept: the call is over
+abbrev pub refused_at : Standing → ℕ → Awaiting → Move
+refused_at s r awaits.Kept = moves_with (record s { awaiting = awaits.Nothing; phase = phase.Closed }) None None (Some (ended.Refused r))
+refused_at s r a = moves_with (record s { awaiting = awaits.Nothing; phase = after_decision s.phase (outcome.Refused r) }) None (Some (outcome.Refused r)) (ended_by s.phase (outcome.Refused r))
+
 -- the effect of an answer that passed the checks; no other kind passes
 abbrev pub taken : ℕ → Standing → ToClient → Move
 taken me s (say.Reply seal entries part) = replied me s seal (grown s entries) (read_part part) s.awaiting
-taken me s say.Wait = moves (record s { awaiting = awaits.Nothing }) None None
+taken me s say.Wait = waited s s.phase
 taken me s (say.Update seal part) = updated s seal (read_part part) s.own
 taken me s (say.Entries seal entries) = listed_to s (grown s entries) seal.position seal.root.bytes
-taken me s (say.Refused r) = moves (record s { awaiting = awaits.Nothing }) None (Some (outcome.Refused r))
+taken me s (say.Refused r) = refused_at s r s.awaiting
+taken me s say.Kept = goes_to s false (kept_at s.phase)
+taken me s (say.Content c) = moves_with (record s { awaiting = awaits.Nothing; phase = phase.Closed }) None None (Some (ended.Content c))
 taken me s m = halts s 1
 
 abbrev pub taken_or_halts : ℕ → Standing → Option ToClient → Option ℕ → Move
@@ -342,9 +408,16 @@ abbrev pub on_payload : Group → ℕ → Standing → Option ℕ → List ℕ �
 on_payload g me s (Some k) payload = halts s k
 on_payload g me s None payload = taken_or_halts me s (read_answer payload) (verdict g me s payload)
 
+abbrev pub is_load : ObjectCall → Bool
+is_load (object.Load k) = true
+is_load (object.Store k c) = false
+is_load (object.Erase k) = false
+is_load (object.Names p) = false
+
 -- one step of a client
 unfoldable pub step : Group → ℕ → Standing → Input → Move
-step g me s (input.Call o) = moves (record s { calls = s.calls + 1; awaiting = awaits.Reply (s.calls + 1) o false }) (Some (Invokes (s.calls + 1) o)) None
+step g me s (input.Call o) = calls_op s phase.Closed o false
+step g me s (input.Object c) = goes_to s (is_load c) (begun c)
 step g me s input.Poll = moves (record s { awaiting = awaits.Turn }) (Some Polls) None
 step g me s input.Sync = moves (record s { awaiting = awaits.Entries }) (Some Syncs) None
 step g me s (input.Payload payload) = on_payload g me s s.halted payload
@@ -361,6 +434,7 @@ IsIdle s = IsTrue (awaits_nothing s.awaiting && is_none s.halted)
 -- what a client may be asked to do where it stands. A number in a text is a byte, as the type of the program says
 abbrev pub MayStep : Group → Standing → Input → Type 0
 MayStep g s (input.Call o) = IsIdle s × ((g.mode ≡ mode.Plain) × (Fits o × (AreBytesIn o × (s.calls + 1 < 2 ^ 32))))
+MayStep g s (input.Object c) = IsIdle s × ((g.mode ≡ mode.Objects) × (FitsObject c × (AreBytesInObject c × (s.calls + 1 < 2 ^ 32))))
 MayStep g s input.Poll = IsIdle s
 MayStep g s input.Sync = IsIdle s
 MayStep g s (input.Payload payload) = AreBytes payload

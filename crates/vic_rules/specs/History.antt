@@ -26,6 +26,7 @@ pub record IsStep (g : Group) (past : List TraceStep) (x : TraceStep) : Type 0 w
   pub may : MayStep g (standing g x.client past) x.input
   pub sent : x.sent ≡ payload_of g x.client (move_of g past x).next (move_of g past x).sends
   pub returned : x.returned ≡ (move_of g past x).returns
+  pub object : x.object ≡ (move_of g past x).object
 
 abbrev pub AreSteps : Group → List TraceStep → Type 0
 AreSteps g [] = Unit {0}

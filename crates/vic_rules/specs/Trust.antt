@@ -6,7 +6,7 @@ use Rattle.vic_dict.specs.declared.op.Entry.{Entry}
 use Rattle.vic_wire.specs.declared.message.Seal.{Seal}
 use Rattle.vic_wire.specs.declared.message.ToClient.{ToClient}
 use Rattle.vic_wire.specs.declared.message.ToClient.TheVariants as say
-use Rattle.vic_wire.specs.Texts.{invoke_text, genesis_text, chain_text}
+use Rattle.vic_wire.specs.Texts.{invoke_text, genesis_text, chain_text, content_text}
 use Rattle.vic_wire.specs.Hashes.{Group, chain, hash}
 use Rattle.vic_wire.specs.Trees.{tree_of, node_texts}
 use Rattle.vic_wire.specs.Reading.{read_answer}
@@ -14,7 +14,7 @@ use Rattle.vic_rules.specs.declared.trace.Input.{Input}
 use Rattle.vic_rules.specs.declared.trace.Input.TheVariants as input
 use Rattle.vic_rules.specs.declared.trace.TraceStep.{TraceStep}
 use Rattle.vic_wire.specs.Parts.{Part, read_part, part_texts}
-use Rattle.vic_rules.specs.Client.{Standing, Sending, made_text, entries_of, seal_of, seal_text_on}
+use Rattle.vic_rules.specs.Client.{Standing, Sending, Invokes, Commits, Polls, Seals, Syncs, Keeps, Fetches, made_text, entries_of, seal_of, seal_text_on}
 use Rattle.vic_rules.specs.History.{standing, path, move_of, completions}
 use Rattle.vic_rules.specs.Views.{confirmed_calls, left_by}
 
@@ -68,6 +68,25 @@ unfoldable pub parts_taken : Group → List TraceStep → List (List ℕ)
 parts_taken g [] = []
 parts_taken g (x ∷ past) = parts_in (took g past x) ++ parts_taken g past
 
+-- the contents that clients sent to be kept, and those that they took
+abbrev pub content_sent : Option Sending → List (List ℕ)
+content_sent (Some (Keeps content)) = content ∷ []
+content_sent (Some (Invokes n o)) = []
+content_sent (Some (Commits done)) = []
+content_sent (Some Polls) = []
+content_sent (Some Seals) = []
+content_sent (Some Syncs) = []
+content_sent (Some (Fetches h)) = []
+content_sent None = []
+
+abbrev pub content_in : Option ToClient → List (List ℕ)
+content_in (Some (say.Content content)) = content ∷ []
+content_in _ = []
+
+unfoldable pub contents_known : Group → List TraceStep → List (List ℕ)
+contents_known g [] = []
+contents_known g (x ∷ past) = content_sent (move_of g past x).sends ++ (content_in (took g past x) ++ contents_known g past)
+
 -- the dictionary that the confirmed calls of a path leave
 abbrev pub applied : Group → List TraceStep → List Entry → List (List ℕ)
 applied g h p = node_texts (tree_of (left_by (confirmed_calls (completions g h) p)))
@@ -77,6 +96,7 @@ pub data IsListed (g : Group) (h : List TraceStep) : List ℕ → Type 0 where
   of_genesis : {text : List ℕ} → text ≡ genesis_text g.mode g.count → IsListed g h text
   of_path : {text : List ℕ} (me : ℕ) → IsIn (chain_texts g (path g me h)) text → IsListed g h text
   of_part : {text : List ℕ} (bytes : List ℕ) (part : Part) → IsIn (parts_taken g h) bytes → read_part bytes ≡ Some part → IsIn (part_texts part) text → IsListed g h text
+  of_content : {text : List ℕ} (content : List ℕ) → IsIn (contents_known g h) content → text ≡ content_text content → IsListed g h text
   of_sealed : {text : List ℕ} (me n : ℕ) → n ≤ (standing g me h).sealed → IsIn (applied g h (front n (path g me h))) text → IsListed g h text
 
 -- two different listed texts have one hash

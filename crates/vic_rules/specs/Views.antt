@@ -1,5 +1,5 @@
 -- What a client's view is, and what is said of views. A view has the newest call first.
-use Rattle.std.specs.Prelude.{◌≡◌, ℕ, ◌+◌, Bool, ◌&&◌, List, [], ◌∷◌, ◌++◌, Option, Some, None, nat_eq, if◌then◌else◌, count_by}
+use Rattle.std.specs.Prelude.{◌≡◌, ℕ, Bool, ◌&&◌, List, [], ◌∷◌, ◌++◌, Option, Some, None, nat_eq, if◌then◌else◌, count_by}
 use Rattle.vic_dict.specs.Lists.{IsIn}
 use Rattle.std.specs.Cmp.Lexicographic.{pointwise}
 use Rattle.vic_dict.specs.declared.op.Outcome.{Outcome}
@@ -11,8 +11,10 @@ use Rattle.vic_rules.specs.declared.trace.Input.{Input}
 use Rattle.vic_rules.specs.declared.trace.Input.TheVariants as input
 use Rattle.vic_rules.specs.declared.trace.TraceStep.{TraceStep}
 use Rattle.vic_rules.specs.declared.trace.Shown.{Shown}
-use Rattle.vic_rules.specs.Client.{same_entry}
-use Rattle.vic_rules.specs.History.{standing, Completion, completions}
+use Rattle.vic_rules.specs.Client.{same_entry, Invokes}
+use Rattle.vic_rules.specs.Objects.{op_of_object}
+use Rattle.vic_dict.specs.declared.op.Op.{Op}
+use Rattle.vic_rules.specs.History.{move_of, Completion, completions}
 
 abbrev pub or_else : Option Completion → Option Completion → Option Completion
 or_else (Some c) other = Some c
@@ -67,17 +69,20 @@ IsLegal (x ∷ v) = IsLegal v × Explains (left_by v) x x.outcome
 abbrev pub IsSameCall : Entry → Entry → Type 0
 IsSameCall a b = (a.client ≡ b.client) × (a.seq ≡ b.seq)
 
-abbrev pub IsCall : Input → Type 0
-IsCall (input.Call o) = Unit {0}
-IsCall input.Poll = ⊥
-IsCall input.Sync = ⊥
-IsCall (input.Payload payload) = ⊥
-
--- the call of this entry's client and number was made at a step
+-- the call of this entry's client and number was sent at a step, with some operation
 pub record MakesCall (g : Group) (past : List TraceStep) (x : TraceStep) (e : Entry) : Type 0 where
   pub client : x.client ≡ e.client
-  pub call : IsCall x.input
-  pub seq : (standing g x.client past).calls + 1 ≡ e.seq
+  pub op : Op
+  pub sends : (move_of g past x).sends ≡ Some (Invokes e.seq op)
+
+-- what a client is asked for, by its steps, the newest first, that comes to the call of an operation: a call of it, or a call on objects
+-- with this operation; of a store it is the step before, which sent the content
+abbrev pub AsksFor : Input → Op → Type 0
+AsksFor (input.Call o) q = o ≡ q
+AsksFor (input.Object c) q = op_of_object c ≡ q
+AsksFor input.Poll q = ⊥
+AsksFor input.Sync q = ⊥
+AsksFor (input.Payload payload) q = ⊥
 
 -- no step of this client
 abbrev pub NoStepOf : ℕ → List TraceStep → Type 0
@@ -93,7 +98,7 @@ pub record IsAnswered (g : Group) (h : List TraceStep) (e : Entry) (o : Outcome)
   pub past : List TraceStep
   pub is : h ≡ later ++ answer ∷ (between ++ call ∷ past)
   pub makes : MakesCall g past call e
-  pub asked : call.input ≡ input.Call e.op
+  pub asked : (move_of g past call).sends ≡ Some (Invokes e.seq e.op)
   pub quiet : NoStepOf e.client between
   pub owner : answer.client ≡ e.client
   pub returned : answer.returned ≡ Some o

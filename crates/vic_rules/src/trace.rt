@@ -1,5 +1,6 @@
 //! The steps of clients, and the calls that a view shows.
 
+use crate::object::{ObjectCall, ObjectOutcome};
 use vic_dict::{Bytes, Entry, Op, Outcome};
 
 /// What a client is given at a step.
@@ -7,6 +8,8 @@ use vic_dict::{Bytes, Entry, Op, Outcome};
 pub enum Input {
     /// A call of the dictionary.
     Call(Op),
+    /// A call on objects.
+    Object(ObjectCall),
     Poll,
     Sync,
     /// A payload that is said to come from the server.
@@ -20,6 +23,7 @@ pub struct TraceStep {
     pub input: Input,
     pub sent: Option<Bytes>,
     pub returned: Option<Outcome>,
+    pub object: Option<ObjectOutcome>,
 }
 
 /// A call in a view, with the outcome that its client returned.

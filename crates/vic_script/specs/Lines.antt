@@ -1,12 +1,14 @@
 -- The lines of a script, from bytes to words and from words to lines.
-use Rattle.std.specs.Prelude.{ℕ, ◌%◌, Bool, true, ◌&&◌, List, [], ◌∷◌, length, Option, Some, None, option_map, nat_eq, nat_lt, nat_le, if◌then◌else◌, codes}
-use Rattle.std.specs.List.{list_all}
+use Rattle.std.specs.Prelude.{ℕ, ◌%◌, Bool, true, ◌&&◌, List, [], ◌∷◌, length, Option, Some, None, option_map, nat_eq, nat_lt, nat_le, if◌then◌else◌, codes, drop, replicate}
+use Rattle.std.specs.List.{list_all, starts_with}
 use Rattle.std.specs.Str.{bytes_eq}
 use Rattle.hex.specs.Hex.{is_hex_digit}
 use Rattle.vic_dict.specs.declared.op.Op.{Op}
 use Rattle.vic_dict.specs.declared.op.Op.TheVariants as op
 use Rattle.vic_dict.specs.declared.op.Mode.{Mode}
 use Rattle.vic_dict.specs.declared.op.Mode.TheVariants as mode
+use Rattle.vic_rules.specs.declared.object.ObjectCall.{ObjectCall}
+use Rattle.vic_rules.specs.declared.object.ObjectCall.TheVariants as object
 use Rattle.vic_script.specs.declared.line.Line.{Line}
 use Rattle.vic_script.specs.declared.line.Line.TheVariants as line
 use Rattle.vic_script.specs.Words.{word_bytes, word_number, word_capped}
@@ -60,9 +62,45 @@ call_of (Some i) (Some o) = Some (line.Call i o)
 call_of (Some i) None = None
 call_of None o = None
 
-abbrev pub clients_of : Option ℕ → Option Line
-clients_of None = None
-clients_of (Some n) = if nat_lt 0 n && nat_le n 64 then Some (line.Clients n) else None
+-- a header's first line, of a group with so many clients
+abbrev pub group_line : (ℕ → Line) → Option ℕ → Option Line
+group_line make None = None
+group_line make (Some n) = if nat_lt 0 n && nat_le n 64 then Some (make n) else None
+
+-- ---- calls on objects
+
+abbrev pub at_most : ℕ → Option ℕ → Option ℕ
+at_most most None = None
+at_most most (Some n) = if nat_le n most then Some n else None
+
+-- so many zero bytes
+abbrev pub zeros_of : List ℕ → Option (List ℕ)
+zeros_of digits = option_map (λ n. replicate n 0) (at_most 8388608 (word_number digits))
+
+-- a content: so many zero bytes, or a byte word
+abbrev pub content_of : List ℕ → Option (List ℕ)
+content_of word =
+    if starts_with nat_eq word (codes "zeros:") then zeros_of (drop 6 word) else within 0 8388608 (word_bytes word)
+
+abbrev pub store_of : Option (List ℕ) → Option (List ℕ) → Option ObjectCall
+store_of (Some k) (Some c) = Some (object.Store k c)
+store_of (Some k) None = None
+store_of None c = None
+
+-- the call on objects that words name
+abbrev pub object_of : List (List ℕ) → Option ObjectCall
+object_of (name ∷ a ∷ []) =
+    if bytes_eq name (codes "load") then option_map object.Load (key_of a)
+    else if bytes_eq name (codes "erase") then option_map object.Erase (key_of a)
+    else if bytes_eq name (codes "names") then option_map object.Names (prefix_of a)
+    else None
+object_of (name ∷ a ∷ b ∷ []) = if bytes_eq name (codes "store") then store_of (key_of a) (content_of b) else None
+object_of words = None
+
+abbrev pub object_call_of : Option ℕ → Option ObjectCall → Option Line
+object_call_of (Some i) (Some c) = Some (line.Object i c)
+object_call_of (Some i) None = None
+object_call_of None c = None
 
 -- a line of one name and one number
 abbrev pub named : List ℕ → List ℕ → Option Line
@@ -106,7 +144,10 @@ paired name a b =
 
 -- the first line of a header
 abbrev pub header_of : List (List ℕ) → Option Line
-header_of (name ∷ a ∷ []) = if bytes_eq name (codes "clients") then clients_of (word_number a) else None
+header_of (name ∷ a ∷ []) =
+    if bytes_eq name (codes "clients") then group_line line.Clients (word_number a)
+    else if bytes_eq name (codes "objects") then group_line line.Objects (word_number a)
+    else None
 header_of words = None
 
 -- the digits of a group's key: 2 to 128 hexadecimal digits in an even number, capital or small
@@ -121,10 +162,10 @@ abbrev pub next_header_of : List (List ℕ) → Option Line
 next_header_of (name ∷ a ∷ []) = if bytes_eq name (codes "key") then key_line a else None
 next_header_of words = None
 
--- a call of an operation on the dictionary, which a group of mode plain has
+-- a call: in a group of mode plain of an operation on the dictionary, in one of mode objects on objects
 abbrev pub called : Mode → List ℕ → List ℕ → List (List ℕ) → Option Line
 called mode.Plain name a others = if bytes_eq name (codes "call") then call_of (word_capped a) (op_of others) else None
-called mode.Objects name a others = None
+called mode.Objects name a others = if bytes_eq name (codes "call") then object_call_of (word_capped a) (object_of others) else None
 
 -- a line that says what happens in a group of this mode
 abbrev pub event_of : Mode → List (List ℕ) → Option Line

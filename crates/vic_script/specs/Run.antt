@@ -79,6 +79,7 @@ try_event s l = tried_by (bad_kind s l) (done_line by_rule s l)
 -- a line is tried before the header: only its first line begins it
 abbrev pub try_first : Line → Tried
 try_first (line.Clients n) = Does (Heads (record { mode = mode.Plain; count = n; key = None })) []
+try_first (line.Objects n) = Does (Heads (record { mode = mode.Objects; count = n; key = None })) []
 try_first line.Skip = Does Before []
 try_first l = Fails 1
 

@@ -5,6 +5,9 @@ use Rattle.vic_dict.specs.declared.op.Op.{Op}
 use Rattle.vic_dict.specs.declared.op.Op.TheVariants as op
 use Rattle.vic_dict.specs.declared.op.Mode.TheVariants as mode
 use Rattle.vic_dict.specs.declared.op.Outcome.{Outcome}
+use Rattle.vic_rules.specs.declared.object.ObjectCall.{ObjectCall}
+use Rattle.vic_rules.specs.declared.object.ObjectCall.TheVariants as object
+use Rattle.vic_rules.specs.declared.object.ObjectOutcome.{ObjectOutcome}
 use Rattle.vic_rules.specs.declared.trace.Input.TheVariants as input
 use Rattle.vic_rules.specs.declared.trace.TraceStep.{TraceStep}
 use Rattle.vic_rules.specs.Client.{awaits_nothing, first_failing}
@@ -14,27 +17,37 @@ use Rattle.vic_order.specs.Scenes.{SceneOf, queue_of, stands, Event, Asks, Serve
 use Rattle.vic_script.specs.declared.line.Line.{Line}
 use Rattle.vic_script.specs.declared.line.Line.TheVariants as line
 use Rattle.vic_script.specs.Lines.{is_place}
-use Rattle.vic_script.specs.Words.{outcome_words, newline}
+use Rattle.vic_script.specs.Words.{outcome_words, object_words, space, newline}
 
 -- ---- what is printed
 
--- the outcome that the newest step returned
+-- the outcomes that the newest step returned, of a call and of a call on objects
 abbrev pub returned_in : List TraceStep → Option Outcome
 returned_in [] = None
 returned_in (x ∷ past) = x.returned
 
--- a client's outcome, or that it took an answer
-abbrev pub said : ℕ → Option Outcome → List ℕ
-said i None = decimal i ++ codes " took" ++ newline
-said i (Some o) = decimal i ++ codes " " ++ outcome_words o ++ newline
+abbrev pub object_in : List TraceStep → Option ObjectOutcome
+object_in [] = None
+object_in (x ∷ past) = x.object
+
+-- a line of a client's words
+abbrev pub line_by : ℕ → List ℕ → List ℕ
+line_by i words = decimal i ++ space ++ words ++ newline
+
+-- a client's outcome, and then that of its call on objects; or that it took an answer, where neither was returned
+abbrev pub said : ℕ → Option Outcome → Option ObjectOutcome → List ℕ
+said i None None = line_by i (codes "took")
+said i (Some o) None = line_by i (outcome_words o)
+said i None (Some q) = line_by i (object_words q)
+said i (Some o) (Some q) = line_by i (outcome_words o) ++ line_by i (object_words q)
 
 -- what is printed of an event, by the history behind it: of one by which a client took a payload, what became of it
 abbrev pub print_of_event : Event → List TraceStep → List ℕ
 print_of_event (Asks i given) h = []
 print_of_event (Serves i) h = []
-print_of_event (Takes i) h = said i (returned_in h)
-print_of_event (Flips i n) h = said i (returned_in h)
-print_of_event (Hears i payload) h = said i (returned_in h)
+print_of_event (Takes i) h = said i (returned_in h) (object_in h)
+print_of_event (Flips i n) h = said i (returned_in h) (object_in h)
+print_of_event (Hears i payload) h = said i (returned_in h) (object_in h)
 print_of_event (Resends i) h = []
 print_of_event (Copies n t) h = []
 print_of_event (Joins i n) h = []
@@ -76,9 +89,11 @@ most_turns = 2100
 -- the events of a line, the newest first, where it isn't bad
 abbrev pub events_of : {V : Type 0} → Serving V → SceneOf V → Line → List Event
 events_of rule s (line.Clients n) = []
+events_of rule s (line.Objects n) = []
 events_of rule s (line.Key digits) = []
 events_of rule s (line.Hostile name n) = []
 events_of rule s (line.Call i o) = Asks i (input.Call o) ∷ []
+events_of rule s (line.Object i c) = Asks i (input.Object c) ∷ []
 events_of rule s (line.Poll i) = Asks i input.Poll ∷ []
 events_of rule s (line.Sync i) = Asks i input.Sync ∷ []
 events_of rule s (line.Serve i) = Serves i ∷ []
@@ -111,6 +126,16 @@ fits_op (op.List p) = nat_le (length p) 255
 abbrev pub is_plain_call : {V : Type 0} → SceneOf V → Op → Bool
 is_plain_call s o = same_mode s.group.mode mode.Plain && fits_op o
 
+abbrev pub fits_object : ObjectCall → Bool
+fits_object (object.Store k c) = is_key k && nat_le (length c) 8388608
+fits_object (object.Load k) = is_key k
+fits_object (object.Erase k) = is_key k
+fits_object (object.Names p) = nat_le (length p) 255
+
+-- of a call on objects: the group has objects, and the texts are within the limits
+abbrev pub is_object_call : {V : Type 0} → SceneOf V → ObjectCall → Bool
+is_object_call s c = same_mode s.group.mode mode.Objects && fits_object c
+
 -- of a client that is asked for something: it exists, has not halted, and awaits nothing
 abbrev pub asked_tests : {V : Type 0} → SceneOf V → ℕ → List (ℕ × Bool)
 asked_tests s i = (2, is_client s i) ∷ (3, is_none (stands s i).halted) ∷ (4, awaits_nothing (stands s i).awaiting) ∷ []
@@ -118,9 +143,11 @@ asked_tests s i = (2, is_client s i) ∷ (3, is_none (stands s i).halted) ∷ (4
 -- the tests of a line, in their order, each with the kind of a line that fails it
 abbrev pub line_tests : {V : Type 0} → SceneOf V → Line → List (ℕ × Bool)
 line_tests s (line.Clients n) = (1, false) ∷ []
+line_tests s (line.Objects n) = (1, false) ∷ []
 line_tests s (line.Key digits) = (1, false) ∷ []
 line_tests s (line.Hostile name n) = (1, false) ∷ []
 line_tests s (line.Call i o) = (1, is_plain_call s o) ∷ asked_tests s i
+line_tests s (line.Object i c) = (1, is_object_call s c) ∷ asked_tests s i
 line_tests s (line.Poll i) = asked_tests s i
 line_tests s (line.Sync i) = asked_tests s i
 line_tests s (line.Serve i) = (2, is_client s i) ∷ (5, waits_in s.up i) ∷ []
@@ -143,9 +170,11 @@ bad_kind s l = first_failing (line_tests s l)
 -- a line by which requests and answers go through one server's queues as they are
 abbrev pub is_honest_line : Line → Bool
 is_honest_line (line.Clients n) = true
+is_honest_line (line.Objects n) = true
 is_honest_line (line.Key digits) = true
 is_honest_line (line.Hostile name n) = false
 is_honest_line (line.Call i o) = true
+is_honest_line (line.Object i c) = true
 is_honest_line (line.Poll i) = true
 is_honest_line (line.Sync i) = true
 is_honest_line (line.Serve i) = true

@@ -1,9 +1,11 @@
 -- The words of a script: byte words and numbers, and how operations, answers and outcomes are printed in them.
-use Rattle.std.specs.Prelude.{ℕ, ◌+◌, ◌-◌, ◌*◌, Bool, false, not, ◌&&◌, ◌||◌, List, [], ◌∷◌, ◌++◌, length, Option, Some, None, nat_eq, nat_le, if◌then◌else◌, codes, fold, min}
+use Rattle.std.specs.Prelude.{ℕ, ◌+◌, ◌-◌, ◌*◌, Bool, false, not, ◌&&◌, ◌||◌, List, [], ◌∷◌, ◌++◌, length, Option, Some, None, nat_eq, nat_le, if◌then◌else◌, codes, fold, min, take}
 use Rattle.std.specs.List.{flat_map, list_all}
 use Rattle.std.specs.Result.{result_ok}
 use Rattle.std.specs.Fmt.{decimal}
 use Rattle.hex.specs.Hex.{encode_lower, decode_of}
+use Rattle.vic_rules.specs.declared.object.ObjectOutcome.{ObjectOutcome}
+use Rattle.vic_rules.specs.declared.object.ObjectOutcome.TheVariants as ended
 use Rattle.vic_dict.specs.declared.op.Op.{Op}
 use Rattle.vic_dict.specs.declared.op.Op.TheVariants as op
 use Rattle.vic_dict.specs.declared.op.Answer.{Answer}
@@ -90,3 +92,14 @@ outcome_words (outcome.Done a) = codes "done " ++ answer_words a
 outcome_words (outcome.Aborted u) = codes "aborted " ++ decimal u
 outcome_words (outcome.Refused r) = codes "refused " ++ decimal r
 outcome_words (outcome.Halted k) = codes "halted " ++ decimal k
+
+-- of a content its length and its first 32 bytes, or fewer
+abbrev pub object_words : ObjectOutcome → List ℕ
+object_words ended.Stored = codes "object stored"
+object_words (ended.Content c) = codes "object content " ++ decimal (length c) ++ space ++ bytes_word (take 32 c)
+object_words ended.Missing = codes "object missing"
+object_words ended.Removed = codes "object removed"
+object_words ended.Absent = codes "object absent"
+object_words (ended.Names names) = codes "object names" ++ flat_map (λ k. space ++ bytes_word k) names
+object_words (ended.Aborted u) = codes "object aborted " ++ decimal u
+object_words (ended.Refused r) = codes "object refused " ++ decimal r

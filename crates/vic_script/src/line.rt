@@ -1,19 +1,24 @@
 //! The lines of a script.
 
 use vic_dict::{Bytes, Op};
+use vic_rules::ObjectCall;
 
 /// One line of a script. A number of a client, of a server that is copied or moved to, or of a byte that is over 4,294,967,295
 /// stands as that number.
 #[derive(Debug, Drop)]
 pub enum Line {
-    /// The first line of the header, of a group of so many clients.
+    /// The first line of the header, of a group of so many clients with a dictionary.
     Clients(u8),
+    /// The first line of the header, of a group of so many clients with objects.
+    Objects(u8),
     /// The digits of the group's key, as they are written: 2 to 128 of them, in an even number, capital or small.
     Key(Bytes),
     /// The name of a kind of hostile servers, and after how many requests server 1 becomes one. No text spells it yet.
     Hostile(Bytes, u32),
     /// A client calls an operation.
     Call(u32, Op),
+    /// A client makes a call on objects.
+    Object(u32, ObjectCall),
     /// A client asks whether it may seal.
     Poll(u32),
     /// A client asks for the entries that it doesn't know.

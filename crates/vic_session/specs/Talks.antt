@@ -58,7 +58,7 @@ tells_state t = record t { text = t.text ++ state_line t.now }
 unfoldable pub steps : Talker → Talk → Input → Talk
 steps w t given =
     let v = step w.group w.me t.now given in
-    record t { now = v.next; history = record { client = w.me; input = given; sent = payload_of w.group w.me v.next v.sends; returned = v.returns } ∷ t.history }
+    record t { now = v.next; history = record { client = w.me; input = given; sent = payload_of w.group w.me v.next v.sends; returned = v.returns; object = v.object } ∷ t.history }
 
 -- it is asked for something, and is at it
 abbrev pub asks : Talker → Talk → Input → Doing → Talk

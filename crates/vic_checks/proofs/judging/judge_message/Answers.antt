@@ -63,6 +63,18 @@ returns-then-not-has_turn-clause-exact c = λ s h.
     passes _ _ _ _ (sym (c.is_proved.ensures.exact s h.own h.awaiting) ∙ c.if-not-is_proved.false) (
     fails _ _ _ (sym (c.has_turn.ensures.exact s h.own) ∙ c.if-not-has_turn.true))))))))
 
+pub returns-then-not-has_content-clause-exact : goal.returns-then-not-has_content-clause-exact
+returns-then-not-has_content-clause-exact c = λ s h.
+    passes _ _ _ _ (sym (c.has_form.ensures.exact s (sym (c.length-length.ensures.shows (group_of c.args.state.now) s.path h.path)) h.awaiting) ∙ c.if-not-has_form.false) (
+    passes _ _ _ _ (sym (c.has_members.ensures (group_of c.args.state.now) s refl h.awaiting) ∙ c.if-not-has_members.false) (
+    passes _ _ _ _ (sym (c.has_tags.ensures (group_of c.args.state.now) refl) ∙ c.if-not-has_tags.false) (
+    passes _ _ _ _ (sym (c.goes_on.ensures.exact s (h.sealed ∙ sym c.sealed.ensures)) ∙ c.if-not-goes_on.false) (
+    passes _ _ _ _ (sym (c.is_sealed.ensures (group_of c.args.state.now) s.path refl h.path) ∙ c.if-not-is_sealed.false) (
+    passes _ _ _ _ (sym (c.keeps_own.ensures s h.own) ∙ c.if-not-keeps_own.false) (
+    passes _ _ _ _ (sym (c.is_proved.ensures.exact s h.own h.awaiting) ∙ c.if-not-is_proved.false) (
+    passes _ _ _ _ (sym (c.has_turn.ensures.exact s h.own) ∙ c.if-not-has_turn.false) (
+    fails _ _ _ (sym (c.has_content.ensures s h) ∙ c.if-not-has_content.true)))))))))
+
 pub returns-clause-exact : goal.returns-clause-exact
 returns-clause-exact c = λ s h.
     passes _ _ _ _ (sym (c.has_form.ensures.exact s (sym (c.length-length.ensures.shows (group_of c.args.state.now) s.path h.path)) h.awaiting) ∙ c.if-not-has_form.false) (
@@ -73,4 +85,5 @@ returns-clause-exact c = λ s h.
     passes _ _ _ _ (sym (c.keeps_own.ensures s h.own) ∙ c.if-not-keeps_own.false) (
     passes _ _ _ _ (sym (c.is_proved.ensures.exact s h.own h.awaiting) ∙ c.if-not-is_proved.false) (
     passes _ _ _ _ (sym (c.has_turn.ensures.exact s h.own) ∙ c.if-not-has_turn.false) (
-    refl))))))))
+    passes _ _ _ _ (sym (c.has_content.ensures s h) ∙ c.if-not-has_content.false) (
+    refl)))))))))
