@@ -9,6 +9,7 @@ ghost use Rattle.std.specs.Int.{w32, from_be_bytes};
 ghost use Rattle.vic_dict.specs.declared.op.Answer.TheVariants as answer;
 ghost use Rattle.vic_dict.specs.declared.op.Outcome.{Outcome as AnOutcome};
 ghost use Rattle.vic_dict.specs.declared.op.Outcome.TheVariants as outcome;
+ghost use Rattle.vic_rules.specs.declared.object.Phase.TheVariants as phase;
 ghost use Rattle.vic_rules.specs.Objects.{FitsObject, begun, kept_at, decided_as, decided_at, refused_at, answered, fetched, is_content_of, is_reference, reference_text, hash_in, length_in, content_hash};
 
 use std::alloc::Global;
@@ -36,7 +37,7 @@ impl Model for Proxy {
 }
 
 /// The bytes of a reference: the hash of a content, and its length.
-fn reference(alloc: Global, hash: &Digest32, len: u32) -> Result<Bytes, NoMemory>
+pub fn reference(alloc: Global, hash: &Digest32, len: u32) -> Result<Bytes, NoMemory>
     ensures { IfOk result (λ b. b ≡ reference_text hash.now.bytes len) }
 {
     let mut bytes = Bytes::of(alloc, &hash.bytes)?;
@@ -52,6 +53,43 @@ pub fn is_content(hash: &Digest32, len: u32, content: &[u8]) -> bool
 }
 
 impl Proxy {
+    /// No call on objects is open.
+    pub fn closed() -> Proxy
+        ensures { result ≡ phase.Closed }
+    {
+        Proxy {
+            phase: Phase::Closed,
+        }
+    }
+
+    /// The operation of a call on objects was called.
+    pub fn calling() -> Proxy
+        ensures { result ≡ phase.Calling }
+    {
+        Proxy {
+            phase: Phase::Calling,
+        }
+    }
+
+    /// A content is sent that is to be kept under a name. It costs the hash of the content.
+    pub fn keeping(alloc: Global, name: &Bytes, content: &[u8]) -> Result<Proxy, NoMemory>
+        requires { length content.now ≤ 8388608 }
+        ensures { IfOk result (λ p. p ≡ phase.Keeping name.now (record { bytes = content_hash content.now }) (length content.now)) }
+    {
+        let hash = vic_hash::content(content);
+        let name = name.copy(alloc)?;
+        Ok(Proxy {
+            phase: Phase::Keeping(name, hash, content.len() as u32),
+        })
+    }
+
+    /// How far the call has come.
+    pub fn phase(&self) -> &Phase
+        ensures { result.now ≡ self.now }
+    {
+        &self.phase
+    }
+
     /// A call on objects begins. Of a store it costs the hash of the content, and a copy.
     pub fn begin(alloc: Global, call: &ObjectCall) -> Result<(Proxy, Next), NoMemory>
         requires { FitsObject call.now }
@@ -59,9 +97,8 @@ impl Proxy {
     {
         match call {
             ObjectCall::Store(name, content) => {
-                let hash = vic_hash::content(content.as_slice());
-                let phase = Phase::Keeping(name.copy(alloc)?, hash, content.len() as u32);
-                Ok((Proxy { phase }, Next::Keep(content.copy(alloc)?)))
+                let proxy = Proxy::keeping(alloc, name, content.as_slice())?;
+                Ok((proxy, Next::Keep(content.copy(alloc)?)))
             }
             ObjectCall::Load(name) => Ok((
                 Proxy {

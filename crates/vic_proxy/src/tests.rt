@@ -94,3 +94,21 @@ fn others(rt: HostRuntime) -> Result<(), Fail> {
     assert!(rt; told(&other.refused(2)) == "refused");
     Ok(())
 }
+
+// A call that is told by its place stands where one that began stands.
+#[test]
+fn places(rt: HostRuntime) -> Result<(), Fail> {
+    let alloc = rt.alloc();
+    let name = Bytes::of(alloc, b"f")?;
+    let mut keeping = Proxy::keeping(alloc, &name, b"hello")?;
+    assert!(rt; matches!(keeping.phase(), Phase::Keeping(_, _, 5)));
+    assert!(rt; told(&keeping.kept(alloc)?) == "put");
+    assert!(rt; matches!(keeping.phase(), Phase::Calling));
+    let mut calling = Proxy::calling();
+    assert!(rt; told(&calling.outcome(alloc, &Outcome::Done(Answer::Stored))?) == "stored");
+    assert!(rt; matches!(calling.phase(), Phase::Closed));
+    assert!(rt; told(&Proxy::closed().refused(2)) == "bad");
+    let hash = vic_hash::content(b"hello");
+    assert!(rt; reference(alloc, &hash, 5)?.as_slice() == REFERENCE.as_slice());
+    Ok(())
+}
