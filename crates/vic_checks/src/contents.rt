@@ -9,7 +9,6 @@ ghost use Rattle.vic_prune.specs.Parts.{part as shown};
 ghost use Rattle.vic_wire.specs.Messages.{HasSpelling};
 ghost use Rattle.vic_chain.specs.Held.{held_length};
 ghost use Rattle.vic_rules.specs.Client.{Standing, laid, done_op, decision, finds_reference, is_wanted as wanted, has_content as content_holds};
-ghost use Rattle.vic_rules.specs.Objects.{is_content_of};
 ghost use Rattle.vic_checks.specs.State.{StandsForState, below_last};
 ghost use Rattle.vic_checks.specs.Parted.{part_of, seen, IsGrammar, IsAbove};
 ghost use Rattle.vic_checks.specs.Passing.{IsFormed, AwaitsFit};
@@ -18,9 +17,10 @@ ghost use Rattle.vic_checks.specs.Finding.{left_at};
 use crate::deciding::first_in_the_way;
 use crate::state::{OwnList, State};
 use vic_dict::{Bytes, Op};
+use vic_proxy::is_content;
 use vic_prune::Pruned;
 use vic_rules::{Awaiting, Own};
-use vic_wire::{Digest32, TaggedList, ToClient};
+use vic_wire::{TaggedList, ToClient};
 
 // What stands under a key after an own call above a position is done again.
 fn found_after<'a>(
@@ -62,12 +62,6 @@ pub fn found_above<'a>(
         value = found_after(own.at(i), base, key, value);
     }
     value
-}
-
-fn is_content(hash: &Digest32, len: u32, content: &[u8]) -> bool
-    ensures { result ≡ is_content_of hash.now.bytes len content.now }
-{
-    content.len() == len as usize && vic_hash::content(content).bytes == hash.bytes
 }
 
 // Whether a content is the one that is awaited.

@@ -109,7 +109,7 @@ fn judge_message(state: &State, message: &ToClient, part: Option<&Pruned>) -> Ve
 
 /// The verdict on an answer: `message` is what its bytes spell, if they spell one, and `part` what the bytes of the part that
 /// it carries spell, if they do. It takes no memory. It costs what the answer's entries, its part and the own calls that
-/// aren't sealed cost.
+/// aren't sealed cost, and of a content its hash.
 pub fn judge(state: &State, message: Option<&ToClient>, part: Option<&Pruned>) -> Verdict
     requires spelled { IfSome (option_copied message) HasSpelling }
     requires part { seen (option_copied part) ≡ part_in (option_copied message) }
