@@ -3,14 +3,15 @@
 //! `specs/Objects.antt` of `vic_rules` has the steps, and each call's contract names its own.
 #![tactic(auto)]
 
-ghost use Rattle.std.specs.Prelude.{◌≡◌, ◌<◌, ◌≤◌, ◌+◌, IfOk, OnErr, OnOk, length, Some, None};
+ghost use Rattle.std.specs.Prelude.{◌≡◌, ◌↔◌, ◌<◌, ◌≤◌, ◌+◌, IsTrue, IfOk, OnErr, OnOk, length, Some, None};
 ghost use Rattle.std.specs.Prelude.{option_map};
 ghost use Rattle.std.specs.Int.{w32, from_be_bytes};
+ghost use Rattle.vic_dict.specs.Dictionary.{IsKey};
 ghost use Rattle.vic_dict.specs.declared.op.Answer.TheVariants as answer;
 ghost use Rattle.vic_dict.specs.declared.op.Outcome.{Outcome as AnOutcome};
 ghost use Rattle.vic_dict.specs.declared.op.Outcome.TheVariants as outcome;
 ghost use Rattle.vic_rules.specs.declared.object.Phase.TheVariants as phase;
-ghost use Rattle.vic_rules.specs.Objects.{FitsObject, begun, kept_at, decided_as, decided_at, refused_at, answered, fetched, is_content_of, is_reference, reference_text, hash_in, length_in, content_hash};
+ghost use Rattle.vic_rules.specs.Objects.{FitsObject, AreBytesInObject, begun, kept_at, decided_as, decided_at, refused_at, answered, fetched, is_content_of, is_reference, reference_text, hash_in, length_in, content_hash};
 
 use std::alloc::Global;
 use std::marker::Model;
@@ -34,6 +35,38 @@ impl Model for Proxy {
     ghost Value = { Phase };
 
     ghost view = { λ a. a.phase };
+}
+
+fn is_key(text: &Bytes) -> bool
+    ensures { IsTrue result ↔ IsKey text.now }
+{
+    0 < text.len() && text.len() < 256
+}
+
+/// Whether the lengths of the texts of a call on objects are within the limits.
+pub fn fits(call: &ObjectCall) -> bool
+    ensures { IsTrue result ↔ FitsObject call.now }
+{
+    match call {
+        ObjectCall::Store(name, content) => is_key(name) && content.len() <= 8_388_608,
+        ObjectCall::Load(name) | ObjectCall::Erase(name) => is_key(name),
+        ObjectCall::Names(prefix) => prefix.len() < 256,
+    }
+}
+
+/// What the type says of the numbers of the texts of a call on objects. It does nothing.
+pub fn are_bytes(call: &ObjectCall)
+    ensures { AreBytesInObject call.now }
+{
+    match call {
+        ObjectCall::Store(name, content) => {
+            name.are_bytes();
+            content.are_bytes();
+        }
+        ObjectCall::Load(text) | ObjectCall::Erase(text) | ObjectCall::Names(text) => {
+            text.are_bytes()
+        }
+    }
 }
 
 /// The bytes of a reference: the hash of a content, and its length.

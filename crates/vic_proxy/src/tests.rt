@@ -95,7 +95,7 @@ fn others(rt: HostRuntime) -> Result<(), Fail> {
     Ok(())
 }
 
-// A call that is told by its place stands where one that began stands.
+// A call that is told by its place stands where one that began stands; which calls are within the limits.
 #[test]
 fn places(rt: HostRuntime) -> Result<(), Fail> {
     let alloc = rt.alloc();
@@ -108,6 +108,9 @@ fn places(rt: HostRuntime) -> Result<(), Fail> {
     assert!(rt; told(&calling.outcome(alloc, &Outcome::Done(Answer::Stored))?) == "stored");
     assert!(rt; matches!(calling.phase(), Phase::Closed));
     assert!(rt; told(&Proxy::closed().refused(2)) == "bad");
+    let call = ObjectCall::Load(name);
+    are_bytes(&call);
+    assert!(rt; fits(&call) && !fits(&ObjectCall::Load(Bytes::new(alloc))));
     let hash = vic_hash::content(b"hello");
     assert!(rt; reference(alloc, &hash, 5)?.as_slice() == REFERENCE.as_slice());
     Ok(())
