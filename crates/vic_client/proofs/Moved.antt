@@ -82,14 +82,14 @@ own_joins m (p ∷ own) o w h = (w.0, own_joins m own o w.1 h)
 -- an answer of no other kind makes a client halt, though none passes the checks
 pub taken_other : (me : ℕ) (s : Standing) (m : ToClient) → ((seal : Seal) (entries : List Tagged) (part : List ℕ) → m ≡ say.Reply seal entries part → ⊥) → (m ≡ say.Wait → ⊥)
     → ((seal : Seal) (part : List ℕ) → m ≡ say.Update seal part → ⊥) → ((seal : Seal) (entries : List Tagged) → m ≡ say.Entries seal entries → ⊥)
-    → ((r : ℕ) → m ≡ say.Refused r → ⊥) → taken me s m ≡ halts s 1
-taken_other me s say.Hi reply wait update entries refused = refl
-taken_other me s (say.Reply seal told part) reply wait update entries refused = absurd (reply seal told part refl)
-taken_other me s say.Wait reply wait update entries refused = absurd (wait refl)
-taken_other me s (say.Update seal part) reply wait update entries refused = absurd (update seal part refl)
-taken_other me s (say.Entries seal told) reply wait update entries refused = absurd (entries seal told refl)
-taken_other me s (say.Refused r) reply wait update entries refused = absurd (refused r refl)
-taken_other me s say.Kept reply wait update entries refused = refl
-taken_other me s (say.Content content) reply wait update entries refused = refl
-taken_other me s say.Gone reply wait update entries refused = refl
-taken_other me s say.Absent reply wait update entries refused = refl
+    → ((r : ℕ) → m ≡ say.Refused r → ⊥) → (m ≡ say.Kept → ⊥) → ((content : List ℕ) → m ≡ say.Content content → ⊥) → taken me s m ≡ halts s 1
+taken_other me s say.Hi reply wait update entries refused kept content = refl
+taken_other me s (say.Reply seal told part) reply wait update entries refused kept content = absurd (reply seal told part refl)
+taken_other me s say.Wait reply wait update entries refused kept content = absurd (wait refl)
+taken_other me s (say.Update seal part) reply wait update entries refused kept content = absurd (update seal part refl)
+taken_other me s (say.Entries seal told) reply wait update entries refused kept content = absurd (entries seal told refl)
+taken_other me s (say.Refused r) reply wait update entries refused kept content = absurd (refused r refl)
+taken_other me s say.Kept reply wait update entries refused kept content = absurd (kept refl)
+taken_other me s (say.Content c) reply wait update entries refused kept content = absurd (content c refl)
+taken_other me s say.Gone reply wait update entries refused kept content = refl
+taken_other me s say.Absent reply wait update entries refused kept content = refl

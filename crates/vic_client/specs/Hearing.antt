@@ -1,6 +1,7 @@
 -- What a client makes of a payload.
 use Rattle.std.specs.Prelude.{◌≡◌, ℕ, List, [], ◌∷◌, ◌++◌, length, Option, Some, None}
 use Rattle.vic_dict.specs.declared.op.Op.{Op}
+use Rattle.vic_rules.specs.declared.object.Phase.{Phase}
 use Rattle.vic_rules.specs.declared.state.Awaiting.{Awaiting}
 use Rattle.vic_rules.specs.declared.state.Awaiting.TheVariants as awaits
 use Rattle.vic_rules.specs.Client.{Standing, Move, decision, replied_to, grown, is_done, verdict, verdict_on, taken_or_halts}
@@ -11,7 +12,7 @@ use Rattle.vic_wire.specs.Parts.{Part}
 use Rattle.vic_wire.specs.Hashes.{Group}
 use Rattle.vic_wire.specs.Reading.{read_answer}
 use Rattle.vic_checks.specs.declared.state.State.{State}
-use Rattle.vic_checks.specs.State.{below_last}
+use Rattle.vic_checks.specs.State.{below_last, StandsForState}
 use Rattle.vic_client.specs.declared.pending.Effect.{Effect}
 use Rattle.vic_client.specs.declared.pending.Pending.{Pending}
 use Rattle.vic_client.specs.Kept.{Kept}
@@ -22,9 +23,9 @@ use Rattle.vic_client.specs.Pending.{CanKeep, kept, forgotten}
 abbrev pub IsSoundState : State → Type 0
 IsSoundState x = IsSound x.id x.count x.window x.own x.awaiting
 
--- what a client keeps that hasn't halted, from its state and how often it called
-abbrev pub going : State → ℕ → Kept
-going x calls = record {
+-- what a client keeps that hasn't halted, from its state, how often it called, and how far its call on objects has come
+abbrev pub going : State → ℕ → Phase → Kept
+going x calls phase = record {
   id = x.id;
   count = x.count;
   mode = x.mode;
@@ -33,8 +34,15 @@ going x calls = record {
   own = x.own;
   awaiting = x.awaiting;
   calls = calls;
+  phase = phase;
   halted = None;
 }
+
+-- what is kept stands for a client that hasn't halted, with these calls and this phase
+pub record StandsIn (x : State) (n : ℕ) (p : Phase) (s : Standing) : Type 0 where
+  pub state : StandsForState x s
+  pub calls : s.calls ≡ n
+  pub phase : s.phase ≡ p
 
 -- the operation of the call that a Reply is awaited to
 abbrev pub op_in : Awaiting → Option Op
@@ -46,13 +54,13 @@ op_in awaits.Kept = None
 op_in (awaits.Content h n) = None
 
 -- a step with this effect is pending in the state: it can be kept, and to forget it gives the old state back
-pub record IsPendingIn (old : State) (e : Effect) (new : State) : Type 0 where
-  pub can : (calls : ℕ) → CanKeep e (going new calls)
-  pub back : (calls : ℕ) → forgotten e (going new calls) ≡ going old calls
+pub record IsPendingIn (old : State) (calls : ℕ) (phase : Phase) (e : Effect) (new : State) : Type 0 where
+  pub can : CanKeep e (going new calls phase)
+  pub back : forgotten e (going new calls phase) ≡ going old calls phase
 
 -- the pending step shows the move, once it is kept
 abbrev pub Hears : State → Pending → State → Standing → Move → Type 0
-Hears old p new s v = Shows (going old s.calls) p.step (kept p.effect (going new s.calls)) v
+Hears old p new s v = Shows (going old s.calls s.phase) p.step (kept p.effect (going new s.calls s.phase)) v
 
 -- the move after a Reply to the call of this operation
 abbrev pub reply_move : ℕ → Standing → Seal → List Tagged → Part → Op → Move

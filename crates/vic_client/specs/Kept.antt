@@ -4,12 +4,13 @@ use Rattle.vic_dict.specs.declared.op.Mode.{Mode}
 use Rattle.vic_wire.specs.Hashes.{Group}
 use Rattle.vic_rules.specs.declared.state.Own.{Own}
 use Rattle.vic_rules.specs.declared.state.Awaiting.{Awaiting}
+use Rattle.vic_rules.specs.declared.object.Phase.{Phase}
 use Rattle.vic_rules.specs.declared.trace.Input.{Input}
 use Rattle.vic_rules.specs.Client.{Standing, Move, step, payload_of, awaits_nothing}
 use Rattle.vic_chain.specs.Held.{Held, ShowsPath}
 
--- who it is, its group, the window of its path, its own calls that aren't sealed, what it awaits, how often it called, and the
--- check at which it halted
+-- who it is, its group, the window of its path, its own calls that aren't sealed, what it awaits, how often it called, how far its
+-- call on objects has come, and the check at which it halted
 pub record Kept : Type 0 where
   pub id : ℕ
   pub count : ℕ
@@ -19,6 +20,7 @@ pub record Kept : Type 0 where
   pub own : List Own
   pub awaiting : Awaiting
   pub calls : ℕ
+  pub phase : Phase
   pub halted : Option ℕ
 
 -- the group that it is in
@@ -33,6 +35,7 @@ pub record StandsFor (c : Kept) (s : Standing) : Type 0 where
   pub own : s.own ≡ c.own
   pub awaiting : s.awaiting ≡ c.awaiting
   pub calls : s.calls ≡ c.calls
+  pub phase : s.phase ≡ c.phase
   pub halted : s.halted ≡ c.halted
 
 -- the client awaits nothing and has not halted

@@ -1,7 +1,9 @@
 -- A step that a client is about to make: what becomes of the client when the step is kept, and when it is forgotten.
-use Rattle.std.specs.Prelude.{◌≡◌, ℕ, ◌-◌, ◌<◌, ◌≤◌, List, length, take, drop, Some}
+use Rattle.std.specs.Prelude.{◌≡◌, ℕ, ◌-◌, ◌<◌, ◌≤◌, List, length, take, drop, Option, Some, None}
 use Rattle.vic_rules.specs.declared.state.Own.{Own}
 use Rattle.vic_rules.specs.declared.state.Awaiting.TheVariants as awaits
+use Rattle.vic_rules.specs.declared.object.Phase.{Phase}
+use Rattle.vic_rules.specs.declared.object.Phase.TheVariants as phase
 use Rattle.vic_rules.specs.declared.trace.Input.{Input}
 use Rattle.vic_rules.specs.Client.{Standing}
 use Rattle.vic_chain.specs.Held.{Held, held_length, advanced, cut_to}
@@ -10,15 +12,21 @@ use Rattle.vic_client.specs.declared.pending.Effect.TheVariants as effect
 use Rattle.vic_client.specs.declared.pending.Pending.{Pending}
 use Rattle.vic_client.specs.Kept.{Kept, StandsFor, IsSame, move_of}
 use Rattle.vic_client.specs.Shows.{Shows}
-use Rattle.vic_client.specs.Sound.{IsSound}
+use Rattle.vic_client.specs.Sound.{IsSound, PhaseFits}
+
+-- how far the call on objects has come, where it has moved
+abbrev pub turned_from : Phase → Option Phase → Phase
+turned_from p None = p
+turned_from p (Some q) = q
 
 -- what the client becomes when the step is kept: the seal moves, and it awaits what comes next
 abbrev pub kept : Effect → Kept → Kept
 kept effect.Stays c = c
 kept (effect.Halts check) c = record c { halted = Some check }
-kept (effect.Asks awaiting calls) c = record c { awaiting = awaiting; calls = calls }
-kept effect.Rests c = record c { awaiting = awaits.Nothing }
-kept (effect.Replies n position root) c = record c { window = advanced c.window position root.bytes; awaiting = awaits.Turn }
+kept (effect.Asks awaiting calls turned) c = record c { awaiting = awaiting; calls = calls; phase = turned }
+kept (effect.Awaits awaiting) c = record c { awaiting = awaiting }
+kept effect.Ends c = record c { awaiting = awaits.Nothing; phase = phase.Closed }
+kept (effect.Replies n position root turned) c = record c { window = advanced c.window position root.bytes; awaiting = awaits.Turn; phase = turned_from c.phase turned }
 kept (effect.Seals position root) c = record c { window = advanced c.window position root.bytes; own = drop 1 c.own; awaiting = awaits.Turn }
 kept (effect.Lists n position root) c = record c { window = advanced c.window position root.bytes; awaiting = awaits.Nothing }
 
@@ -30,9 +38,10 @@ but_newest own = take (length own - 1) own
 abbrev pub forgotten : Effect → Kept → Kept
 forgotten effect.Stays c = c
 forgotten (effect.Halts check) c = c
-forgotten (effect.Asks awaiting calls) c = c
-forgotten effect.Rests c = c
-forgotten (effect.Replies n position root) c = record c { window = cut_to c.window n; own = but_newest c.own }
+forgotten (effect.Asks awaiting calls turned) c = c
+forgotten (effect.Awaits awaiting) c = c
+forgotten effect.Ends c = c
+forgotten (effect.Replies n position root turned) c = record c { window = cut_to c.window n; own = but_newest c.own }
 forgotten (effect.Seals position root) c = c
 forgotten (effect.Lists n position root) c = record c { window = cut_to c.window n }
 
@@ -44,15 +53,16 @@ CanSeal w position = (w.sealed ≤ position) × (position ≤ held_length w)
 abbrev pub IsOnWindow : Effect → Held → Type 0
 IsOnWindow effect.Stays w = Unit {0}
 IsOnWindow (effect.Halts check) w = Unit {0}
-IsOnWindow (effect.Asks awaiting calls) w = Unit {0}
-IsOnWindow effect.Rests w = Unit {0}
-IsOnWindow (effect.Replies n position root) w = CanSeal w position × (w.sealed ≤ n)
+IsOnWindow (effect.Asks awaiting calls turned) w = Unit {0}
+IsOnWindow (effect.Awaits awaiting) w = Unit {0}
+IsOnWindow effect.Ends w = Unit {0}
+IsOnWindow (effect.Replies n position root turned) w = CanSeal w position × (w.sealed ≤ n)
 IsOnWindow (effect.Seals position root) w = CanSeal w position
 IsOnWindow (effect.Lists n position root) w = CanSeal w position × (w.sealed ≤ n)
 
 -- what holds of every client holds of this one
 abbrev pub IsSoundKept : Kept → Type 0
-IsSoundKept c = IsSound c.id c.count c.window c.own c.awaiting
+IsSoundKept c = IsSound c.id c.count c.window c.own c.awaiting × PhaseFits c.calls c.phase
 
 -- a client can keep a step with this effect, and can forget it: what it then is, is a client
 pub record CanKeep (e : Effect) (c : Kept) : Type 0 where

@@ -8,4 +8,5 @@ use Rattle.vic_client.specs.Kept.{Kept, StandsFor, sent_at}
 pub record Shows (old : Kept) (r : Step) (new : Kept) (v : Move) : Type 0 where
   pub send : r.send ≡ sent_at old v
   pub returned : r.returned ≡ v.returns
+  pub object : r.object ≡ v.object
   pub stands : StandsFor new v.next

@@ -3,43 +3,50 @@
 ghost use Rattle.std.specs.Prelude.{◌≡◌, ◌<◌, ◌≤◌, ◌+◌, ◌^◌, ℕ, IsTrue, IsSome, IfSome, IfOk, OnOk, OnErr, Ok, Some, None, length};
 ghost use Rattle.vic_dict.specs.Dictionary.{Fits};
 ghost use Rattle.vic_chain.specs.Held.{held_length, advanced};
-ghost use Rattle.vic_rules.specs.Client.{Standing, at_start};
+ghost use Rattle.vic_rules.specs.Client.{Standing, at_start, calls_op};
+ghost use Rattle.vic_rules.specs.Objects.{FitsObject};
+ghost use Rattle.vic_rules.specs.declared.object.ObjectCall.TheVariants as object;
+ghost use Rattle.vic_rules.specs.declared.trace.Input.{Input as AnInput};
 ghost use Rattle.vic_rules.specs.declared.trace.Input.TheVariants as input;
+ghost use Rattle.vic_client.specs.Sound.{PhaseFits};
 ghost use Rattle.vic_client.specs.Kept.{StandsFor, IsSame, is_idle, group_of, move_of, sent_at};
 ghost use Rattle.vic_client.specs.Shows.{Shows};
-ghost use Rattle.vic_client.specs.Pending.{CanKeep, CanSeal, FitsFrame, IsPendingOf, kept, forgotten};
+ghost use Rattle.vic_client.specs.Pending.{CanKeep, CanSeal, FitsFrame, IsPendingOf, kept, forgotten, turned_from};
 
+use crate::calling::call_op;
 use crate::hearing::hear;
 use crate::pending::{Effect, Pending};
-use crate::sending::{invoke_payload, request_payload, sync_payload};
+use crate::sending::{request_payload, sync_payload};
 use crate::step::Step;
 use std::alloc::Global;
 use std::marker::Model;
 use vic_chain::Window;
 use vic_checks::{OwnList, State};
 use vic_dict::{Bytes, Mode, NoMemory, Op, Outcome};
+use vic_proxy::{ObjectCall, Proxy};
 use vic_rules::Awaiting;
 use vic_tag::GroupKey;
 use vic_wire::{Digest32, ToServer};
 
 /// A client of a group. Contracts see what it keeps: who it is, its group, the window of its path, its own calls that aren't
-/// sealed, what it awaits, how often it called, and the check at which it halted.
+/// sealed, what it awaits, how often it called, how far its call on objects has come, and the check at which it halted.
 #[derive(Debug, Drop)]
 pub struct Client {
     state: State,
     calls: u32,
+    proxy: Proxy,
     halted: Option<u8>,
 }
 
 impl Model for Client {
     ghost use Rattle.vic_client.specs.Kept.{Kept};
-    ghost use Rattle.vic_client.specs.Sound.{IsSound};
+    ghost use Rattle.vic_client.specs.Sound.{IsSound, PhaseFits};
 
     ghost Value = { Kept };
 
-    ghost view = { λ a. record { id = a.state.id; count = a.state.count; mode = a.state.mode; key = a.state.key; window = a.state.window; own = a.state.own; awaiting = a.state.awaiting; calls = a.calls; halted = a.halted } };
+    ghost view = { λ a. record { id = a.state.id; count = a.state.count; mode = a.state.mode; key = a.state.key; window = a.state.window; own = a.state.own; awaiting = a.state.awaiting; calls = a.calls; phase = a.proxy; halted = a.halted } };
 
-    ghost invariant = { λ a. IsSound a.state.id a.state.count a.state.window a.state.own a.state.awaiting };
+    ghost invariant = { λ a. IsSound a.state.id a.state.count a.state.window a.state.own a.state.awaiting × PhaseFits a.calls a.proxy };
 }
 
 impl Client {
@@ -63,8 +70,23 @@ impl Client {
                 awaiting: Awaiting::Nothing,
             },
             calls: 0,
+            proxy: Proxy::closed(),
             halted: None,
         }
+    }
+
+    // Plans to call an operation, where what the client is asked for comes to this call.
+    fn plan_op(&self, alloc: Global, op: Op, load: bool, proxy: Proxy) -> Result<Pending, NoMemory>
+        requires idle { IsTrue (is_idle self.now) }
+        requires fits { Fits op }
+        requires few { self.now.calls + 1 < 2 ^ 32 }
+        requires going { (calls : ℕ) → PhaseFits calls proxy }
+        ensures planned { (given : AnInput) → ((s : Standing) → move_of self.now s given ≡ calls_op s proxy op load)
+            → IfOk result (λ p. IsPendingOf self.now p self.now given) }
+        ensures sends { IfOk result (λ p. IsSome p.step.send) }
+        ensures fits { IfOk result (λ p. IfSome p.step.send FitsFrame) }
+    {
+        call_op(alloc, &self.state, self.calls, op, load, proxy)
     }
 
     /// Plans to call an operation. The client doesn't change.
@@ -78,10 +100,58 @@ impl Client {
         ensures sends { IfOk result (λ p. IsSome p.step.send) }
         ensures fits { IfOk result (λ p. IfSome p.step.send FitsFrame) }
     {
-        let seq = self.calls + 1;
-        let sent = invoke_payload(alloc, &self.state, seq, op)?;
         let op = op.copy(alloc)?;
-        Ok(Pending::asks(sent, Awaiting::Reply(seq, op, false), seq))
+        self.plan_op(alloc, op, false, Proxy::closed())
+    }
+
+    // Plans to send a content that is to be kept.
+    #[tactic(auto, unfolding(vic_rules::specs::Client::step))]
+    fn plan_store(&self, alloc: Global, name: &Bytes, content: &Bytes) -> Result<Pending, NoMemory>
+        requires idle { IsTrue (is_idle self.now) }
+        requires fits { FitsObject (object.Store name.now content.now) }
+        requires few { self.now.calls + 1 < 2 ^ 32 }
+        ensures planned { IfOk result (λ p. IsPendingOf self.now p self.now (input.Object (object.Store name.now content.now))) }
+        ensures sends { IfOk result (λ p. IsSome p.step.send) }
+        ensures fits { IfOk result (λ p. IfSome p.step.send FitsFrame) }
+    {
+        let proxy = Proxy::keeping(alloc, name, content.as_slice())?;
+        let sent = request_payload(alloc, &ToServer::Keep(content.copy(alloc)?))?;
+        Ok(Pending::asks(sent, Awaiting::Kept, self.calls, proxy))
+    }
+
+    /// Plans a call on objects: of a store the content is to be sent first, the others call their operation. The client doesn't change.
+    /// Of a store it costs the hash of the content, and a copy.
+    #[tactic(auto, unfolding(vic_rules::specs::Client::step))]
+    pub fn plan_object(&self, alloc: Global, call: &ObjectCall) -> Result<Pending, NoMemory>
+        requires idle { IsTrue (is_idle self.now) }
+        requires objects { self.now.mode ≡ Mode.Objects }
+        requires fits { FitsObject call.now }
+        requires few { self.now.calls + 1 < 2 ^ 32 }
+        ensures planned { IfOk result (λ p. IsPendingOf self.now p self.now (input.Object call.now)) }
+        ensures sends { IfOk result (λ p. IsSome p.step.send) }
+        ensures fits { IfOk result (λ p. IfSome p.step.send FitsFrame) }
+    {
+        match call {
+            ObjectCall::Store(name, content) => self.plan_store(alloc, name, content),
+            ObjectCall::Load(name) => self.plan_op(
+                alloc,
+                Op::Get(name.copy(alloc)?),
+                true,
+                Proxy::calling(),
+            ),
+            ObjectCall::Erase(name) => self.plan_op(
+                alloc,
+                Op::Del(name.copy(alloc)?),
+                false,
+                Proxy::calling(),
+            ),
+            ObjectCall::Names(prefix) => self.plan_op(
+                alloc,
+                Op::List(prefix.copy(alloc)?),
+                false,
+                Proxy::calling(),
+            ),
+        }
     }
 
     /// Plans to ask whether it is the client's turn to seal. The client doesn't change.
@@ -92,8 +162,9 @@ impl Client {
         ensures sends { IfOk result (λ p. IsSome p.step.send) }
         ensures fits { IfOk result (λ p. IfSome p.step.send FitsFrame) }
     {
+        let _calls = self.calls;
         let sent = request_payload(alloc, &ToServer::Poll)?;
-        Ok(Pending::asks(sent, Awaiting::Turn, self.calls))
+        Ok(Pending::awaits(Some(sent), Awaiting::Turn))
     }
 
     /// Plans to ask for the entries that the client doesn't know. The client doesn't change.
@@ -105,7 +176,7 @@ impl Client {
         ensures fits { IfOk result (λ p. IfSome p.step.send FitsFrame) }
     {
         let sent = sync_payload(alloc, &self.state)?;
-        Ok(Pending::asks(sent, Awaiting::Entries, self.calls))
+        Ok(Pending::awaits(Some(sent), Awaiting::Entries))
     }
 
     /// Hears a payload that is said to come from the server, whatever it holds: the step is pending until it is kept or
@@ -115,12 +186,12 @@ impl Client {
         ensures heard { IfOk result (λ p. IsPendingOf self.old p self.new (input.Payload payload.now)) }
         ensures fits { IfOk result (λ p. IfSome p.step.send FitsFrame) }
         ensures halted { (k : ℕ) → self.old.halted ≡ Some k
-            → (result ≡ Ok (record { step = record { send = None; returned = Some (Outcome.Halted k) }; effect = Effect.Stays })) × (self.new ≡ self.old) }
+            → (result ≡ Ok (record { step = record { send = None; returned = Some (Outcome.Halted k); object = None }; effect = Effect.Stays })) × (self.new ≡ self.old) }
         ensures err { OnErr result (self.new ≡ self.old) }
     {
         match self.halted {
             Some(check) => Ok(Pending::stays(check)),
-            None => hear(alloc, &mut self.state, payload),
+            None => hear(alloc, &mut self.state, self.calls, &self.proxy, payload),
         }
     }
 
@@ -143,13 +214,28 @@ impl Client {
         match effect {
             Effect::Stays => (),
             Effect::Halts(check) => self.halted = Some(check),
-            Effect::Asks { awaiting, calls } => {
+            Effect::Asks {
+                awaiting,
+                calls,
+                turned,
+            } => {
                 self.state.awaiting = awaiting;
                 self.calls = calls;
+                self.proxy = turned;
             }
-            Effect::Rests => self.state.awaiting = Awaiting::Nothing,
-            Effect::Replies { position, root, .. } => {
+            Effect::Awaits(awaiting) => self.state.awaiting = awaiting,
+            Effect::Ends => {
+                self.state.awaiting = Awaiting::Nothing;
+                self.proxy = Proxy::closed();
+            }
+            Effect::Replies {
+                position,
+                root,
+                turned,
+                ..
+            } => {
                 seal_to(&mut self.state, position, &root, Awaiting::Turn);
+                self.turn(turned);
             }
             Effect::Seals { position, root } => {
                 seal_to(&mut self.state, position, &root, Awaiting::Turn);
@@ -158,6 +244,16 @@ impl Client {
             Effect::Lists { position, root, .. } => {
                 seal_to(&mut self.state, position, &root, Awaiting::Nothing);
             }
+        }
+    }
+
+    // Moves the call on objects, where it moves.
+    fn turn(&mut self, turned: Option<Proxy>)
+        requires { PhaseFits self.old.calls (turned_from self.old.phase turned) }
+        ensures { self.new ≡ record self.old { phase = turned_from self.old.phase turned } }
+    {
+        if let Some(proxy) = turned {
+            self.proxy = proxy;
         }
     }
 
@@ -204,6 +300,24 @@ impl Client {
         Ok(self.keep_sent(pending))
     }
 
+    /// Makes a call on objects: the payload to send. After want of memory the client is as before. Of a store it costs the hash of the
+    /// content, and a copy.
+    #[tactic(auto, using(crate::proofs::Pendings::stands_kept))]
+    pub fn invoke_object(&mut self, alloc: Global, call: &ObjectCall) -> Result<Bytes, NoMemory>
+        requires idle { IsTrue (is_idle self.old) }
+        requires objects { self.old.mode ≡ Mode.Objects }
+        requires fits { FitsObject call.now }
+        requires few { self.old.calls + 1 < 2 ^ 32 }
+        ensures same { IsSame self.old self.new }
+        ensures err { OnErr result (self.new ≡ self.old) }
+        ensures sent { (s : Standing) → StandsFor self.old s → IfOk result (λ b. Some b ≡ sent_at self.old (move_of self.old s (input.Object call.now))) }
+        ensures fits { IfOk result FitsFrame }
+        ensures stands { (s : Standing) → StandsFor self.old s → OnOk result (StandsFor self.new (move_of self.old s (input.Object call.now)).next) }
+    {
+        let pending = self.plan_object(alloc, call)?;
+        Ok(self.keep_sent(pending))
+    }
+
     /// Asks whether it is the client's turn to seal: the payload to send. After want of memory the client is as before.
     #[tactic(auto, using(crate::proofs::Pendings::stands_kept))]
     pub fn poll(&mut self, alloc: Global) -> Result<Bytes, NoMemory>
@@ -238,7 +352,7 @@ impl Client {
         ensures same { IsSame self.old self.new }
         ensures taken { (s : Standing) → StandsFor self.old s → IfOk result (λ r. Shows self.old r self.new (move_of self.old s (input.Payload payload.now))) }
         ensures fits { IfOk result (λ r. IfSome r.send FitsFrame) }
-        ensures halted { (k : ℕ) → self.old.halted ≡ Some k → (result ≡ Ok (record { send = None; returned = Some (Outcome.Halted k) })) × (self.new ≡ self.old) }
+        ensures halted { (k : ℕ) → self.old.halted ≡ Some k → (result ≡ Ok (record { send = None; returned = Some (Outcome.Halted k); object = None })) × (self.new ≡ self.old) }
         ensures err { OnErr result (self.new ≡ self.old) }
     {
         let pending = self.hear(alloc, payload)?;

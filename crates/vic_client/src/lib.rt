@@ -1,4 +1,5 @@
-//! A client of a group: it calls, polls and syncs, and takes what is said to come from the server, whatever the bytes are.
+//! A client of a group: it calls, polls and syncs, and takes what is said to come from the server, whatever the bytes are. In a group
+//! with objects it makes calls on objects, which go on with the answers that it takes.
 //!
 //! Its rule is `step` of `vic_rules` (`specs/Client.antt`). A client keeps only what lies above its highest seal, so its
 //! contracts speak of each standing that it stands for (`StandsFor` of `specs/Kept.antt`): from whatever standing, the call
@@ -8,6 +9,7 @@
 //! takes none and can't fail (`IsPendingOf` of `specs/Pending.antt`).
 #![tactic(auto)]
 
+mod calling;
 pub mod client;
 mod hearing;
 pub mod pending;

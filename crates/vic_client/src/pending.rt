@@ -4,6 +4,7 @@ ghost use Rattle.std.specs.Prelude.{◌≡◌, None, Some};
 
 use crate::step::Step;
 use vic_dict::{Bytes, Outcome};
+use vic_proxy::{ObjectOutcome, Proxy};
 use vic_rules::Awaiting;
 use vic_wire::Digest32;
 
@@ -15,18 +16,23 @@ pub enum Effect {
     Stays,
     /// It halts at the check with this number.
     Halts(u8),
-    /// It awaits an answer, and has called so often.
+    /// It awaits an answer, has called so often, and its call on objects has come so far.
     Asks {
         awaiting: Awaiting,
         calls: u32,
+        turned: Proxy,
     },
-    /// It awaits nothing more.
-    Rests,
-    /// The entries of a Reply and its own call, which are there already, stay; it awaits its turn.
+    /// It awaits this, or nothing.
+    Awaits(Awaiting),
+    /// It awaits nothing more, and no call on objects is open.
+    Ends,
+    /// The entries of a Reply and its own call, which are there already, stay; it awaits its turn. `turned` is how far its call on
+    /// objects has come, where that has moved.
     Replies {
         length: u32,
         position: u32,
         root: Digest32,
+        turned: Option<Proxy>,
     },
     /// Its oldest own call is sealed; it awaits its turn.
     Seals {
@@ -50,22 +56,41 @@ pub struct Pending {
 }
 
 impl Pending {
-    /// The client sends a request, and awaits its answer; it has called so often.
-    pub(crate) fn asks(sent: Bytes, awaiting: Awaiting, calls: u32) -> Pending
-        ensures { result ≡ record { step = record { send = Some sent; returned = None }; effect = Effect.Asks awaiting calls } }
+    /// It sends a payload and awaits an answer; it has called so often, and its call on objects has come so far.
+    pub(crate) fn asks(sent: Bytes, awaiting: Awaiting, calls: u32, turned: Proxy) -> Pending
+        ensures { result ≡ record { step = record { send = Some sent; returned = None; object = None }; effect = Effect.Asks awaiting calls turned } }
     {
         Pending {
             step: Step {
                 send: Some(sent),
                 returned: None,
+                object: None,
             },
-            effect: Effect::Asks { awaiting, calls },
+            effect: Effect::Asks {
+                awaiting,
+                calls,
+                turned,
+            },
+        }
+    }
+
+    /// It sends a payload, or none, and awaits this.
+    pub(crate) fn awaits(send: Option<Bytes>, awaiting: Awaiting) -> Pending
+        ensures { result ≡ record { step = record { send = send; returned = None; object = None }; effect = Effect.Awaits awaiting } }
+    {
+        Pending {
+            step: Step {
+                send,
+                returned: None,
+                object: None,
+            },
+            effect: Effect::Awaits(awaiting),
         }
     }
 
     /// The client had halted at this check.
     pub(crate) fn stays(check: u8) -> Pending
-        ensures { result ≡ record { step = record { send = None; returned = Some (Outcome.Halted check) }; effect = Effect.Stays } }
+        ensures { result ≡ record { step = record { send = None; returned = Some (Outcome.Halted check); object = None }; effect = Effect.Stays } }
     {
         Pending {
             step: Step::halted(check),
@@ -75,7 +100,7 @@ impl Pending {
 
     /// The client halts at this check.
     pub(crate) fn halts(check: u8) -> Pending
-        ensures { result ≡ record { step = record { send = None; returned = Some (Outcome.Halted check) }; effect = Effect.Halts check } }
+        ensures { result ≡ record { step = record { send = None; returned = Some (Outcome.Halted check); object = None }; effect = Effect.Halts check } }
     {
         Pending {
             step: Step::halted(check),
@@ -83,16 +108,31 @@ impl Pending {
         }
     }
 
-    /// The client awaits nothing more.
-    pub(crate) fn rests(returned: Option<Outcome>) -> Pending
-        ensures { result ≡ record { step = record { send = None; returned = returned }; effect = Effect.Rests } }
+    /// The client awaits nothing more, and its call is over.
+    pub(crate) fn rests(returned: Outcome) -> Pending
+        ensures { result ≡ record { step = record { send = None; returned = Some returned; object = None }; effect = Effect.Awaits Awaiting.Nothing } }
+    {
+        Pending {
+            step: Step {
+                send: None,
+                returned: Some(returned),
+                object: None,
+            },
+            effect: Effect::Awaits(Awaiting::Nothing),
+        }
+    }
+
+    /// The client awaits nothing more, and its call on objects is over.
+    pub(crate) fn ends(returned: Option<Outcome>, object: ObjectOutcome) -> Pending
+        ensures { result ≡ record { step = record { send = None; returned = returned; object = Some object }; effect = Effect.Ends } }
     {
         Pending {
             step: Step {
                 send: None,
                 returned,
+                object: Some(object),
             },
-            effect: Effect::Rests,
+            effect: Effect::Ends,
         }
     }
 }

@@ -3,22 +3,25 @@
 ghost use Rattle.std.specs.Prelude.{◌≡◌, None, Some};
 
 use vic_dict::{Bytes, Outcome};
+use vic_rules::ObjectOutcome;
 
-/// What a client sends after a payload, and the outcome of its call, where it is over.
+/// What a client sends after a payload, and the outcomes of its call and of its call on objects, where they are over.
 #[derive(Debug, Drop)]
 pub struct Step {
     pub send: Option<Bytes>,
     pub returned: Option<Outcome>,
+    pub object: Option<ObjectOutcome>,
 }
 
 impl Step {
     /// The step of a client that halts, or had halted, at this check.
     pub(crate) fn halted(check: u8) -> Step
-        ensures { result ≡ record { send = None; returned = Some (Outcome.Halted check) } }
+        ensures { result ≡ record { send = None; returned = Some (Outcome.Halted check); object = None } }
     {
         Step {
             send: None,
             returned: Some(Outcome::Halted(check)),
+            object: None,
         }
     }
 }

@@ -1,6 +1,6 @@
 //! What a client makes of an answer that passed the checks.
 
-ghost use Rattle.std.specs.Prelude.{◌≡◌, ◌+◌, ◌≤◌, ◌<◌, ◌∷◌, [], ◌++◌, List, length, not, ◌&&◌, ◌||◌, true, Some, IfOk, IfSome, OnOk, OnErr};
+ghost use Rattle.std.specs.Prelude.{◌≡◌, ℕ, ◌+◌, ◌≤◌, ◌<◌, ◌∷◌, [], ◌++◌, List, length, not, ◌&&◌, ◌||◌, true, Some, IfOk, IfSome, OnOk, OnErr};
 ghost use Rattle.std.specs.List.{AllByRecursion};
 ghost use Rattle.vic_dict.specs.Dictionary.{Fits};
 ghost use Rattle.vic_wire.specs.Hashes.{Group};
@@ -11,9 +11,12 @@ ghost use Rattle.vic_chain.specs.Held.{ShowsPath, held_length, cut_to};
 ghost use Rattle.vic_wire.specs.Messages.{request_text};
 ghost use Rattle.vic_rules.specs.Client.{Standing, onto, grown, request_of, Commits, sealed_to, listed_to, new_root, shows_own, is_write as writes, is_done as done_of};
 ghost use Rattle.vic_rules.specs.declared.state.Own.{Own as AnOwn};
+ghost use Rattle.vic_rules.specs.declared.object.Phase.{Phase as APhase};
+ghost use Rattle.vic_rules.specs.Objects.{is_calling, after_decision, ended_by, over_with as over};
 ghost use Rattle.vic_checks.specs.State.{group_of, StandsForState};
+ghost use Rattle.vic_client.specs.Sound.{PhaseFits};
+ghost use Rattle.vic_client.specs.Pending.{FitsFrame, turned_from};
 ghost use Rattle.vic_client.specs.Hearing.{IsSoundState, IsPendingIn, Hears, reply_move};
-ghost use Rattle.vic_client.specs.Pending.{FitsFrame};
 
 use crate::pending::{Effect, Pending};
 use crate::sending::{commit_payload, seal_payload};
@@ -23,6 +26,7 @@ use vic_chain::Window;
 use vic_checks::seals::is_write;
 use vic_checks::{State, decide};
 use vic_dict::{Bytes, NoMemory, Op, Outcome};
+use vic_proxy::{Next, ObjectOutcome, Proxy};
 use vic_prune::Pruned;
 use vic_rules::Own;
 use vic_wire::{Digest32, Seal, Tagged, TaggedList};
@@ -74,6 +78,43 @@ fn is_done(outcome: &Outcome) -> bool
     matches!(outcome, Outcome::Done(_))
 }
 
+/// How far a call on objects has come once its operation is decided, where it has moved; and what it returns, where it is over.
+#[derive(Debug, Drop)]
+struct Behind {
+    turned: Option<Proxy>,
+    object: Option<ObjectOutcome>,
+}
+
+// What becomes of a call on objects when an operation is decided, which is its own where it is calling.
+fn turned_by(alloc: Global, calling: bool, outcome: &Outcome) -> Result<Behind, NoMemory>
+    ensures turned { (p : APhase) → is_calling p ≡ calling → IfOk result (λ b. turned_from p b.turned ≡ after_decision p outcome.now) }
+    ensures object { (p : APhase) → is_calling p ≡ calling → IfOk result (λ b. b.object ≡ ended_by p outcome.now) }
+    ensures fits { (calls : ℕ) (p : APhase) → PhaseFits calls p → IfOk result (λ b. PhaseFits calls (turned_from p b.turned)) }
+{
+    if !calling {
+        return Ok(Behind {
+            turned: None,
+            object: None,
+        });
+    }
+    let mut proxy = Proxy::calling();
+    let next = proxy.outcome(alloc, outcome)?;
+    Ok(Behind {
+        turned: Some(proxy),
+        object: over_with(next),
+    })
+}
+
+// The outcome with which a call on objects is over, if it is.
+fn over_with(next: Next) -> Option<ObjectOutcome>
+    ensures { result ≡ over next }
+{
+    match next {
+        Next::Return(outcome) => Some(outcome),
+        _ => None,
+    }
+}
+
 /// After a Reply that passed the checks: the call is decided, and the Commit is to be sent. The entries and the call stand on
 /// the path already; the seal is still to be moved, and the turn to be awaited. The part is taken, since the client's own calls
 /// are done on it.
@@ -84,6 +125,7 @@ pub(crate) fn take_reply(
     entries: &TaggedList,
     part: &Pruned,
     op: Op,
+    calling: bool,
 ) -> Result<Pending, NoMemory>
     requires sound { IsSoundState state.old }
     requires fits { Fits op }
@@ -95,12 +137,13 @@ pub(crate) fn take_reply(
     requires below { seal.now.position < held_length state.old.window + length entries.now }
     requires room { held_length state.old.window + length entries.now ≤ 1048576 }
     ensures sound { IsSoundState state.new }
-    ensures pending { IfOk result (λ p. IsPendingIn state.old p.effect state.new) }
+    ensures pending { (calls : ℕ) (p : APhase) → PhaseFits calls p → IfOk result (λ r. IsPendingIn state.old calls p r.effect state.new) }
     ensures fits { IfOk result (λ p. IfSome p.step.send FitsFrame) }
-    ensures taken { (s : Standing) → StandsForState state.old s → IfOk result (λ p. Hears state.old p state.new s (reply_move state.old.id s seal.now entries.now (shown part.now) op)) }
+    ensures taken { (s : Standing) → StandsForState state.old s → is_calling s.phase ≡ calling → IfOk result (λ p. Hears state.old p state.new s (reply_move state.old.id s seal.now entries.now (shown part.now) op)) }
     ensures err { OnErr result (state.new ≡ state.old) }
 {
     let outcome = decide(alloc, state, entries, seal.position, part, &op)?;
+    let behind = turned_by(alloc, calling, &outcome)?;
     let length = state.window.length();
     extend_all(&mut state.window, entries.as_slice())?;
     match own_call(alloc, state, op, is_done(&outcome)) {
@@ -108,11 +151,13 @@ pub(crate) fn take_reply(
             step: Step {
                 send: Some(sent),
                 returned: Some(outcome),
+                object: behind.object,
             },
             effect: Effect::Replies {
                 length,
                 position: seal.position,
                 root: seal.root,
+                turned: behind.turned,
             },
         }),
         Err(NoMemory) => {
@@ -152,7 +197,7 @@ pub(crate) fn take_update(
     requires reached { shows_own (Some (shown part.now)) state.now.own ≡ true }
     requires above { state.now.window.sealed ≤ seal.now.position }
     requires within { seal.now.position + 1 ≤ held_length state.now.window }
-    ensures pending { IfOk result (λ p. IsPendingIn state.now p.effect state.now) }
+    ensures pending { (calls : ℕ) (p : APhase) → PhaseFits calls p → IfOk result (λ r. IsPendingIn state.now calls p r.effect state.now) }
     ensures fits { IfOk result (λ p. IfSome p.step.send FitsFrame) }
     ensures taken { (s : Standing) (o : AnOwn) (others : List AnOwn) → StandsForState state.now s → s.own ≡ o ∷ others
         → IfOk result (λ p. Hears state.now p state.now s (sealed_to s (seal.now.position + 1) (new_root o (shown part.now) seal.now.root.bytes) others)) }
@@ -168,6 +213,7 @@ pub(crate) fn take_update(
         step: Step {
             send: Some(sent),
             returned: None,
+            object: None,
         },
         effect: Effect::Seals { position, root },
     })
@@ -185,7 +231,7 @@ pub(crate) fn take_entries(
     requires within { seal.now.position ≤ held_length state.old.window + length entries.now }
     requires room { held_length state.old.window + length entries.now ≤ 1048576 }
     ensures sound { IsSoundState state.new }
-    ensures pending { IfOk result (λ p. IsPendingIn state.old p.effect state.new) }
+    ensures pending { (calls : ℕ) (p : APhase) → PhaseFits calls p → IfOk result (λ r. IsPendingIn state.old calls p r.effect state.new) }
     ensures fits { IfOk result (λ p. IfSome p.step.send FitsFrame) }
     ensures taken { (s : Standing) → StandsForState state.old s
         → IfOk result (λ p. Hears state.old p state.new s (listed_to s (grown s entries.now) seal.now.position seal.now.root.bytes)) }
@@ -197,6 +243,7 @@ pub(crate) fn take_entries(
         step: Step {
             send: None,
             returned: None,
+            object: None,
         },
         effect: Effect::Lists {
             length,

@@ -1,9 +1,7 @@
 use Rattle.std.proofs.Common.{IfOk, refl, sym, subst}
-use Rattle.std.proofs.Common.{Option}
-use Rattle.vic_wire.specs.declared.message.ToClient.{ToClient}
 use Rattle.vic_rules.specs.Client.{Move, verdict_on}
 use Rattle.vic_checks.specs.State.{group_of}
-use Rattle.vic_client.specs.Hearing.{Hears, judged_move}
+use Rattle.vic_client.specs.Hearing.{Hears}
 use Rattle.vic_client.proofs.Moved.{heard_is}
 use Rattle.vic_client.proofs.hearing.hear.Goals as goal
 
@@ -13,6 +11,4 @@ returns-clause-taken c = λ s st.
     let g = group_of old in
     let m = c.in_ok-message.message in
     let is = heard_is g old.id s c.args.payload.now m (verdict_on g old.id s m) (sym c.in_ok-message.ensures.exact) refl in
-    let lent = c.as_ref-2.ensures.value in
-    let there = subst (λ (x : Option ToClient). IfOk c.hear_read.result (λ p. Hears old p c.hear_read.new.state s (judged_move g old.id s x))) lent (c.hear_read.ensures.taken s st) in
-    subst (λ (v : Move). IfOk c.hear_read.result (λ p. Hears old p c.hear_read.new.state s v)) (sym is) there
+    subst (λ (v : Move). IfOk c.hear_read.result (λ p. Hears old p c.hear_read.new.state s v)) (sym is) (c.hear_read.ensures.taken s st)

@@ -12,7 +12,7 @@ use Rattle.vic_client.proofs.hearing.hear_reply.Goals.{in_default-via-in-Some+in
 use Rattle.vic_client.proofs.hearing.hear_reply.Goals as goal
 
 pub returns-in-Some-Some-clause-taken : goal.returns-in-Some-Some-clause-taken
-returns-in-Some-Some-clause-taken c = λ s st.
+returns-in-Some-Some-clause-taken c = λ s st calling.
     let old = c.args.state.now in
     let seal = c.args.seal.now in
     let entries = c.args.entries.now in
@@ -21,10 +21,10 @@ returns-in-Some-Some-clause-taken c = λ s st.
     let some : 0 < length (grown s entries) = omega (arith, length-onto entries s.path, c.requires.spelled.1.0) in
     let is = replied_is old.id s seal entries (part c.in-Some-Some.part) s.awaiting op some asked in
     subst (λ (x : Option Pruned). IfOk c.take_reply.result (λ p. Hears old p c.take_reply.new.state s (replied old.id s seal (grown s entries) (seen x) s.awaiting))) (sym c.in-Some-Some.is-1)
-    (subst (λ (v : Move). IfOk c.take_reply.result (λ p. Hears old p c.take_reply.new.state s v)) (sym is) (c.take_reply.ensures.taken s st))
+    (subst (λ (v : Move). IfOk c.take_reply.result (λ p. Hears old p c.take_reply.new.state s v)) (sym is) (c.take_reply.ensures.taken s st calling))
 
 pub returns-in_default-clause-taken : goal.returns-in_default-clause-taken
-returns-in_default-clause-taken c = λ s st.
+returns-in_default-clause-taken c = λ s st calling.
     let me = c.args.state.now.id in
     let seal = c.args.seal.now in
     let path = grown s c.args.entries.now in

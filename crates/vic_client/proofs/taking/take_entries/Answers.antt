@@ -20,6 +20,7 @@ returns-clause-taken c = λ s st.
     record {
       send = refl;
       returned = refl;
+      object = refl;
       stands = record {
         path = shows_advanced g p window seal.position seal.root.bytes (omega (arith, made.sealed)) (omega (arith, made.length, items, c.requires.within)) shown;
         sealed = refl;
@@ -27,6 +28,7 @@ returns-clause-taken c = λ s st.
         own = st.own;
         awaiting = refl;
         calls = refl;
+        phase = refl;
         halted = st.halted;
       };
     }

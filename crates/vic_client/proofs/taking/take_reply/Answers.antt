@@ -1,5 +1,7 @@
 use Rattle.std.proofs.Common.{◌≡◌, ℕ, Bool, List, [], ◌∷◌, ◌++◌, Some, length, sym, ap, ◌∙◌, subst, arith, refl}
 use Rattle.vic_dict.specs.declared.op.Entry.{Entry}
+use Rattle.vic_dict.specs.declared.op.Outcome.{Outcome}
+use Rattle.vic_rules.specs.Objects.{after_decision, ended_by}
 use Rattle.vic_wire.specs.declared.message.Tagged.{Tagged}
 use Rattle.vic_wire.specs.Hashes.{Group}
 use Rattle.vic_wire.specs.Messages.{request_text}
@@ -28,22 +30,23 @@ returns-in-Ok-clause-sound c =
     (joined_sound c.args.state.now window joined c.requires.sound refl (omega (arith, made.length, items, c.requires.some)))
 
 pub returns-in-Ok-clause-pending : goal.returns-in-Ok-clause-pending
-returns-in-Ok-clause-pending c =
+returns-in-Ok-clause-pending c = λ calls p fits.
     let old : State = c.args.state.now in
     let window = c.extend_all.new.window in
     let seal = c.args.seal.now in
     let made = c.in_ok-extend_all.ensures in
     let items : length c.as_slice.result.now ≡ length c.args.entries.now = ap (λ (ts : List Tagged). length ts) c.as_slice.ensures in
-    let e : Effect = effect.Replies c.length-length.result seal.position seal.root in
+    let turned = c.in_ok-behind.behind.turned in
+    let e : Effect = effect.Replies c.length-length.result seal.position seal.root turned in
     let joined : Own = record { position = held_length window; op = c.args.op; done = c.is_done.result } in
     let back : cut_to window c.length-length.result ≡ old.window = ap (λ (n : ℕ). cut_to window n) c.length-length.ensures.value ∙ made.back in
-    subst (λ (x : State). IsPendingIn old e x) (sym c.in-Ok.ensures.own)
-    (replies_pending old window joined c.length-length.result seal.position seal.root c.requires.sound back
+    subst (λ (x : State). IsPendingIn old calls p e x) (sym c.in-Ok.ensures.own)
+    (replies_pending old window joined c.length-length.result seal.position seal.root turned calls p c.requires.sound fits (c.in_ok-behind.ensures.fits calls p fits) back
     (omega (arith, made.sealed)) (omega (arith, made.length, items, c.requires.below)) refl
     (omega (arith, made.length, items, c.requires.some)) (omega (arith, made.sealed, c.length-length.ensures.value)))
 
 pub returns-in-Ok-clause-taken : goal.returns-in-Ok-clause-taken
-returns-in-Ok-clause-taken c = λ s st.
+returns-in-Ok-clause-taken c = λ s st calling.
     let old : State = c.args.state.now in
     let g : Group = group_of old in
     let window = c.extend_all.new.window in
@@ -65,10 +68,11 @@ returns-in-Ok-clause-taken c = λ s st.
     ap (λ (own : List Own). own ++ record { position = held_length window; op = c.args.op; done = c.is_done.result } ∷ []) (sym st.own)
     ∙ ap (λ n. s.own ++ record { position = n; op = c.args.op; done = c.is_done.result } ∷ []) position
     ∙ ap (λ (b : Bool). s.own ++ record { position = length p; op = c.args.op; done = b } ∷ []) done in
-    let r : Pending = record { step = record { send = Some c.in-Ok.sent; returned = Some c.in_ok-outcome.outcome }; effect = effect.Replies c.length-length.result seal.position seal.root } in
+    let r : Pending = record { step = record { send = Some c.in-Ok.sent; returned = Some c.in_ok-outcome.outcome; object = c.in_ok-behind.behind.object }; effect = effect.Replies c.length-length.result seal.position seal.root c.in_ok-behind.behind.turned } in
     subst (λ (x : State). Hears old r x s v) (sym c.in-Ok.ensures.own) (record {
       send = ap Some (sent ∙ ap (λ (b : Bool). request_text (request_of g old.id v.next (Commits b))) done);
       returned = ap Some decided;
+      object = c.in_ok-behind.ensures.object s.phase calling ∙ ap (λ (x : Outcome). ended_by s.phase x) decided;
       stands = record {
         path = shows_advanced g p window seal.position seal.root.bytes (omega (arith, made.sealed)) (omega (arith, made.length, items, c.requires.below)) shown;
         sealed = refl;
@@ -76,6 +80,7 @@ returns-in-Ok-clause-taken c = λ s st.
         own = sym own_is;
         awaiting = refl;
         calls = refl;
+        phase = sym (c.in_ok-behind.ensures.turned s.phase calling ∙ ap (λ (x : Outcome). after_decision s.phase x) decided);
         halted = st.halted;
       };
     })

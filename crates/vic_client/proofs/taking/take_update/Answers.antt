@@ -22,6 +22,7 @@ returns-clause-taken c = λ s o others st is.
     record {
       send = ap Some (c.in_ok-sent.ensures.sent v.next st.path refl rooted);
       returned = refl;
+      object = refl;
       stands = record {
         path = shows_advanced g s.path now.window position c.root_after-root.result.bytes (omega arith) c.requires.within st.path;
         sealed = refl;
@@ -29,6 +30,7 @@ returns-clause-taken c = λ s o others st is.
         own = sym (ap (λ (l : List Own). drop 1 l) own);
         awaiting = refl;
         calls = refl;
+        phase = refl;
         halted = st.halted;
       };
     }

@@ -1,9 +1,12 @@
 use Rattle.std.proofs.Common.{◌≡◌, Some, sym, ap, ◌∙◌, subst}
 use Rattle.vic_rules.specs.declared.trace.Input.TheVariants as input
+use Rattle.vic_checks.specs.State.{group_of}
 use Rattle.vic_client.specs.declared.pending.Pending.{Pending}
 use Rattle.vic_client.specs.Kept.{Kept}
 use Rattle.vic_client.specs.Pending.{IsSoundKept, IsPendingOf}
-use Rattle.vic_client.proofs.Pendings.{pending_halted, heard_pending}
+use Rattle.vic_client.specs.Hearing.{heard_move}
+use Rattle.vic_client.proofs.Moved.{payload_heard}
+use Rattle.vic_client.proofs.Pendings.{pending_halted, made_pending}
 use Rattle.vic_client.proofs.client.Client.hear.Goals as goal
 
 pub returns-in-Some-clause-heard : goal.returns-in-Some-clause-heard
@@ -17,5 +20,8 @@ returns-in-Some-clause-heard c =
 pub returns-in-None-clause-heard : goal.returns-in-None-clause-heard
 returns-in-None-clause-heard c =
     let inside = c.self.inside in
-    heard_pending c.hear.result inside.state c.hear.new.state inside.calls inside.halted c.args.self.now c.args.payload.now c.self.view_is c.in-None.is
-    c.hear.ensures.pending c.hear.ensures.taken
+    let g = group_of inside.state in
+    let payload = c.args.payload.now in
+    made_pending c.hear.result inside.state c.hear.new.state inside.calls inside.proxy inside.halted c.args.self.now (input.Payload payload)
+    (λ s. heard_move g inside.state.id s payload) c.self.view_is c.in-None.is c.hear.ensures.pending c.hear.ensures.taken
+    (λ s going. payload_heard g inside.state.id s payload going)
