@@ -1,11 +1,4 @@
 -- A call is aborted exactly by the least entry of another client that conflicts with it.
-use Rattle.std.proofs.Common.{◌≡◌, ℕ, ◌<◌, true, not, List, ap}
-use Rattle.std.specs.Prelude.{◌≢◌, nat_eq}
-use Rattle.std.proofs.lemmas.Bool.{and_parts, and_from, eq-eqb, ne_eqb}
-use Rattle.vic_dict.specs.declared.op.Op.{Op}
-use Rattle.vic_dict.specs.declared.op.Entry.{Entry}
-use Rattle.vic_wire.specs.Conflict.{conflicts}
-use Rattle.vic_rules.specs.Client.{is_in_the_way}
 use Rattle.vic_laws.specs.Meanings.{AbortedByConflict}
 use Rattle.vic_laws.proofs.Decisions.{blocks, passes, aborted_by_the_least}
 

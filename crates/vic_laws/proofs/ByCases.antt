@@ -16,15 +16,14 @@ use Rattle.vic_rules.specs.declared.trace.Input.{Input}
 use Rattle.vic_rules.specs.declared.trace.Input.TheVariants as input
 use Rattle.vic_rules.specs.declared.trace.TraceStep.{TraceStep}
 use Rattle.vic_rules.specs.declared.trace.Shown.{Shown}
-use Rattle.vic_rules.specs.Client.{Standing, Move, Sending, Invokes, Commits, Polls, Seals, Syncs, entries_of, seal_of, seal_text_on, commit_text_on, payload_of, tag_for, digest}
+use Rattle.vic_rules.specs.Client.{Standing, Move, Sending, Invokes, Commits, Polls, Seals, Syncs, Keeps, Fetches, entries_of, seal_of, seal_text_on, commit_text_on, payload_of, tag_for, digest}
 use Rattle.vic_rules.specs.History.{standing, path, move_of, IsStep, AreSteps, Completion, completion, completions}
-use Rattle.vic_rules.specs.Views.{confirmed_calls, last_prefix, view_of, MakesCall, NoStepOf, IsAnswered, IsCompleted, IsCall, ReturnedBefore}
+use Rattle.vic_rules.specs.Views.{confirmed_calls, last_prefix, view_of, MakesCall, NoStepOf, IsAnswered, IsCompleted, ReturnedBefore}
 use Rattle.vic_rules.specs.Trust.{took, taken_by, seal_texts, checked_texts, texts_taken, texts_made, text_sent}
 use Rattle.vic_laws.specs.ByCases.{RealTimeIs, TakesAnswer, TookIs, TakesText, of_entry, of_seal, TextsTakenAre, MakesText, with_call, with_status, with_seal, IsMadeIn, TextsMadeAre, CompletesAt, CompletesNowhere, EndsAt, at_call, at_start, ViewsEnd}
 use Rattle.vic_laws.proofs.Words.{some_same, none_is_some, in_left, in_right, in_either}
-use Rattle.vic_laws.proofs.Steps.{Kind, is_quiet, is_called, is_replied, is_updated, is_listed}
 use Rattle.vic_laws.proofs.Standings.{standing_moved, earlier_steps}
-use Rattle.vic_laws.proofs.Calls.{kind_of}
+use Rattle.vic_laws.proofs.Calls.{kind_of, called_if}
 use Rattle.vic_laws.proofs.Growth.{front_whole}
 use Rattle.vic_laws.proofs.RealTime.{calls_grow}
 
@@ -64,21 +63,14 @@ calls_later g me (x ∷ later) past steps =
     let before = calls_later g me later past steps.0 in
     omega (arith, one, before)
 
-payload_calls_nothing : (i : Input) (payload : List ℕ) → i ≡ input.Payload payload → IsCall i → ⊥
-payload_calls_nothing i payload e c = subst IsCall e c
-
-called_number : (g : Group) (me : ℕ) (s : Standing) (i : Input) (v : Move) → Kind g me s i v → IsCall i → v.next.calls ≡ s.calls + 1
-called_number g me s i v (is_quiet k) c = absurd (k.calls_nothing c)
-called_number g me s i v (is_called k) c = ap (λ (w : Move). w.next.calls) k.moved
-called_number g me s i v (is_replied k) c = absurd (payload_calls_nothing i k.payload k.asked c)
-called_number g me s i v (is_updated k) c = absurd (payload_calls_nothing i k.payload k.asked c)
-called_number g me s i v (is_listed k) c = absurd (payload_calls_nothing i k.payload k.asked c)
-
--- behind the step of a call its client has made so many
-number_then : (g : Group) (past : List TraceStep) (x : TraceStep) (e : Entry) → IsStep g past x → MakesCall g past x e → (standing g e.client (x ∷ past)).calls ≡ e.seq
-number_then g past x e is m =
-    ap (λ (s : Standing). s.calls) (standing_moved g e.client x past m.client)
-    ∙ (called_number g x.client (standing g x.client past) x.input (move_of g past x) (kind_of g past x is) m.call ∙ m.seq)
+-- the number of a call is one more than its client had made before, and so many it has made behind the step
+number_at : (g : Group) (past : List TraceStep) (x : TraceStep) (e : Entry) → IsStep g past x → MakesCall g past x e
+    → ((standing g e.client past).calls + 1 ≡ e.seq) × ((standing g e.client (x ∷ past)).calls ≡ e.seq)
+number_at g past x e is m =
+    let called = called_if g x.client (standing g x.client past) x.input (move_of g past x) (kind_of g past x is) e.seq m.op m.sends in (
+      subst (λ (c : ℕ). (standing g c past).calls + 1 ≡ e.seq) m.client called.1.0,
+      ap (λ (s : Standing). s.calls) (standing_moved g e.client x past m.client) ∙ (ap (λ (w : Move). w.next.calls) called.0.moved ∙ called.1.0),
+    )
 
 -- a call isn't made before a step by which it was made
 not_before : (g : Group) (h : List TraceStep) → AreSteps g h → (e : Entry) (l1 l2 : List TraceStep) (x y : TraceStep) (p q : List TraceStep)
@@ -87,10 +79,10 @@ not_before g h steps e l1 l2 x y p q a b m n less =
     let within = end_within (l1) (l2 ++ y ∷ []) (x ∷ p) q (sym a ∙ (b ∙ sym (append_assoc l2 (y ∷ []) q))) (omega (arith, less)) in
     let there : AreSteps g (y ∷ q) = earlier_steps g l2 (y ∷ q) (subst (AreSteps g) b steps) in
     let here : AreSteps g (x ∷ p) = earlier_steps g l1 (x ∷ p) (subst (AreSteps g) a steps) in
-    let number = number_then g p x e here.1 m in
+    let number = (number_at g p x e here.1 m).1 in
     let more : (standing g e.client (x ∷ p)).calls ≤ (standing g e.client q).calls =
     subst (λ (k : List TraceStep). (standing g e.client (x ∷ p)).calls ≤ (standing g e.client k).calls) (sym within.1) (calls_later g e.client within.0 (x ∷ p) (subst (AreSteps g) within.1 there.0)) in
-    let next : (standing g e.client q).calls + 1 ≡ e.seq = subst (λ (c : ℕ). (standing g c q).calls + 1 ≡ e.seq) n.client n.seq in
+    let next = (number_at g q y e there.1 n).0 in
     omega (arith, number, more, next)
 
 -- so it is made at one place
@@ -192,6 +184,7 @@ took_to g past x m e = now x.input refl e
 
     now : (i : Input) → x.input ≡ i → taken_by (move_of g past x).next i ≡ Some m → TakesAnswer g past x m
     now (input.Call o) came f = absurd (none_is_some f)
+    now (input.Object c) came f = absurd (none_is_some f)
     now input.Poll came f = absurd (none_is_some f)
     now input.Sync came f = absurd (none_is_some f)
     now (input.Payload payload) came f = going payload (move_of g past x).next.halted refl came f
@@ -297,6 +290,8 @@ makes_at g past x is t i = now (move_of g past x).sends refl i
         with_seal v.sealed (digest v.root) (tag_for g (seal_text_on g v.path v.sealed v.root)) (sent_so (Some Seals) at) (tag_is _ e)
         (e ∙ ap (λ (p : List Entry). seal_text v.sealed (chain g (front v.sealed p)) v.root) (path_then g past x))
     now (Some Syncs) at j = absurd j
+    now (Some (Keeps content)) at j = absurd j
+    now (Some (Fetches k)) at j = absurd j
 
 made_along : (g : Group) (h : List TraceStep) → AreSteps g h → (t : List ℕ) → IsIn (texts_made g h) t → IsMadeIn g h t
 unfolding texts_made

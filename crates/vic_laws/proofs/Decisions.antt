@@ -12,7 +12,7 @@ use Rattle.vic_wire.specs.Hashes.{Group}
 use Rattle.vic_rules.specs.declared.trace.TraceStep.{TraceStep}
 use Rattle.vic_rules.specs.Client.{is_in_the_way, in_the_way, decided, decision}
 use Rattle.vic_rules.specs.History.{standing, path, move_of, AreSteps, IsStep, Completion, completions}
-use Rattle.vic_rules.specs.Trust.{took, taken_by}
+use Rattle.vic_rules.specs.Trust.{took}
 use Rattle.vic_wire.specs.Parts.{Part, read_part, walked}
 use Rattle.vic_laws.specs.OrderClaims.{PassesAt, BlocksAt, DoneMeetsNoConflict, AbortedByTheLeast}
 use Rattle.vic_wire.specs.Conflict.{conflicts}

@@ -23,7 +23,7 @@ use Rattle.vic_rules.specs.declared.state.Awaiting.{Awaiting}
 use Rattle.vic_rules.specs.declared.state.Awaiting.TheVariants as awaits
 use Rattle.vic_rules.specs.declared.trace.Input.{Input}
 use Rattle.vic_rules.specs.declared.trace.Input.TheVariants as input
-use Rattle.vic_rules.specs.Client.{is_write, Standing, Move, Sending, Polls, Syncs, moves, IsIdle, MayStep, awaits_nothing, onto, newest_first, grown, is_awaited, has_form, has_members, has_tags, has_turn, is_other, is_reply_to, goes_on, is_sealed, keeps_own, shows, shows_open, shows_own, is_next, is_proved, entries_of, seal_of, seal_text_on, first_failing, verdict_on, verdict, halts, replied, replied_to, updated, sealed_to, listed_to, new_root, decision, is_done, taken, taken_or_halts, on_payload, step, has_content, calls_op, waited, goes_to, refused_at, moves_with, Invokes, Keeps, Fetches}
+use Rattle.vic_rules.specs.Client.{is_write, Standing, Sending, Polls, Syncs, moves, IsIdle, MayStep, awaits_nothing, onto, newest_first, grown, is_awaited, has_form, has_members, has_tags, has_turn, is_other, is_reply_to, goes_on, is_sealed, keeps_own, shows, shows_open, shows_own, is_next, is_proved, entries_of, seal_of, seal_text_on, first_failing, verdict_on, verdict, halts, replied, replied_to, updated, sealed_to, listed_to, new_root, decision, is_done, taken, taken_or_halts, on_payload, step, has_content, calls_op, waited, goes_to, refused_at, moves_with, Invokes, Keeps, Fetches}
 use Rattle.vic_rules.specs.Trust.{taken_by, checked_texts, seal_texts, parts_in, text_sent}
 use Rattle.std.specs.Prelude.{◌<◌, ◌^◌}
 use Rattle.std.specs.Int.{w32, to_be_bytes}

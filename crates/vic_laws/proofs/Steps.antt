@@ -1,5 +1,5 @@
 -- What a step of a client does: one of five kinds, with all that the checks showed.
-use Rattle.std.specs.Prelude.{◌≡◌, ℕ, ◌+◌, ◌<◌, ◌≤◌, ◌^◌, ◌⊎◌, Bool, true, false, not, ◌&&◌, ◌||◌, List, [], ◌∷◌, ◌++◌, length, Some, None}
+use Rattle.std.specs.Prelude.{◌≡◌, ℕ, ◌+◌, ◌<◌, ◌≤◌, ◌^◌, ◌⊎◌, Bool, true, not, ◌&&◌, ◌||◌, List, [], ◌∷◌, ◌++◌, length, Some, None}
 use Rattle.std.specs.List.{AllByRecursion}
 use Rattle.vic_dict.specs.declared.op.Op.{Op}
 use Rattle.vic_dict.specs.declared.op.Entry.{Entry}
@@ -19,7 +19,7 @@ use Rattle.vic_rules.specs.declared.state.Own.{Own}
 use Rattle.vic_rules.specs.declared.state.Awaiting.TheVariants as awaits
 use Rattle.vic_rules.specs.declared.trace.Input.{Input}
 use Rattle.vic_rules.specs.declared.trace.Input.TheVariants as input
-use Rattle.vic_rules.specs.Client.{Standing, Move, Invokes, moves, IsIdle, decision, is_done, is_write, new_root, replied_to, sealed_to, listed_to, has_form, has_members, has_tags, goes_on, is_sealed, keeps_own, is_proved, has_turn, entries_of, seal_of, grown, newest_first, seal_text_on, has_content, calls_op}
+use Rattle.vic_rules.specs.Client.{Standing, Move, Invokes, decision, is_done, is_write, new_root, replied_to, sealed_to, listed_to, has_form, has_members, has_tags, goes_on, is_sealed, keeps_own, is_proved, has_turn, entries_of, seal_of, grown, newest_first, seal_text_on, has_content, calls_op}
 use Rattle.vic_rules.specs.History.{completion}
 use Rattle.vic_rules.specs.Trust.{taken_by, checked_texts, text_sent, parts_in}
 

@@ -1,16 +1,14 @@
 -- What words of the claim mean, said once more in other words.
 use Rattle.std.specs.List.{list_all}
 use Rattle.std.specs.Str.{bytes_eq}
-use Rattle.std.specs.Prelude.{◌≡◌, ◌≢◌, ◌↔◌, ℕ, zero, suc, ◌<◌, ◌≤◌, true, false, length, List, [], ◌∷◌, ◌++◌, Option, Some, None, nat_eq, if◌then◌else◌, Bool, not, ◌&&◌, ◌||◌}
+use Rattle.std.specs.Prelude.{◌≡◌, ◌↔◌, ℕ, zero, suc, ◌<◌, true, false, List, [], ◌∷◌, ◌++◌, Option, Some, None, nat_eq, if◌then◌else◌, Bool, not, ◌&&◌, ◌||◌}
 use Rattle.vic_dict.specs.declared.op.Outcome.TheVariants as outcome
-use Rattle.vic_dict.specs.Lists.{IsIn, front, newest}
+use Rattle.vic_dict.specs.Lists.{IsIn, front}
 use Rattle.vic_dict.specs.Dictionary.{Dictionary, reply}
-use Rattle.vic_dict.specs.declared.op.Op.{Op}
 use Rattle.vic_dict.specs.declared.op.Entry.{Entry}
 use Rattle.vic_wire.specs.declared.message.Seal.{Seal}
 use Rattle.vic_wire.specs.declared.message.Tagged.{Tagged}
 use Rattle.vic_wire.specs.declared.message.ToClient.TheVariants as say
-use Rattle.vic_wire.specs.Conflict.{conflicts}
 use Rattle.vic_wire.specs.Texts.{genesis_text, chain_text, content_text}
 use Rattle.vic_wire.specs.Hashes.{Group, chain, hash}
 use Rattle.vic_wire.specs.Parts.{Part, read_part, part_texts}
