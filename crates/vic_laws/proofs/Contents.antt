@@ -61,7 +61,7 @@ all_together g (x ∷ past) steps me = elim (cases_eq x.client me) [
   | inr differ ↦ subst (λ (s : Standing). Together s.phase s.awaiting) (sym (standing_kept g me x past differ)) (all_together g past steps.0 me)
 ]
 
-phased_at : (g : Group) (x : TraceStep) (past : List TraceStep) → AreSteps g (x ∷ past) → Phased (standing g x.client past) x.input (move_of g past x)
+pub phased_at : (g : Group) (x : TraceStep) (past : List TraceStep) → AreSteps g (x ∷ past) → Phased (standing g x.client past) x.input (move_of g past x)
 phased_at g x past steps = phased g x.client (standing g x.client past) x.input steps.1.may (all_together g past steps.0 x.client)
 
 -- a dictionary that explains a found value has it under the key of a get

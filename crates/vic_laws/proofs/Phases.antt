@@ -32,6 +32,7 @@ use Rattle.vic_rules.specs.declared.trace.Input.TheVariants as input
 use Rattle.vic_rules.specs.declared.object.Next.{Next}
 use Rattle.vic_rules.specs.declared.object.Next.TheVariants as next
 use Rattle.vic_rules.specs.Objects.{over_with, content_hash, reference_text, is_reference, hash_in, length_in, is_content_of, begun, kept_at, after_decision, ended_by, Stepped}
+use Rattle.vic_rules.specs.Views.{AsksFor}
 use Rattle.vic_rules.specs.Client.{is_wanted, Standing, Move, Sending, Invokes, Commits, Polls, Syncs, Seals, Keeps, Fetches as Fetch, moves_with, calls_op, goes_to, waited, refused_at, replied, updated, halts, is_load, is_awaited, is_done, decision, awaits_nothing, MayStep, taken, taken_or_halts, on_payload, step, verdict, verdict_on, grown}
 use Rattle.vic_rules.specs.Trust.{taken_by}
 use Rattle.vic_laws.proofs.Words.{none_is_some}
@@ -86,6 +87,7 @@ pub record Phased (s : Standing) (i : Input) (v : Move) : Type 0 where
   pub content : (c : List ℕ) → v.object ≡ Some (ended.Content c) → Fetches s (taken_by v.next i) c
   pub puts : (n : ℕ) (q u : List ℕ) → v.sends ≡ Some (Invokes n (op.Put q u)) → (i ≡ input.Call (op.Put q u)) ⊎ Puts s (op.Put q u)
   pub gets : (n : ℕ) (q : List ℕ) → v.sends ≡ Some (Invokes n (op.Get q)) → (i ≡ input.Call (op.Get q)) ⊎ (i ≡ input.Object (object.Load q))
+  pub calls : (n : ℕ) (o : Op) → v.sends ≡ Some (Invokes n o) → AsksFor i o ⊎ Puts s o
 
 nothing_ended : (c : List ℕ) → ◌≡◌ {A = Option ObjectOutcome} None (Some (ended.Content c)) → ⊥
 nothing_ended c e = cc
@@ -101,6 +103,7 @@ phased_halt s i k t = record {
   content = λ c e. absurd (nothing_ended c e);
   puts = λ n q u e. absurd (nothing_sent n (op.Put q u) e);
   gets = λ n q e. absurd (nothing_sent n (op.Get q) e);
+  calls = λ n o e. absurd (nothing_sent n o e);
 }
 
 closed_apart : (h : Digest32) (len : ℕ) → phase.Closed ≡ phase.Fetching h len → ⊥
@@ -143,14 +146,16 @@ idle_nothing (awaits.Content h len) b e = absurd (true≢false (sym e))
 phased_call : (s : Standing) (i : Input) (p : Phase) (o : Op) (load : Bool) → ((a : Awaiting) → a ≡ awaits.Reply (s.calls + 1) o load → Together p a)
     → ((h : Digest32) (len : ℕ) → p ≡ phase.Fetching h len → ⊥) → ((k : List ℕ) (h : Digest32) (len : ℕ) → p ≡ phase.Keeping k h len → ⊥)
     → ((q u : List ℕ) → o ≡ op.Put q u → (i ≡ input.Call (op.Put q u)) ⊎ Puts s (op.Put q u))
-    → ((q : List ℕ) → o ≡ op.Get q → (i ≡ input.Call (op.Get q)) ⊎ (i ≡ input.Object (object.Load q))) → Phased s i (calls_op s p o load)
-phased_call s i p o load together apart kept puts gets = record {
+    → ((q : List ℕ) → o ≡ op.Get q → (i ≡ input.Call (op.Get q)) ⊎ (i ≡ input.Object (object.Load q)))
+    → AsksFor i o ⊎ Puts s o → Phased s i (calls_op s p o load)
+phased_call s i p o load together apart kept puts gets asks = record {
   together = together (awaits.Reply (s.calls + 1) o load) refl;
   fetching = λ h len e. absurd (apart h len e);
   keeping = λ k h len e f. absurd (kept k h len f);
   content = λ c e. absurd (nothing_ended c e);
   puts = λ n q u e. puts q u (same_op (s.calls + 1) n o (op.Put q u) e);
   gets = λ n q e. gets q (same_op (s.calls + 1) n o (op.Get q) e);
+  calls = λ n q e. subst (λ (w : Op). AsksFor i w ⊎ Puts s w) (same_op (s.calls + 1) n o q e) asks;
 }
   where
     same_op : (n m : ℕ) (o q : Op) → Some (Invokes n o) ≡ Some (Invokes m q) → o ≡ q
@@ -185,6 +190,7 @@ phased_object s (object.Store k c) = record {
   content = λ d e. absurd (nothing_ended d e);
   puts = λ n q u e. absurd (no_call c n (op.Put q u) e);
   gets = λ n q e. absurd (no_call c n (op.Get q) e);
+  calls = λ n o e. absurd (no_call c n o e);
 }
   where
     same_name : (k n : List ℕ) (g h : Digest32) (l m : ℕ) → phase.Keeping k g l ≡ phase.Keeping n h m → k ≡ n
@@ -198,9 +204,9 @@ phased_object s (object.Store k c) = record {
 
     no_call : (c : List ℕ) (n : ℕ) (o : Op) → Some (Keeps c) ≡ Some (Invokes n o) → ⊥
     no_call c n o e = cc
-phased_object s (object.Load k) = phased_call s _ phase.Calling (op.Get k) true (calling_so (s.calls + 1) (op.Get k) true) calling_apart calling_kept (λ q u e. absurd (let f = e in cc)) (λ q e. inr (ap (λ n. input.Object (object.Load n)) (same_key k q e)))
-phased_object s (object.Erase k) = phased_call s _ phase.Calling (op.Del k) false (calling_so (s.calls + 1) (op.Del k) false) calling_apart calling_kept (λ q u e. absurd (let f = e in cc)) (λ q e. absurd (let f = e in cc))
-phased_object s (object.Names p) = phased_call s _ phase.Calling (op.List p) false (calling_so (s.calls + 1) (op.List p) false) calling_apart calling_kept (λ q u e. absurd (let f = e in cc)) (λ q e. absurd (let f = e in cc))
+phased_object s (object.Load k) = phased_call s _ phase.Calling (op.Get k) true (calling_so (s.calls + 1) (op.Get k) true) calling_apart calling_kept (λ q u e. absurd (let f = e in cc)) (λ q e. inr (ap (λ n. input.Object (object.Load n)) (same_key k q e))) (inl refl)
+phased_object s (object.Erase k) = phased_call s _ phase.Calling (op.Del k) false (calling_so (s.calls + 1) (op.Del k) false) calling_apart calling_kept (λ q u e. absurd (let f = e in cc)) (λ q e. absurd (let f = e in cc)) (inl refl)
+phased_object s (object.Names p) = phased_call s _ phase.Calling (op.List p) false (calling_so (s.calls + 1) (op.List p) false) calling_apart calling_kept (λ q u e. absurd (let f = e in cc)) (λ q e. absurd (let f = e in cc)) (inl refl)
 
 -- a step that stays Closed
 phased_closed : (s : Standing) (i : Input) (a : Awaiting) (sends : Option Sending) (returns : Option Outcome) (object : Option ObjectOutcome) (p : Phase) → p ≡ phase.Closed → Together phase.Closed a
@@ -213,6 +219,7 @@ phased_closed s i a sends returns object p is t gives quiet = record {
   content = gives;
   puts = λ n q u e. absurd (quiet n (op.Put q u) e);
   gets = λ n q e. absurd (quiet n (op.Get q) e);
+  calls = λ n o e. absurd (quiet n o e);
 }
 
 nothing_closed : Together phase.Closed awaits.Nothing
@@ -323,6 +330,7 @@ phased_reply me s i seal (e ∷ below) (Some part) (awaits.Reply n o load) t sam
       content = λ c f. absurd (decided_content s.phase ends c f);
       puts = λ m q u f. absurd (no_commit (is_done ends) m (op.Put q u) f);
       gets = λ m q f. absurd (no_commit (is_done ends) m (op.Get q) f);
+      calls = λ m o f. absurd (no_commit (is_done ends) m o f);
     }
 phased_reply me s i seal [] part a t same = phased_halt s i 1 t
 phased_reply me s i seal (e ∷ below) None a t same = phased_halt s i 1 t
@@ -343,6 +351,7 @@ phased_update s i seal (Some part) (o ∷ others) t same = record {
   content = λ c e. absurd (nothing_ended c e);
   puts = λ n q u e. absurd (no_seal n (op.Put q u) e);
   gets = λ n q e. absurd (no_seal n (op.Get q) e);
+  calls = λ n o e. absurd (no_seal n o e);
 }
 phased_update s i seal None own t same = phased_halt s i 1 t
 phased_update s i seal (Some part) [] t same = phased_halt s i 1 t
@@ -377,6 +386,7 @@ phased_wait s i (phase.Fetching h len) is t = record {
   content = λ c e. absurd (nothing_ended c e);
   puts = λ n q u e. absurd (no_fetch h.bytes n (op.Put q u) e);
   gets = λ n q e. absurd (no_fetch h.bytes n (op.Get q) e);
+  calls = λ n o e. absurd (no_fetch h.bytes n o e);
 }
   where
     no_fetch : (h : List ℕ) (n : ℕ) (o : Op) → Some (Fetch h) ≡ Some (Invokes n o) → ⊥
@@ -407,6 +417,7 @@ phased_kept : (s : Standing) (i : Input) (p : Phase) → s.halted ≡ None → s
 phased_kept s i (phase.Keeping k h len) alive is t =
     phased_call s i phase.Calling (op.Put k (reference_text h.bytes len)) false (calling_so (s.calls + 1) (op.Put k (reference_text h.bytes len)) false) calling_apart calling_kept
     (λ q u e. inr (record { name = k; h = h; len = len; alive = alive; keeping = is; is = sym e })) (λ q e. absurd (let f = e in cc))
+    (inr (record { name = k; h = h; len = len; alive = alive; keeping = is; is = refl }))
 phased_kept s i phase.Closed alive is t = phased_halt s i 1 t
 phased_kept s i phase.Calling alive is t = phased_halt s i 1 t
 phased_kept s i (phase.Fetching h len) alive is t = phased_halt s i 1 t
@@ -471,6 +482,7 @@ phased_taken g me s b (say.Entries seal entries) alive read passes t =
       content = λ c e. absurd (nothing_ended c e);
       puts = λ n q u e. absurd (nothing_sent n (op.Put q u) e);
       gets = λ n q e. absurd (nothing_sent n (op.Get q) e);
+      calls = λ n o e. absurd (nothing_sent n o e);
     }
 phased_taken g me s b (say.Refused r) alive read passes t = phased_refused s (input.Payload b) r s.awaiting refl passes.form t
 phased_taken g me s b say.Kept alive read passes t = phased_kept s (input.Payload b) s.phase alive refl t
@@ -492,7 +504,7 @@ phased_payload g me s b None e h t = phased_read g me s b (read_answer b) (verdi
 -- what each step that a client may make does to its call on objects
 pub phased : (g : Group) (me : ℕ) (s : Standing) (i : Input) → MayStep g s i → Together s.phase s.awaiting → Phased s i (step g me s i)
 unfolding step
-phased g me s (input.Call o) may t = phased_call s (input.Call o) phase.Closed o false (closed_so (s.calls + 1) o false) closed_apart closed_kept (λ q u e. inl (ap input.Call e)) (λ q e. inl (ap input.Call e))
+phased g me s (input.Call o) may t = phased_call s (input.Call o) phase.Closed o false (closed_so (s.calls + 1) o false) closed_apart closed_kept (λ q u e. inl (ap input.Call e)) (λ q e. inl (ap input.Call e)) (inl refl)
 phased g me s (input.Object c) may t = phased_object s c
 phased g me s input.Poll may t =
     phased_closed s input.Poll awaits.Turn (Some Polls) None None s.phase (at_rest s.phase (subst (Together s.phase) (idle_nothing s.awaiting _ may) t)) turn_closed (λ c e. no_content s _ c e) (λ n o e. cc)

@@ -6,3 +6,4 @@ pub mod Limits
 pub mod Fields
 pub mod ContentClaims
 pub mod CountClaims
+pub mod AskedClaims

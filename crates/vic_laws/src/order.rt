@@ -1,5 +1,6 @@
 //! The laws on the order of calls, and on what a client decides of its call.
 
+ghost use Rattle.vic_laws.specs.AskedClaims.{CallsAreAsked};
 ghost use Rattle.vic_laws.specs.CountClaims.{SendsAreFew};
 ghost use Rattle.vic_laws.specs.OrderClaims.{CompletedOnce, CompletionsAre, SameOpIs, SameEntryIs, LeastAboveIs, NoneAboveIs, ConfirmedIs, ConfirmedByOwner, DoneMeetsNoConflict, AbortedByTheLeast, AnswersStand, ViewsAgree, ViewsComplete, ViewsInRealTime, ViewsShowOnlyCalls};
 
@@ -70,4 +71,9 @@ pub fn completions_are()
 /// A client sends no more than three requests for each call, one for each poll and sync, and two more for each call on objects.
 pub fn sends_are_few()
     ensures { SendsAreFew }
+{}
+
+/// A client calls an operation only where it is asked for it, or was asked at its step before for the store that puts it.
+pub fn calls_are_asked()
+    ensures { CallsAreAsked }
 {}
