@@ -11,7 +11,7 @@ use Rattle.vic_wire.specs.Hashes.{Group, chain, tag_of}
 use Rattle.vic_wire.specs.Messages.{request_text, HasRequestSpelling}
 use Rattle.vic_wire.specs.Reading.{read_request}
 use Rattle.vic_rules.specs.declared.trace.TraceStep.{TraceStep}
-use Rattle.vic_rules.specs.Client.{Standing, Sending, Invokes, Commits, Polls, Seals, Syncs, request_of, payload_of, commit_text_on, seal_text_on}
+use Rattle.vic_rules.specs.Client.{Standing, Sending, Invokes, Commits, Polls, Seals, Syncs, Keeps, Fetches, request_of, payload_of, commit_text_on, seal_text_on}
 use Rattle.vic_rules.specs.History.{path, move_of, AreSteps}
 use Rattle.vic_rules.specs.Trust.{texts_made, text_sent, IsForged}
 use Rattle.vic_spellings.proofs.SpelledRequests.{request_again}
@@ -61,6 +61,8 @@ told_is g me s (Commits done) = ap (λ (p : List Entry). commit_text (length s.p
 told_is g me s Polls = refl
 told_is g me s Seals = refl
 told_is g me s Syncs = refl
+told_is g me s (Keeps content) = refl
+told_is g me s (Fetches h) = refl
 
 tag_is : (g : Group) (me : ℕ) (s : Standing) (sending : Sending) → HasTag g me s.path (request_of g me s sending)
 unfolding commit_text_on seal_text_on
@@ -69,6 +71,8 @@ tag_is g me s (Commits done) = ap (λ (p : List Entry). tag_of g.key (commit_tex
 tag_is g me s Polls = tt
 tag_is g me s Seals = refl
 tag_is g me s Syncs = tt
+tag_is g me s (Keeps content) = tt
+tag_is g me s (Fetches h) = tt
 
 only_one : (a t : List ℕ) → IsIn (a ∷ []) t → t ≡ a
 only_one a t (inl same) = sym same

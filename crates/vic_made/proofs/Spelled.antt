@@ -18,17 +18,19 @@ use Rattle.vic_rules.specs.declared.state.Own.{Own}
 use Rattle.vic_rules.specs.declared.trace.Input.{Input}
 use Rattle.vic_rules.specs.declared.trace.Input.TheVariants as input
 use Rattle.vic_rules.specs.declared.trace.TraceStep.{TraceStep}
-use Rattle.vic_rules.specs.Client.{Standing, Move, Sending, Invokes, Commits, Polls, Seals, Syncs, MayStep, step, request_of, new_root, is_write}
+use Rattle.vic_rules.specs.Client.{Standing, Move, Sending, Invokes, Commits, Polls, Seals, Syncs, Keeps, Fetches, MayStep, step, request_of, new_root, is_write}
 use Rattle.vic_rules.specs.History.{path, standing, move_of, AreSteps}
 use Rattle.vic_rules.specs.Trust.{taken_by, text_sent}
 use Rattle.vic_spellings.specs.Spellings.{HoldsBytes, RequestHoldsBytes}
 use Rattle.vic_spellings.proofs.Bytes.{bytes-sha256}
 use Rattle.vic_spellings.proofs.SpelledAnswers.{answer_holds_bytes}
 use Rattle.vic_laws.proofs.Words.{some_same, none_is_some}
-use Rattle.vic_laws.proofs.Steps.{Kind, is_quiet, is_called, is_replied, is_updated, is_listed}
+use Rattle.vic_laws.proofs.Steps.{PhaseFits, Kind, is_quiet, is_called, is_replied, is_updated, is_listed}
 use Rattle.vic_laws.proofs.StepKinds.{step_kind}
+use Rattle.vic_laws.proofs.Calls.{phases_fit}
 use Rattle.vic_laws.proofs.Paths.{at_each_standing}
 use Rattle.vic_laws.proofs.PartRoots.{after_stubs, read_stubs, root_digest}
+use Rattle.vic_made.proofs.Contents.{IsDigestText, ContentFits, holds_at, step_fits}
 
 -- ---- paths
 
@@ -47,10 +49,6 @@ path_few g h steps me =
     (λ j s i may w. few_kept g j s i (step g j s i) (step_kind g j s i may) w) h steps me
 
 -- ---- digests
-
--- bytes of a digest's length
-abbrev IsDigestText : List ℕ → Type 0
-IsDigestText bytes = (length bytes ≡ 32) × AreBytes bytes
 
 tag_digest : (key text : List ℕ) → IsDigestText (tag_of key text)
 unfolding tag_of
@@ -97,29 +95,32 @@ seal_spelled : (g : Group) (me : ℕ) (s : Standing) → 0 < s.sealed → s.seal
 seal_spelled g me s pos few root = let t = tag_digest g.key _ in (((pos, omega arith), (root.0, t.0)), (root.1, t.1))
 
 quiet_spelled : (g : Group) (me : ℕ) (s : Standing) (sending : Sending) → text_sent g me s (Some sending) ≡ []
-    → length s.path ≤ 1048576 → IsSpelled (request_of g me s sending)
-quiet_spelled g me s (Invokes n o) e few = absurd cc
-quiet_spelled g me s (Commits done) e few = absurd cc
-quiet_spelled g me s Polls e few = (tt, tt)
-quiet_spelled g me s Seals e few = absurd cc
-quiet_spelled g me s Syncs e few = (omega arith, tt)
+    → length s.path ≤ 1048576 → ContentFits (Some sending) → IsSpelled (request_of g me s sending)
+quiet_spelled g me s (Invokes n o) e few fits = absurd cc
+quiet_spelled g me s (Commits done) e few fits = absurd cc
+quiet_spelled g me s Polls e few fits = (tt, tt)
+quiet_spelled g me s Seals e few fits = absurd cc
+quiet_spelled g me s Syncs e few fits = (omega arith, tt)
+quiet_spelled g me s (Keeps content) e few fits = fits
+quiet_spelled g me s (Fetches h) e few fits = fits
 
 one_spelled : (g : Group) (me : ℕ) (v : Move) (one : Sending) → v.sends ≡ Some one → IsSpelled (request_of g me v.next one)
     → SendsSpelled g me v
 one_spelled g me v one is h = λ sending e. subst (λ (x : Sending). IsSpelled (request_of g me v.next x)) (some_same (sym is ∙ e)) h
 
 move_spelled : (g : Group) (me : ℕ) (s : Standing) (i : Input) (v : Move) → MayStep g s i → Kind g me s i v
-    → length s.path ≤ 1048576 → SendsSpelled g me v
-move_spelled g me s i v may (is_quiet k) few = λ sending e.
+    → length s.path ≤ 1048576 → PhaseFits s.calls s.phase → ContentFits v.sends → SendsSpelled g me v
+move_spelled g me s i v may (is_quiet k) few opens fits = λ sending e.
     quiet_spelled g me v.next sending (ap (text_sent g me v.next) (sym e) ∙ k.sends_nothing) (few_kept g me s i v (is_quiet k) few)
-move_spelled g me s i v may (is_called k) few =
+    (subst ContentFits e fits)
+move_spelled g me s i v may (is_called k) few opens fits =
     one_spelled g me v (Invokes (s.calls + 1) k.op) (ap (λ (m : Move). m.sends) k.moved)
-    (invoke_spelled g me v.next (s.calls + 1) k.op (few_kept g me s i v (is_called k) few) (omega arith) k.few k.fits)
-move_spelled g me s i v may (is_replied k) few =
+    (invoke_spelled g me v.next (s.calls + 1) k.op (few_kept g me s i v (is_called k) few) (omega arith) (k.few opens) (k.fits opens))
+move_spelled g me s i v may (is_replied k) few opens fits =
     let size : length v.next.path ≡ suc (length (k.others ++ s.path)) = ap (λ (m : Move). length m.next.path) k.moved in
     one_spelled g me v (Commits _) (ap (λ (m : Move). m.sends) k.moved)
     (commit_spelled g me v.next _ (omega (arith, size)) (few_kept g me s i v (is_replied k) few))
-move_spelled g me s i v may (is_updated k) few =
+move_spelled g me s i v may (is_updated k) few opens fits =
     let sealed : v.next.sealed ≡ k.seal.position + 1 = ap (λ (m : Move). m.next.sealed) k.moved in
     let root : v.next.root ≡ new_root k.first k.part k.seal.root.bytes = ap (λ (m : Move). m.next.root) k.moved in
     let below : k.seal.position ≤ length s.path = k.sealing.within in
@@ -131,7 +132,7 @@ move_spelled g me s i v may (is_updated k) few =
     one_spelled g me v Seals (ap (λ (m : Move). m.sends) k.moved)
     (seal_spelled g me v.next (omega (arith, sealed)) (omega (arith, sealed, below, few))
     (subst IsDigestText (sym root) (root_digest_after k.first k.bytes k.part k.seal.root.bytes k.are_bytes k.is_part was)))
-move_spelled g me s i v may (is_listed k) few =
+move_spelled g me s i v may (is_listed k) few opens fits =
     λ sending e. absurd (none_is_some (sym (ap (λ (m : Move). m.sends) k.moved) ∙ e))
 
 -- so it is of what the client of a step sends
@@ -139,4 +140,5 @@ pub step_spelled : (g : Group) (past : List TraceStep) (x : TraceStep) → AreSt
     → SendsSpelled g x.client (move_of g past x)
 step_spelled g past x steps =
     move_spelled g x.client (standing g x.client past) x.input (move_of g past x) steps.1.may
-    (step_kind g x.client (standing g x.client past) x.input steps.1.may) (path_few g past steps.0 x.client)
+    (step_kind g x.client (standing g x.client past) x.input steps.1.may) (path_few g past steps.0 x.client) (phases_fit g past steps.0 x.client)
+    (step_fits g x.client (standing g x.client past) x.input steps.1.may (holds_at g past steps.0 x.client))
