@@ -13,13 +13,16 @@ use Rattle.vic_wire.specs.declared.message.ToClient.TheVariants as say
 use Rattle.vic_wire.specs.Hashes.{Group}
 use Rattle.vic_wire.specs.Parts.{Part, read_part}
 use Rattle.vic_wire.specs.Reading.{read_answer}
+use Rattle.vic_rules.specs.declared.object.Phase.{Phase}
+use Rattle.vic_rules.specs.declared.object.Phase.TheVariants as phase
+use Rattle.vic_rules.specs.Objects.{kept_at}
 use Rattle.vic_rules.specs.declared.state.Awaiting.{Awaiting}
 use Rattle.vic_rules.specs.declared.state.Awaiting.TheVariants as awaits
 use Rattle.vic_rules.specs.declared.state.Own.{Own}
 use Rattle.vic_rules.specs.declared.trace.Input.{Input}
 use Rattle.vic_rules.specs.declared.trace.Input.TheVariants as input
 use Rattle.vic_rules.specs.declared.trace.TraceStep.{TraceStep}
-use Rattle.vic_rules.specs.Client.{Standing, Move, onto, grown, entries_of, seal_of, decided, decision, replied, updated, taken, taken_or_halts, on_payload, verdict, step}
+use Rattle.vic_rules.specs.Client.{Standing, Move, onto, grown, entries_of, decided, decision, replied, updated, waited, goes_to, refused_at, taken, taken_or_halts, on_payload, verdict, step}
 use Rattle.vic_rules.specs.History.{standing, path, move_of, IsStep, AreSteps}
 use Rattle.vic_rules.specs.Trust.{taken_by}
 use Rattle.vic_laws.proofs.Steps.{Kind, is_quiet, is_called, is_replied, is_updated, is_listed}
@@ -49,13 +52,38 @@ updated_tells : (s : Standing) (seal : Seal) (part : Option Part) (own : List Ow
 updated_tells s seal (Some part) (o ∷ others) alive = ap is_none alive
 updated_tells s seal part own alive = refl
 
+waited_tells : (s : Standing) (p : Phase) → s.halted ≡ None → Tells (waited s p)
+waited_tells s phase.Closed alive = ap is_none alive
+waited_tells s (phase.Keeping k h len) alive = ap is_none alive
+waited_tells s phase.Calling alive = ap is_none alive
+waited_tells s (phase.Fetching h len) alive = ap is_none alive
+
+refused_tells : (s : Standing) (r : ℕ) (a : Awaiting) → s.halted ≡ None → Tells (refused_at s r a)
+refused_tells s r awaits.Nothing alive = ap is_none alive
+refused_tells s r (awaits.Reply n o load) alive = ap is_none alive
+refused_tells s r awaits.Turn alive = ap is_none alive
+refused_tells s r awaits.Entries alive = ap is_none alive
+refused_tells s r awaits.Kept alive = ap is_none alive
+refused_tells s r (awaits.Content h len) alive = ap is_none alive
+
+-- a store whose content is kept calls its put
+kept_tells : (s : Standing) (p : Phase) → s.halted ≡ None → Tells (goes_to s false (kept_at p))
+kept_tells s phase.Closed alive = refl
+kept_tells s (phase.Keeping k h len) alive = ap is_none alive
+kept_tells s phase.Calling alive = refl
+kept_tells s (phase.Fetching h len) alive = refl
+
 taken_tells : (me : ℕ) (s : Standing) (m : ToClient) → s.halted ≡ None → Tells (taken me s m)
 taken_tells me s (say.Reply seal entries part) alive = replied_tells me s seal (grown s entries) (read_part part) s.awaiting alive
-taken_tells me s say.Wait alive = ap is_none alive
+taken_tells me s say.Wait alive = waited_tells s s.phase alive
 taken_tells me s (say.Update seal part) alive = updated_tells s seal (read_part part) s.own alive
 taken_tells me s (say.Entries seal entries) alive = ap is_none alive
-taken_tells me s (say.Refused r) alive = ap is_none alive
-taken_tells me s _ alive = refl
+taken_tells me s (say.Refused r) alive = refused_tells s r s.awaiting alive
+taken_tells me s say.Kept alive = kept_tells s s.phase alive
+taken_tells me s (say.Content c) alive = ap is_none alive
+taken_tells me s say.Hi alive = refl
+taken_tells me s say.Gone alive = refl
+taken_tells me s say.Absent alive = refl
 
 read_tells : (me : ℕ) (s : Standing) (m : Option ToClient) (k : Option ℕ) → s.halted ≡ None → Tells (taken_or_halts me s m k)
 read_tells me s m (Some k) alive = refl
@@ -74,6 +102,7 @@ if_not false x y = refl
 pub taken_told : (g : Group) (me : ℕ) (s : Standing) (i : Input) → taken_by (step g me s i).next i ≡ read_by i (step g me s i).returns
 unfolding step
 taken_told g me s (input.Call o) = refl
+taken_told g me s (input.Object c) = refl
 taken_told g me s input.Poll = refl
 taken_told g me s input.Sync = refl
 taken_told g me s (input.Payload payload) =
@@ -82,14 +111,16 @@ taken_told g me s (input.Payload payload) =
 
 -- ---- the path
 
+no_entries : (o : Option ToClient) → ((m : ToClient) → o ≡ Some m → entries_of m ≡ []) → [] ≡ entries_in o
+no_entries None h = refl
+no_entries (Some m) h = sym (h m refl)
+
 onto_taken : (g : Group) (me : ℕ) (s : Standing) (i : Input) (v : Move) → Kind g me s i v → v.next.path ≡ onto (entries_in (taken_by v.next i)) s.path
-onto_taken g me s i v (is_quiet q) = q.path ∙ ap (λ (ts : List Tagged). onto ts s.path) (nothing (taken_by v.next i) q.seals_nothing)
-  where
-    nothing : (o : Option ToClient) → ((m : ToClient) → o ≡ Some m → (seal_of m ≡ None) × (entries_of m ≡ [])) → [] ≡ entries_in o
-    nothing None h = refl
-    nothing (Some m) h = sym (h m refl).1
+onto_taken g me s i v (is_quiet q) =
+    q.path ∙ ap (λ (ts : List Tagged). onto ts s.path) (no_entries (taken_by v.next i) (λ m e. (q.seals_nothing m e).1))
 onto_taken g me s i v (is_called c) =
-    ap (λ (m : Move). m.next.path) c.moved ∙ ap (λ (j : Input). onto (entries_in (taken_by v.next j)) s.path) (sym c.asked)
+    ap (λ (m : Move). m.next.path) c.moved
+    ∙ ap (λ (ts : List Tagged). onto ts s.path) (no_entries (taken_by v.next i) (λ m e. ap entries_of (c.takes m e)))
 onto_taken g me s i v (is_replied r) =
     ap (λ (m : Move). m.next.path) r.moved
     ∙ ap (λ (es : List Entry). es ++ s.path) (sym r.news)

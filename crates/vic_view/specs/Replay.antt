@@ -28,6 +28,7 @@ is_halt (Some (outcome.Halted k)) = true
 abbrev pub read_by : Input → Option Outcome → Option ToClient
 read_by (input.Payload payload) returned = if is_halt returned then None else read_answer payload
 read_by (input.Call o) returned = None
+read_by (input.Object c) returned = None
 read_by input.Poll returned = None
 read_by input.Sync returned = None
 
