@@ -9,6 +9,7 @@ use crate::{
 use std::alloc::Global;
 use std::test::Fail;
 use vic_dict::{Answer, Bytes, Entry, Mode, Names, NoMemory, Op, Outcome};
+use vic_rules::{ObjectCall, ObjectOutcome};
 use vic_tag::GroupKey;
 use vic_wire::Digest32;
 
@@ -88,8 +89,9 @@ fn nothing_done(rt: HostRuntime) -> Result<(), Fail> {
     Ok(())
 }
 
-/// A step: the client, the payload that it takes (none: it calls), what it sends, and whether it then returns Stored. In both
-/// texts the byte 240 stands for a digest of zeros: no tag is looked at here, and the dictionary is that without a key.
+/// A step: the client, the payload that it takes (none: it calls; `store` or `load`: it makes this call on objects), what it sends,
+/// and whether it then completes a call, always as Stored. In both texts the byte 240 stands for a digest of zeros: no tag is
+/// looked at here, and the dictionary is that without a key.
 type Row = (u8, &'static [u8], &'static [u8], bool);
 
 const CALL_1: Row = (1, b"", b"\x22\0\0\0\0\0\0\0\x01\x01\x01a\x01x\xf0", false);
@@ -159,6 +161,50 @@ const SEALED: Row = (
 /// Client 2 takes that seal.
 const SEAL_TAKEN: Row = (2, b"\x45\0\0\0\x01\xf0\xf0\0\0", b"", false);
 
+/// Client 1 stores the content x, and sends it to be kept.
+const KEEP: Row = (1, b"store", b"\x27x", false);
+
+/// It is kept; client 1 calls the put of its reference.
+const KEPT: Row = (
+    1,
+    b"\x47",
+    b"\x22\0\0\0\0\0\0\0\x01\x01\x01a\x24\xf0\0\0\0\x01\xf0",
+    false,
+);
+
+/// A Reply with this put alone.
+const REFERENCE_PUT: Row = (
+    1,
+    b"\x42\0\0\0\0\0\x01\x01\0\0\0\x01\x01\x01a\x24\xf0\0\0\0\x01\xf0\0\0\0\0\0",
+    b"\x23\0\0\0\x01\0\xf0",
+    true,
+);
+
+/// Client 2 loads the content, and calls the get of its name.
+const LOAD: Row = (2, b"load", b"\x22\0\0\0\0\0\0\0\x01\x02\x01a\xf0", false);
+
+/// A Reply with the put of client 1 and then the get of client 2.
+const REFERENCE_FOUND: Row = (
+    2,
+    b"\x42\0\0\0\0\0\x02\x01\0\0\0\x01\x01\x01a\x24\xf0\0\0\0\x01\xf0\x02\0\0\0\x01\x02\x01a\xf0\0\0\0\0\0",
+    b"\x23\0\0\0\x02\0\xf0",
+    true,
+);
+
+/// Client 2 is told to wait, and fetches the content.
+const FETCH: Row = (2, b"\x43", b"\x28\xf0", false);
+
+/// It takes the content.
+const CONTENT: Row = (2, b"\x48x", b"", false);
+
+/// Client 1 stores a content that has the bytes of the call of `CALL_1`.
+const KEEP_CALL: Row = (
+    1,
+    b"store",
+    b"\x27\x22\0\0\0\0\0\0\0\x01\x01\x01a\x01x\xf0",
+    false,
+);
+
 /// The calls that a view shows, each by its client and number.
 type Calls = &'static [(u8, u32)];
 
@@ -166,7 +212,7 @@ type Calls = &'static [(u8, u32)];
 /// some text was taken that no client had made.
 type Story = (&'static [Row], [Calls; 2], [u8; 2], bool);
 
-const STORIES: [Story; 6] = [
+const STORIES: [Story; 8] = [
     // Client 2 comes second, and takes the seal of client 1.
     (
         &[CALL_1, REPLY_1, CALL_2, REPLY_2_SECOND, SEALED, SEAL_TAKEN],
@@ -211,6 +257,28 @@ const STORIES: [Story; 6] = [
         [1, 2],
         true,
     ),
+    // Client 2 loads what client 1 stored. The views show the put and the get.
+    (
+        &[
+            KEEP,
+            KEPT,
+            REFERENCE_PUT,
+            LOAD,
+            REFERENCE_FOUND,
+            FETCH,
+            CONTENT,
+        ],
+        [&[(1, 1)], &[(1, 1), (2, 1)]],
+        [1, 1],
+        false,
+    ),
+    // Client 2 takes an entry that client 1 sent as a content, and never as a call.
+    (
+        &[KEEP_CALL, CALL_2, REPLY_2_SECOND],
+        [&[], &[(2, 1)]],
+        [1, 1],
+        true,
+    ),
 ];
 
 fn payload_of(alloc: Global, text: &[u8]) -> Result<Bytes, NoMemory> {
@@ -225,13 +293,32 @@ fn payload_of(alloc: Global, text: &[u8]) -> Result<Bytes, NoMemory> {
     Ok(payload)
 }
 
-fn step_of(alloc: Global, row: &Row) -> Result<TraceStep, NoMemory> {
-    let (client, taken, sent, stored) = *row;
-    let input = if taken.is_empty() {
-        Input::Call(Op::Get(Bytes::of(alloc, b"a")?))
+/// What a client is given at a step.
+fn input_of(alloc: Global, taken: &[u8]) -> Result<Input, NoMemory> {
+    let name = Bytes::of(alloc, b"a")?;
+    Ok(if taken.is_empty() {
+        Input::Call(Op::Get(name))
+    } else if taken == b"store" {
+        Input::Object(ObjectCall::Store(name, Bytes::of(alloc, b"x")?))
+    } else if taken == b"load" {
+        Input::Object(ObjectCall::Load(name))
     } else {
         Input::Payload(payload_of(alloc, taken)?)
-    };
+    })
+}
+
+/// What a call on objects returns at a step at which this payload is taken, as far as these stories go.
+fn object_of(alloc: Global, taken: &[u8]) -> Result<Option<ObjectOutcome>, NoMemory> {
+    if taken.is_empty() || taken[0] != 72 {
+        return Ok(None);
+    }
+    Ok(Some(ObjectOutcome::Content(Bytes::of(alloc, &taken[1..])?)))
+}
+
+fn step_of(alloc: Global, row: &Row) -> Result<TraceStep, NoMemory> {
+    let (client, taken, sent, stored) = *row;
+    let input = input_of(alloc, taken)?;
+    let object = object_of(alloc, taken)?;
     let sent = match sent.is_empty() {
         true => None,
         false => Some(payload_of(alloc, sent)?),
@@ -242,6 +329,7 @@ fn step_of(alloc: Global, row: &Row) -> Result<TraceStep, NoMemory> {
         input,
         sent,
         returned,
+        object,
     })
 }
 
