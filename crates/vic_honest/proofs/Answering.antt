@@ -1,15 +1,12 @@
 -- The server serves a client that stands well: what it answers is right, and it knows what it did.
-use Rattle.std.proofs.Common.{◌≡◌, ℕ, ◌+◌, ◌<◌, Bool, true, false, ◌&&◌, List, [], ◌∷◌, ◌++◌, length, Option, Some, None, inl, inr, refl, sym, ap, subst, ◌∙◌, arith, length-append, append_assoc}
+use Rattle.std.proofs.Common.{◌≡◌, ℕ, ◌+◌, ◌<◌, Bool, true, false, List, [], ◌∷◌, ◌++◌, length, Option, Some, None, inl, inr, refl, sym, ap, subst, ◌∙◌, arith, length-append, append_assoc}
 use Rattle.std.specs.Prelude.{if◌then◌else◌, nat_eq}
 use Rattle.std.proofs.lemmas.Bool.{lt-ltb, le-ltb, cases_lt}
 use Rattle.vic_dict.specs.Lists.{front, newest}
-use Rattle.vic_dict.specs.declared.op.Op.{Op}
-use Rattle.vic_dict.specs.Dictionary.{Dictionary}
 use Rattle.vic_wire.specs.declared.message.ToClient.TheVariants as say
 use Rattle.vic_wire.specs.Hashes.{Group}
-use Rattle.vic_wire.specs.Parts.{part_text, part_for, bare_part}
 use Rattle.vic_rules.specs.declared.state.Awaiting.TheVariants as awaits
-use Rattle.vic_rules.specs.Client.{Standing, is_write}
+use Rattle.vic_rules.specs.Client.{Standing}
 use Rattle.vic_order.specs.Order.{Ordered, Server, Answered, size, sealed_count, or_no_seal, seal_at_position, top_seal, ordered_at, commit_at, turn, turn_on, update_part}
 use Rattle.vic_order.specs.Fates.{dictionary_by}
 use Rattle.vic_honest.proofs.Words.{front-joined}

@@ -1,4 +1,4 @@
--- The answers of an honest server pass the eight checks.
+-- The answers of an honest server pass the nine checks.
 use Rattle.std.proofs.Common.{◌≡◌, ℕ, suc, zero, ◌+◌, ◌-◌, ◌≤◌, Bool, true, false, cond, not, ◌&&◌, List, [], ◌∷◌, ◌++◌, length, Some, None, is_some, refl, sym, ap, subst, ◌∙◌, arith, length-append, append_assoc}
 use Rattle.std.specs.Prelude.{if◌then◌else◌, nat_eq, nat_lt, nat_le, ◌||◌, not, ◌&&◌}
 use Rattle.std.specs.List.{AllByRecursion, list_all}
@@ -24,9 +24,11 @@ use Rattle.vic_wire.specs.Parts.{Part, read_part, part_for, part_root, reaches}
 use Rattle.vic_order.specs.Order.{update_part}
 use Rattle.vic_honest.proofs.SentParts.{IsSent, sent_for, sent_update, for_reaches}
 use Rattle.vic_roots.proofs.Proper.{proper-nothing, proper-after}
+use Rattle.vic_wire.specs.declared.message.Digest32.{Digest32}
+use Rattle.vic_rules.specs.Objects.{is_content_of}
 use Rattle.vic_rules.specs.declared.state.Own.{Own}
 use Rattle.vic_rules.specs.declared.state.Awaiting.TheVariants as awaits
-use Rattle.vic_rules.specs.Client.{Standing, grown, same_entry, is_awaited, has_form, is_open, is_other, is_reply_to, has_members, is_tagged, has_tags, entries_of, seal_of, goes_on, is_sealed, seal_text_on, keeps_own, shows, shows_open, shows_own, is_proved, is_next, has_turn, first_failing, verdict_on, is_done, is_write}
+use Rattle.vic_rules.specs.Client.{Standing, grown, same_entry, is_awaited, has_form, is_open, is_other, is_reply_to, has_members, is_tagged, has_tags, entries_of, seal_of, goes_on, is_sealed, seal_text_on, keeps_own, shows, shows_open, shows_own, is_proved, is_next, has_turn, has_content, is_wanted, first_failing, verdict_on, is_done, is_write}
 use Rattle.vic_laws.proofs.SameOp.{entry_same_itself}
 use Rattle.vic_laws.proofs.StepKinds.{onto_is}
 use Rattle.vic_order.specs.Order.{Ordered, tagged}
@@ -137,9 +139,10 @@ first_ok : (n : ℕ) (b : Bool) (cs : List (ℕ × Bool)) → b ≡ true → fir
 first_ok n b cs e h = ap (λ c. if c then first_failing cs else Some n) e ∙ h
 
 none_fails : (g : Group) (me : ℕ) (t : Standing) (m : ToClient) → has_form t m ≡ true → has_members g me t m ≡ true → has_tags g m ≡ true → goes_on t (seal_of m) ≡ true
-    → is_sealed g (grown t (entries_of m)) (seal_of m) ≡ true → keeps_own t (seal_of m) ≡ true → is_proved t m ≡ true → has_turn t m ≡ true → verdict_on g me t (Some m) ≡ None
-none_fails g me t m e1 e2 e3 e4 e5 e6 e7 e8 =
-    let c8 : List (ℕ × Bool) = (8, has_turn t m) ∷ [] in
+    → is_sealed g (grown t (entries_of m)) (seal_of m) ≡ true → keeps_own t (seal_of m) ≡ true → is_proved t m ≡ true → has_turn t m ≡ true → has_content me t m ≡ true → verdict_on g me t (Some m) ≡ None
+none_fails g me t m e1 e2 e3 e4 e5 e6 e7 e8 e9 =
+    let c9 : List (ℕ × Bool) = (9, has_content me t m) ∷ [] in
+    let c8 : List (ℕ × Bool) = (8, has_turn t m) ∷ c9 in
     let c7 : List (ℕ × Bool) = (7, is_proved t m) ∷ c8 in
     let c6 : List (ℕ × Bool) = (6, keeps_own t (seal_of m)) ∷ c7 in
     let c5 : List (ℕ × Bool) = (5, is_sealed g (grown t (entries_of m)) (seal_of m)) ∷ c6 in
@@ -147,7 +150,7 @@ none_fails g me t m e1 e2 e3 e4 e5 e6 e7 e8 =
     let c3 : List (ℕ × Bool) = (3, has_tags g m) ∷ c4 in
     let c2 : List (ℕ × Bool) = (2, has_members g me t m) ∷ c3 in
     first_ok 1 (has_form t m) c2 e1 (first_ok 2 (has_members g me t m) c3 e2 (first_ok 3 (has_tags g m) c4 e3 (first_ok 4 (goes_on t (seal_of m)) c5 e4
-    (first_ok 5 (is_sealed g (grown t (entries_of m)) (seal_of m)) c6 e5 (first_ok 6 (keeps_own t (seal_of m)) c7 e6 (first_ok 7 (is_proved t m) c8 e7 (first_ok 8 (has_turn t m) [] e8 refl)))))))
+    (first_ok 5 (is_sealed g (grown t (entries_of m)) (seal_of m)) c6 e5 (first_ok 6 (keeps_own t (seal_of m)) c7 e6 (first_ok 7 (is_proved t m) c8 e7 (first_ok 8 (has_turn t m) c9 e8 (first_ok 9 (has_content me t m) [] e9 refl))))))))
 
 -- ---- the answers
 
@@ -172,8 +175,9 @@ module _ (g : Group) (made : List (List ℕ)) (me : ℕ) (t : Standing) (seen : 
   pub reply_passes : (o : Ordered) (between over base : List Ordered) (number : ℕ) (call : Op) (load : Bool) → between ++ seen ≡ over ++ base → t.awaiting ≡ awaits.Reply number call load
       → o.entry ≡ record { client = me; seq = number; op = call } → AllOn (IsOrdered g) (o ∷ between) → NoneOf me between → o.sealed_then ≡ length base → t.sealed ≤ length base
       → length (o ∷ (between ++ seen)) ≤ o.sealed_then + 1024 → length (o ∷ (between ++ seen)) ≤ 1048576 → AllByRecursion (EntryFits made) base → AllByRecursion (IsAbove (length base)) t.own
+      → has_content me t (say.Reply (seal_on g base) (told (o ∷ between)) (part_for (dictionary_by base) o.entry.op)) ≡ true
       → verdict_on g me t (Some (say.Reply (seal_on g base) (told (o ∷ between)) (part_for (dictionary_by base) o.entry.op))) ≡ None
-  reply_passes o between over base number call load cut awaiting entry ordered none then_is from near few fits own =
+  reply_passes o between over base number call load cut awaiting entry ordered none then_is from near few fits own content =
       let seal : Seal = seal_on g base in
       let part : List ℕ = part_for (dictionary_by base) o.entry.op in
       let ts : List Tagged = told (o ∷ between) in
@@ -203,6 +207,7 @@ module _ (g : Group) (made : List (List ℕ)) (me : ℕ) (t : Standing) (seen : 
       (ap (λ p. shows_open p t.awaiting) is_part ∙ ap (shows_open (Some (cut_for (tree_of (dictionary_by base)) o.entry.op))) awaiting
       ∙ ap (reaches (cut_for (tree_of (dictionary_by base)) o.entry.op)) (sym call_is) ∙ for_reaches (dictionary_by base) (proper_by made base fits) o.entry.op))
       refl
+      content
 
   pub update_passes : (above : List Ordered) (o : Ordered) (below : List Ordered) (rest : List Own) (done : Bool) → done ≡ (own_of o below).done → seen ≡ above ++ o ∷ below → t.awaiting ≡ awaits.Turn → t.sealed ≤ length below
       → length seen ≤ 1048576 → AllByRecursion (EntryFits made) below → AllByRecursion (IsAbove (length below)) t.own → t.own ≡ own_of o below ∷ rest
@@ -227,6 +232,7 @@ module _ (g : Group) (made : List (List ℕ)) (me : ℕ) (t : Standing) (seen : 
       (and_from (shows (read_part part) seal.root.bytes) (shows_own (read_part part) t.own) (shown g below part is_sent.0 is_sent.1)
       (ap (λ p. shows_own p t.own) is_part ∙ ap (shows_own (Some is_sent.0)) next ∙ ap (λ b. not (b && is_write o.entry.op) || reaches is_sent.0 o.entry.op) (sym status) ∙ is_sent.2))
       (ap (is_next (seal.position + 1)) next ∙ eq-eqb (length (o ∷ below)) (seal.position + 1) (omega arith))
+      refl
 
   pub entries_pass : (between over base : List Ordered) → between ++ seen ≡ over ++ base → t.awaiting ≡ awaits.Entries → AllOn (IsOrdered g) between → NoneOf me between → t.sealed ≤ length base
       → length (between ++ seen) ≤ length base + 1024 → length (between ++ seen) ≤ 1048576 → AllByRecursion (IsAbove (length base)) t.own
@@ -250,10 +256,21 @@ module _ (g : Group) (made : List (List ℕ)) (me : ℕ) (t : Standing) (seen : 
       (own_hold seal.position t.own (subst (λ k. AllByRecursion (IsAbove k) t.own) (sym pos) own))
       refl
       refl
+      refl
 
 -- the answers without a seal
 pub wait_passes : (g : Group) (me : ℕ) (t : Standing) → t.awaiting ≡ awaits.Turn → verdict_on g me t (Some say.Wait) ≡ None
-wait_passes g me t awaiting = none_fails g me t say.Wait (ap (λ a. is_awaited a say.Wait) awaiting) refl refl refl refl refl refl refl
+wait_passes g me t awaiting = none_fails g me t say.Wait (ap (λ a. is_awaited a say.Wait) awaiting) refl refl refl refl refl refl refl refl
 
 pub refusal_passes : (g : Group) (me : ℕ) (t : Standing) (r number : ℕ) (call : Op) (load : Bool) → t.awaiting ≡ awaits.Reply number call load → verdict_on g me t (Some (say.Refused r)) ≡ None
-refusal_passes g me t r number call load awaiting = none_fails g me t (say.Refused r) (ap (λ a. is_awaited a (say.Refused r)) awaiting) refl refl refl refl refl refl refl
+refusal_passes g me t r number call load awaiting = none_fails g me t (say.Refused r) (ap (λ a. is_awaited a (say.Refused r)) awaiting) refl refl refl refl refl refl refl refl
+
+pub keep_refusal_passes : (g : Group) (me : ℕ) (t : Standing) (r : ℕ) → t.awaiting ≡ awaits.Kept → verdict_on g me t (Some (say.Refused r)) ≡ None
+keep_refusal_passes g me t r awaiting = none_fails g me t (say.Refused r) (ap (λ a. is_awaited a (say.Refused r)) awaiting) refl refl refl refl refl refl refl refl
+
+pub kept_passes : (g : Group) (me : ℕ) (t : Standing) → t.awaiting ≡ awaits.Kept → verdict_on g me t (Some say.Kept) ≡ None
+kept_passes g me t awaiting = none_fails g me t say.Kept (ap (λ a. is_awaited a say.Kept) awaiting) refl refl refl refl refl refl refl refl
+
+pub content_passes : (g : Group) (me : ℕ) (t : Standing) (c : List ℕ) (h : Digest32) (len : ℕ) → t.awaiting ≡ awaits.Content h len → is_content_of h.bytes len c ≡ true → verdict_on g me t (Some (say.Content c)) ≡ None
+content_passes g me t c h len awaiting wanted =
+    none_fails g me t (say.Content c) (ap (λ a. is_awaited a (say.Content c)) awaiting) refl refl refl refl refl refl refl (ap (λ a. is_wanted a c) awaiting ∙ wanted)

@@ -1,16 +1,20 @@
 -- What stays of a client's standing while the server serves others.
-use Rattle.std.proofs.Common.{◌≡◌, ℕ, suc, zero, ◌-◌, ◌<◌, ◌≤◌, Bool, true, List, [], ◌∷◌, ◌++◌, length, set, Some, refl, sym, ap, subst, ◌∙◌, arith, append_assoc}
+use Rattle.std.proofs.Common.{◌≡◌, ℕ, suc, zero, ◌-◌, ◌<◌, ◌≤◌, Bool, true, List, [], ◌∷◌, ◌++◌, length, set, Some, inl, inr, refl, sym, ap, subst, ◌∙◌, arith, append_assoc}
 use Rattle.std.specs.Prelude.{nat_eq, slice_get}
 use Rattle.std.specs.List.{AllByRecursion}
 use Rattle.std.proofs.lemmas.Bool.{eq-eqb}
 use Rattle.vic_wire.specs.declared.message.ToClient.{ToClient}
 use Rattle.vic_wire.specs.declared.message.ToClient.TheVariants as say
 use Rattle.vic_wire.specs.Hashes.{Group}
-use Rattle.vic_rules.specs.Client.{Standing, Invokes, Commits, Polls, Seals, Syncs}
+use Rattle.vic_rules.specs.Client.{Standing, Invokes, Commits, Polls, Seals, Syncs, Fetches}
+use Rattle.vic_rules.specs.Client.{Keeps as Contains}
+use Rattle.vic_dict.specs.declared.op.Op.{Op}
+use Rattle.vic_dict.specs.declared.op.Mode.TheVariants as mode
+use Rattle.vic_honest.proofs.Referred.{IsKept, Refers, refers_more}
 use Rattle.vic_order.specs.Order.{Ordered, Server, Member, sealed_count, commit_at, member, set_member, or_away}
 use Rattle.vic_honest.proofs.Standing.{Doing, Rests, Sends, Gets}
 use Rattle.vic_honest.proofs.Owns.{NoneOf, NoneOf-joined, owns-more, IsAbove}
-use Rattle.vic_honest.proofs.Knowing.{Keeps, Calm, ReplyComes, Does, ClientKnows}
+use Rattle.vic_honest.proofs.Knowing.{Keeps, Calm, OnObjects, ReplyComes, Does, ClientKnows}
 
 -- ---- members
 
@@ -42,6 +46,8 @@ pub record Later (j : ℕ) (s u : Server) : Type 0 where
   pub count : sealed_count s ≤ sealed_count u
   pub same : member u j ≡ member s j
   pub commits : (newer : List Ordered) (o : Ordered) (below : List Ordered) → s.log ≡ newer ++ o ∷ below → nat_eq o.entry.client j ≡ true → commit_at u (length (o ∷ below)) ≡ commit_at s (length (o ∷ below))
+  pub kind : u.mode ≡ s.mode
+  pub contents : (h : List ℕ) (len : ℕ) → IsKept s.contents h len → IsKept u.contents h len
   pub passes : (newer : List Ordered) (o : Ordered) (below : List Ordered) → s.log ≡ newer ++ o ∷ below → nat_eq o.entry.client j ≡ true → sealed_count s < length (o ∷ below) → sealed_count u < length (o ∷ below)
 
 module _ (g : Group) (j : ℕ) (s u : Server) (l : Later j s u) (t : Standing) (seen newer : List Ordered) (log : s.log ≡ newer ++ seen) where
@@ -80,7 +86,14 @@ module _ (g : Group) (j : ℕ) (s u : Server) (l : Later j s u) (t : Standing) (
         (owns-more j (length k.base) (λ n. sealed_count s < n) (λ n. sealed_count u < n) seen (subst (AllByRecursion (IsAbove (sealed_count s))) k.own k.unsealed)
         (λ above o below split mine higher. l.passes (newer ++ above) o below (in_log above o below split) mine higher));
     last = subst (λ m. m.last ≤ t.calls) (sym l.same) k.last;
+    fetching = λ h len is. let f = k.fetching h len is in (l.kind ∙ f.0, l.contents h.bytes len f.1);
   }
+
+  objects_stay : (load : Bool) → OnObjects s t load → OnObjects u t load
+  objects_stay load o = record { calling = λ e. l.kind ∙ o.calling e; loads = λ e. l.kind ∙ o.loads e }
+
+  refers_stays : (o : Op) → (s.mode ≡ mode.Objects → Refers s.contents o) → u.mode ≡ mode.Objects → Refers u.contents o
+  refers_stays o r objects = refers_more s.contents u.contents l.contents o (r (sym l.kind ∙ objects))
 
   reply_stays : (m : ToClient) → ReplyComes g j s t seen newer m → ReplyComes g j u t seen (l.new ++ newer) m
   reply_stays m r = record {
@@ -92,6 +105,7 @@ module _ (g : Group) (j : ℕ) (s u : Server) (l : Later j s u) (t : Standing) (
     number = r.number;
     op = r.op;
     load = r.load;
+    objects = objects_stay r.load r.objects;
     split = ap (λ x. l.new ++ x) r.split ∙ sym (append_assoc l.new r.later (r.o ∷ r.between));
     cut = r.cut;
     awaiting = r.awaiting;
@@ -108,7 +122,7 @@ module _ (g : Group) (j : ℕ) (s u : Server) (l : Later j s u) (t : Standing) (
 
   does_stays : (doing : Doing) → Does g j s t seen newer doing → Does g j u t seen (l.new ++ newer) doing
   does_stays Rests d = (d.0, calm_stays d.1)
-  does_stays (Sends (Invokes n o)) d = record { awaiting = d.awaiting; number = d.number; new = subst (λ m. m.last < n) (sym l.same) d.new; fits = d.fits; calm = calm_stays d.calm }
+  does_stays (Sends (Invokes n o)) d = record { load = d.load; objects = objects_stay d.load d.objects; refers = refers_stays o d.refers; awaiting = d.awaiting; number = d.number; new = subst (λ m. m.last < n) (sym l.same) d.new; fits = d.fits; calm = calm_stays d.calm }
   does_stays (Sends (Commits done)) d = record {
     o = d.o;
     below = d.below;
@@ -136,6 +150,17 @@ module _ (g : Group) (j : ℕ) (s u : Server) (l : Later j s u) (t : Standing) (
     others = NoneOf-joined j l.new newer l.others d.others;
   }
   does_stays (Sends Syncs) d = (d.0, calm_stays d.1)
+  does_stays (Sends (Contains c)) d = record { key = d.key; awaiting = d.awaiting; at = d.at; holds = d.holds; small = d.small; objects = l.kind ∙ d.objects; calm = calm_stays d.calm }
+  does_stays (Sends (Fetches h)) d = record {
+    digest = d.digest;
+    len = d.len;
+    is = d.is;
+    awaiting = d.awaiting;
+    kept = l.contents h d.len d.kept;
+    long = d.long;
+    objects = l.kind ∙ d.objects;
+    calm = calm_stays d.calm;
+  }
   does_stays (Gets say.Hi) d = d
   does_stays (Gets (say.Reply seal es part)) d = reply_stays (say.Reply seal es part) d
   does_stays (Gets say.Wait) d = (d.0, calm_stays d.1)
@@ -166,9 +191,21 @@ module _ (g : Group) (j : ℕ) (s u : Server) (l : Later j s u) (t : Standing) (
     calm = calm_stays d.calm;
     message = d.message;
   }
-  does_stays (Gets (say.Refused r)) d = record { number = d.number; op = d.op; load = d.load; awaiting = d.awaiting; limit = d.limit; calm = calm_stays d.calm }
-  does_stays (Gets say.Kept) d = d
-  does_stays (Gets (say.Content c)) d = d
+  does_stays (Gets (say.Refused r)) (inl d) = inl (record { number = d.number; op = d.op; load = d.load; awaiting = d.awaiting; limit = d.limit; calm = calm_stays d.calm })
+  does_stays (Gets (say.Refused r)) (inr d) = inr (record { awaiting = d.awaiting; full = d.full; calm = calm_stays d.calm })
+  does_stays (Gets say.Kept) d = record {
+    key = d.key;
+    h = d.h;
+    len = d.len;
+    awaiting = d.awaiting;
+    at = d.at;
+    holds = d.holds;
+    kept = l.contents d.h.bytes d.len d.kept;
+    small = d.small;
+    objects = l.kind ∙ d.objects;
+    calm = calm_stays d.calm;
+  }
+  does_stays (Gets (say.Content c)) d = record { digest = d.digest; len = d.len; awaiting = d.awaiting; is = d.is; calm = calm_stays d.calm }
   does_stays (Gets say.Gone) d = d
   does_stays (Gets say.Absent) d = d
 
@@ -186,4 +223,4 @@ client_stays g j s u l t up down c = record {
 
 -- a server that stays as it is
 pub same_server : (j : ℕ) (s : Server) → Later j s s
-same_server j s = record { new = []; grown = refl; others = tt; count = omega arith; same = refl; commits = λ newer o below is mine. refl; passes = λ newer o below is mine higher. higher }
+same_server j s = record { new = []; grown = refl; others = tt; count = omega arith; same = refl; commits = λ newer o below is mine. refl; kind = refl; contents = λ h len k. k; passes = λ newer o below is mine higher. higher }

@@ -1,5 +1,5 @@
 -- The invariant by which no client halts: what each client keeps, and what is under way for it, by the server's log.
-use Rattle.std.specs.Prelude.{◌≡◌, ℕ, ◌+◌, ◌<◌, ◌≤◌, Bool, true, false, List, ◌∷◌, ◌++◌, length, Some, None, nat_eq}
+use Rattle.std.specs.Prelude.{◌≡◌, ℕ, ◌+◌, ◌<◌, ◌≤◌, ◌⊎◌, Bool, true, List, ◌∷◌, ◌++◌, length, Some, None, nat_eq}
 use Rattle.std.specs.List.{AllByRecursion}
 use Rattle.vic_dict.specs.declared.op.Op.{Op}
 use Rattle.vic_dict.specs.Dictionary.{Fits, AreBytesIn}
@@ -10,7 +10,14 @@ use Rattle.vic_wire.specs.Hashes.{Group, tag_of}
 use Rattle.vic_wire.specs.Messages.{HasSpelling}
 use Rattle.vic_wire.specs.Parts.{part_for}
 use Rattle.vic_rules.specs.declared.state.Awaiting.TheVariants as awaits
-use Rattle.vic_rules.specs.Client.{Standing, Invokes, Commits, Polls, Seals, Syncs, is_done}
+use Rattle.vic_rules.specs.Client.{Standing, Invokes, Commits, Polls, Seals, Syncs, Fetches, is_done}
+use Rattle.vic_rules.specs.Client.{Keeps as Contains}
+use Rattle.vic_wire.specs.declared.message.Digest32.{Digest32}
+use Rattle.vic_dict.specs.declared.op.Mode.TheVariants as mode
+use Rattle.vic_rules.specs.declared.object.Phase.TheVariants as phase
+use Rattle.vic_rules.specs.Objects.{content_hash, is_content_of}
+use Rattle.vic_laws.proofs.Steps.{PhaseFits}
+use Rattle.vic_honest.proofs.Referred.{IsKept, Refers}
 use Rattle.vic_order.specs.declared.Stage.TheVariants as stage
 use Rattle.vic_order.specs.Order.{Ordered, Server, size, sealed_count, commit_at, member, update_part}
 use Rattle.vic_order.specs.Fates.{entries, fate, dictionary_by}
@@ -43,6 +50,9 @@ pub record ServerKnows (g : Group) (s : Server) : Type 0 where
   pub fates : (newer : List Ordered) (o : Ordered) (below : List Ordered) (done : Bool) → s.log ≡ newer ++ o ∷ below → commit_at s (length (o ∷ below)) ≡ Some done → done ≡ is_done (fate o below)
   pub unmade : (n : ℕ) → size s < n → commit_at s n ≡ None
   pub past : AllByRecursion (IsPast (sealed_count s)) s.log
+  pub kind : s.mode ≡ g.mode
+  -- in a group with objects each put is of a reference of a content that is kept
+  pub referred : s.mode ≡ mode.Objects → AllByRecursion (λ o. Refers s.contents o.entry.op) s.log
 
 -- ---- a client
 
@@ -59,6 +69,8 @@ pub record Keeps (me : ℕ) (s : Server) (t : Standing) (seen newer : List Order
   pub own : t.own ≡ owns me (length base) seen
   pub unsealed : AllByRecursion (IsAbove (sealed_count s)) t.own
   pub last : (member s me).last ≤ t.calls
+  -- a content that it is to fetch is kept
+  pub fetching : (h : Digest32) (len : ℕ) → t.phase ≡ phase.Fetching h len → (s.mode ≡ mode.Objects) × IsKept s.contents h.bytes len
 
 -- its calls are all on its path, and the server awaits no commit of it
 pub record Calm (me : ℕ) (s : Server) (t : Standing) (newer : List Ordered) : Type 0 where
@@ -66,8 +78,16 @@ pub record Calm (me : ℕ) (s : Server) (t : Standing) (newer : List Ordered) : 
   pub sealed : t.sealed ≤ sealed_count s
   pub others : NoneOf me newer
 
+-- a call on objects is one of a group with objects
+pub record OnObjects (s : Server) (t : Standing) (load : Bool) : Type 0 where
+  pub calling : t.phase ≡ phase.Calling → s.mode ≡ mode.Objects
+  pub loads : load ≡ true → s.mode ≡ mode.Objects
+
 pub record InvokeGoes (me : ℕ) (s : Server) (t : Standing) (newer : List Ordered) (n : ℕ) (o : Op) : Type 0 where
-  pub awaiting : t.awaiting ≡ awaits.Reply n o false
+  pub load : Bool
+  pub objects : OnObjects s t load
+  pub refers : s.mode ≡ mode.Objects → Refers s.contents o
+  pub awaiting : t.awaiting ≡ awaits.Reply n o load
   pub number : n ≡ t.calls
   pub new : (member s me).last < n
   pub fits : Fits o × AreBytesIn o
@@ -110,6 +130,7 @@ pub record ReplyComes (g : Group) (me : ℕ) (s : Server) (t : Standing) (seen n
   pub number : ℕ
   pub op : Op
   pub load : Bool
+  pub objects : OnObjects s t load
   pub split : newer ≡ later ++ o ∷ between
   pub cut : between ++ seen ≡ over ++ base
   pub awaiting : t.awaiting ≡ awaits.Reply number op load
@@ -161,6 +182,52 @@ pub record RefusalComes (me : ℕ) (s : Server) (t : Standing) (newer : List Ord
   pub limit : (0 < r) × (r ≤ 4)
   pub calm : Calm me s t newer
 
+-- a content of a new hash had no room
+pub record KeepRefused (me : ℕ) (s : Server) (t : Standing) (newer : List Ordered) (r : ℕ) : Type 0 where
+  pub awaiting : t.awaiting ≡ awaits.Kept
+  pub full : r ≡ 7
+  pub calm : Calm me s t newer
+
+-- the content of a store is sent
+pub record KeepGoes (me : ℕ) (s : Server) (t : Standing) (newer : List Ordered) (c : List ℕ) : Type 0 where
+  pub key : List ℕ
+  pub awaiting : t.awaiting ≡ awaits.Kept
+  pub at : t.phase ≡ phase.Keeping key (record { bytes = content_hash c }) (length c)
+  pub holds : PhaseFits t.calls (phase.Keeping key (record { bytes = content_hash c }) (length c))
+  pub small : length c ≤ 8388608
+  pub objects : s.mode ≡ mode.Objects
+  pub calm : Calm me s t newer
+
+pub record KeptComes (me : ℕ) (s : Server) (t : Standing) (newer : List Ordered) : Type 0 where
+  pub key : List ℕ
+  pub h : Digest32
+  pub len : ℕ
+  pub awaiting : t.awaiting ≡ awaits.Kept
+  pub at : t.phase ≡ phase.Keeping key h len
+  pub holds : PhaseFits t.calls (phase.Keeping key h len)
+  pub kept : IsKept s.contents h.bytes len
+  pub small : len ≤ 8388608
+  pub objects : s.mode ≡ mode.Objects
+  pub calm : Calm me s t newer
+
+-- a content that is kept is asked for
+pub record FetchGoes (me : ℕ) (s : Server) (t : Standing) (newer : List Ordered) (h : List ℕ) : Type 0 where
+  pub digest : Digest32
+  pub len : ℕ
+  pub is : h ≡ digest.bytes
+  pub awaiting : t.awaiting ≡ awaits.Content digest len
+  pub kept : IsKept s.contents h len
+  pub long : length h ≡ 32
+  pub objects : s.mode ≡ mode.Objects
+  pub calm : Calm me s t newer
+
+pub record ContentComes (me : ℕ) (s : Server) (t : Standing) (newer : List Ordered) (c : List ℕ) : Type 0 where
+  pub digest : Digest32
+  pub len : ℕ
+  pub awaiting : t.awaiting ≡ awaits.Content digest len
+  pub is : is_content_of digest.bytes len c ≡ true
+  pub calm : Calm me s t newer
+
 abbrev pub Does : Group → ℕ → Server → Standing → List Ordered → List Ordered → Doing → Type 0
 Does g me s t seen newer Rests = (t.awaiting ≡ awaits.Nothing) × Calm me s t newer
 Does g me s t seen newer (Sends (Invokes n o)) = InvokeGoes me s t newer n o
@@ -168,14 +235,16 @@ Does g me s t seen newer (Sends (Commits done)) = CommitGoes me s t seen newer d
 Does g me s t seen newer (Sends Polls) = (t.awaiting ≡ awaits.Turn) × Calm me s t newer
 Does g me s t seen newer (Sends Seals) = SealGoes me s t seen newer
 Does g me s t seen newer (Sends Syncs) = (t.awaiting ≡ awaits.Entries) × Calm me s t newer
+Does g me s t seen newer (Sends (Contains c)) = KeepGoes me s t newer c
+Does g me s t seen newer (Sends (Fetches h)) = FetchGoes me s t newer h
 Does g me s t seen newer (Gets say.Hi) = ⊥
 Does g me s t seen newer (Gets (say.Reply seal es part)) = ReplyComes g me s t seen newer (say.Reply seal es part)
 Does g me s t seen newer (Gets say.Wait) = (t.awaiting ≡ awaits.Turn) × Calm me s t newer
 Does g me s t seen newer (Gets (say.Update seal part)) = UpdateComes g me s t seen newer (say.Update seal part)
 Does g me s t seen newer (Gets (say.Entries seal es)) = EntriesCome g me s t seen newer (say.Entries seal es)
-Does g me s t seen newer (Gets (say.Refused r)) = RefusalComes me s t newer r
-Does g me s t seen newer (Gets say.Kept) = ⊥
-Does g me s t seen newer (Gets (say.Content c)) = ⊥
+Does g me s t seen newer (Gets (say.Refused r)) = RefusalComes me s t newer r ⊎ KeepRefused me s t newer r
+Does g me s t seen newer (Gets say.Kept) = KeptComes me s t newer
+Does g me s t seen newer (Gets (say.Content c)) = ContentComes me s t newer c
 Does g me s t seen newer (Gets say.Gone) = ⊥
 Does g me s t seen newer (Gets say.Absent) = ⊥
 

@@ -1,9 +1,24 @@
 -- In every world of an honest run each client stands well.
-use Rattle.std.proofs.Common.{◌≡◌, ℕ, suc, zero, ◌+◌, ◌-◌, ◌<◌, ◌≤◌, ◌^◌, false, List, [], ◌∷◌, ◌++◌, length, replicate, Some, is_none, inl, inr, refl, sym, ap, subst, ◌∙◌, arith, append_assoc}
+use Rattle.std.proofs.Common.{◌≡◌, ℕ, suc, zero, ◌+◌, ◌-◌, ◌<◌, ◌≤◌, ◌^◌, Bool, true, false, List, [], ◌∷◌, ◌++◌, length, replicate, Some, is_none, inl, inr, refl, sym, ap, subst, ◌∙◌, arith, append_assoc}
 use Rattle.std.specs.Prelude.{slice_get}
 use Rattle.std.specs.List.{AllByRecursion}
 use Rattle.std.proofs.lemmas.Bool.{cases_eq, and_parts}
 use Rattle.std.proofs.lemmas.List.{length-replicate}
+use Rattle.sha2.proofs.Facts256.{length-sha256}
+use Rattle.vic_spellings.proofs.Bytes.{bytes-sha256}
+use Rattle.vic_dict.specs.declared.op.Op.{Op}
+use Rattle.vic_dict.specs.declared.op.Op.TheVariants as op
+use Rattle.vic_dict.specs.declared.op.Mode.TheVariants as mode
+use Rattle.vic_dict.specs.Dictionary.{Fits, AreBytesIn}
+use Rattle.vic_wire.specs.declared.message.Digest32.{Digest32}
+use Rattle.vic_wire.specs.declared.message.ToServer.TheVariants as ask
+use Rattle.vic_rules.specs.declared.object.Phase.{Phase}
+use Rattle.vic_rules.specs.declared.object.Phase.TheVariants as phase
+use Rattle.vic_rules.specs.declared.object.ObjectCall.TheVariants as object
+use Rattle.vic_rules.specs.Objects.{content_hash}
+use Rattle.vic_rules.specs.Client.{Keeps as Contains}
+use Rattle.vic_honest.proofs.Referred.{kept_by, IsKept, Refers}
+use Rattle.vic_honest.proofs.Sent.{IsApart, apart_front, all_sent, one_content}
 use Rattle.vic_wire.specs.declared.message.ToClient.{ToClient}
 use Rattle.vic_wire.specs.Hashes.{Group, IsGroup}
 use Rattle.vic_wire.specs.Messages.{HasSpelling, HasRequestSpelling, request_text, answer_text}
@@ -13,7 +28,7 @@ use Rattle.vic_rules.specs.declared.state.Awaiting.TheVariants as awaits
 use Rattle.vic_rules.specs.declared.trace.Input.{Input}
 use Rattle.vic_rules.specs.declared.trace.Input.TheVariants as input
 use Rattle.vic_rules.specs.declared.trace.TraceStep.{TraceStep}
-use Rattle.vic_rules.specs.Client.{Standing, Sending, Invokes, Commits, Polls, Seals, Syncs, Move, step, IsIdle, request_of, awaits_nothing}
+use Rattle.vic_rules.specs.Client.{Standing, Sending, Invokes, Commits, Polls, Seals, Syncs, Fetches, calls_op, Move, step, IsIdle, request_of, awaits_nothing}
 use Rattle.vic_rules.specs.History.{standing, Completion, completion, completions, path}
 use Rattle.vic_rules.specs.Trust.{texts_made}
 use Rattle.vic_order.specs.Order.{Ordered, Server, Answered, fresh_server, ready, or_away, member, serve, serve_read}
@@ -36,8 +51,8 @@ use Rattle.vic_honest.proofs.Knowing.{ServerKnows, Keeps, Calm, Does, IsSpelled,
 use Rattle.vic_honest.proofs.Checks.{nothing_is, root_on-nil}
 use Rattle.vic_honest.proofs.Frame.{client_stays}
 use Rattle.vic_honest.proofs.Answering.{Answers}
-use Rattle.vic_honest.proofs.Requests.{request_answers}
-use Rattle.vic_honest.proofs.Learning.{IsFated, IsFine, Stands, Learns, stands_sending, answer_learnt}
+use Rattle.vic_honest.proofs.Requests.{IsOne, request_answers}
+use Rattle.vic_honest.proofs.Learning.{IsFated, IsFine, EndsFine, Stands, Learns, stands_sending, answer_learnt}
 
 -- each client stands well, each completed call has its fate, and nothing else was returned but refusals for want of room
 pub record WorldKnows (g : Group) (w : World) : Type 0 where
@@ -45,6 +60,7 @@ pub record WorldKnows (g : Group) (w : World) : Type 0 where
   pub clients : (me : ℕ) → 0 < me → me ≤ g.count → ClientKnows g me w.server (standing g me w.history) (w.up me) (w.down me)
   pub fates : AllByRecursion (IsFated w.server.log) (completions g w.history)
   pub fine : AllByRecursion (λ x. IsFine x.returned) w.history
+  pub ends : AllByRecursion (λ x. EndsFine x.object) w.history
 
 abbrev pub SceneKnows : Scene → Server → Type 0
 SceneKnows s server = WorldKnows s.group (world_of s server)
@@ -108,6 +124,7 @@ module _ (s : Scene) (server : Server) (one : HasOne s server) (know : WorldKnow
         (all_append (IsFated server.log) (completion me (path s.group me (x ∷ s.history)) v.returns) (completions s.group s.history)
         (subst (λ t. AllByRecursion (IsFated server.log) (completion me t.path v.returns)) (sym (standing_moved s.group me x s.history refl)) learns.fates) know.fates);
     fine = (learns.fine, know.fine);
+    ends = (learns.ends, know.ends);
   }
 
 -- ---- asking
@@ -135,8 +152,9 @@ module _ (s : Scene) (server : Server) (fit : SceneFits s server) (know : SceneK
   calm_now idle = let none = nothing_under_way idle in
       rests_calm s.group me server here client.seen client.newer (queue_of s.up me) (queue_of s.down me) client.doing none.0 none.1 client.up_is client.down_is client.does
 
-  keeps_asking : (a : Awaiting) (calls : ℕ) → here.calls ≤ calls → Keeps me server (record here { awaiting = a; calls = calls }) client.seen client.newer
-  keeps_asking a calls more = record {
+  keeps_asking : (a : Awaiting) (p : Phase) (calls : ℕ) → here.calls ≤ calls → ((h : Digest32) (len : ℕ) → p ≡ phase.Fetching h len → (server.mode ≡ mode.Objects) × IsKept server.contents h.bytes len)
+      → Keeps me server (record here { awaiting = a; phase = p; calls = calls }) client.seen client.newer
+  keeps_asking a p calls more fetching = record {
     over = client.keeps.over;
     base = client.keeps.base;
     log = client.keeps.log;
@@ -148,10 +166,32 @@ module _ (s : Scene) (server : Server) (fit : SceneFits s server) (know : SceneK
     own = client.keeps.own;
     unsealed = client.keeps.unsealed;
     last = omega (arith, client.keeps.last);
+    fetching = fetching;
   }
 
-  calm_asking : (a : Awaiting) (calls : ℕ) → IsIdle here → Calm me server (record here { awaiting = a; calls = calls }) client.newer
-  calm_asking a calls idle = let c = calm_now idle in record { ready = c.ready; sealed = c.sealed; others = c.others }
+  calm_asking : (a : Awaiting) (p : Phase) (calls : ℕ) → IsIdle here → Calm me server (record here { awaiting = a; phase = p; calls = calls }) client.newer
+  calm_asking a p calls idle = let c = calm_now idle in record { ready = c.ready; sealed = c.sealed; others = c.others }
+
+  -- a client that calls an operation stands well
+  op_known : (p : Phase) (o : Op) (load : Bool) → ((h : Digest32) (len : ℕ) → p ≡ phase.Fetching h len → ⊥) → (p ≡ phase.Calling → server.mode ≡ mode.Objects) → (load ≡ true → server.mode ≡ mode.Objects)
+      → (server.mode ≡ mode.Objects → Refers server.contents o) → Fits o → AreBytesIn o → IsIdle here → Learns s.group me server (calls_op here p o load)
+  op_known p o load not_fetching calling loads refers fits bytes idle = record {
+    client = stands_sending s.group me server (calls_op here p o load).next (Invokes (here.calls + 1) o) client.seen client.newer
+        (keeps_asking (awaits.Reply (here.calls + 1) o load) p (here.calls + 1) (omega arith) (λ h len e. absurd (not_fetching h len e)))
+        (record {
+          load = load;
+          objects = record { calling = calling; loads = loads };
+          refers = refers;
+          awaiting = refl;
+          number = refl;
+          new = omega (arith, client.keeps.last);
+          fits = (fits, bytes);
+          calm = calm_asking (awaits.Reply (here.calls + 1) o load) p (here.calls + 1) idle;
+        });
+    fates = tt;
+    fine = tt;
+    ends = tt;
+  }
 
   asked : (i : Input) → IsIdle here → Learns s.group me server (move s.group (world_of s server) me i) → SceneKnows (steps s me i) server
   asked i idle learns = let none = nothing_under_way idle in step_knows s server fit.one know me above upto i s.down (λ j apart low. refl) learns none.0 none.1
@@ -160,25 +200,53 @@ module _ (s : Scene) (server : Server) (fit : SceneFits s server) (know : SceneK
   unfolding step
   asks_know (input.Call o) may =
       let ask = may in
-      let n : ℕ = here.calls + 1 in
-      let a : Awaiting = awaits.Reply n o false in
-      asked (input.Call o) ask.0 (record {
-        client = stands_sending s.group me server (record here { calls = n; awaiting = a }) (Invokes n o) client.seen client.newer (keeps_asking a n (omega arith))
-            (record { awaiting = refl; number = refl; new = omega (arith, client.keeps.last); fits = (ask.1.1.0, ask.1.1.1.0); calm = calm_asking a n ask.0 });
+      asked (input.Call o) ask.0 (op_known phase.Closed o false (λ h len e. absurd cc) (λ e. absurd cc) (λ e. absurd cc)
+      (λ objects. let other : mode.Plain ≡ mode.Objects = sym ask.1.0 ∙ (sym know.server.kind ∙ objects) in absurd cc) ask.1.1.0 ask.1.1.1.0 ask.0)
+  asks_know (input.Object (object.Store k c)) may =
+      let ask = may in
+      let h : Digest32 = record { bytes = content_hash c } in
+      let p : Phase = phase.Keeping k h (length c) in
+      asked (input.Object (object.Store k c)) ask.0 (record {
+        client = stands_sending s.group me server (record here { awaiting = awaits.Kept; phase = p }) (Contains c) client.seen client.newer
+            (keeps_asking awaits.Kept p here.calls (omega arith) (λ h len e. absurd cc))
+            (record {
+              key = k;
+              awaiting = refl;
+              at = refl;
+              holds = (((ask.1.1.0.0, ask.1.1.1.0.0), (length-sha256 _, bytes-sha256 _)), ask.1.1.1.1);
+              small = ask.1.1.0.1;
+              objects = know.server.kind ∙ ask.1.0;
+              calm = calm_asking awaits.Kept p here.calls ask.0;
+            });
         fates = tt;
         fine = tt;
+        ends = tt;
       })
+  asks_know (input.Object (object.Load k)) may =
+      let ask = may in
+      let here_too : server.mode ≡ mode.Objects = know.server.kind ∙ ask.1.0 in
+      asked (input.Object (object.Load k)) ask.0 (op_known phase.Calling (op.Get k) true (λ h len e. absurd cc) (λ e. here_too) (λ e. here_too) (λ e. tt) ask.1.1.0 ask.1.1.1.0 ask.0)
+  asks_know (input.Object (object.Erase k)) may =
+      let ask = may in
+      let here_too : server.mode ≡ mode.Objects = know.server.kind ∙ ask.1.0 in
+      asked (input.Object (object.Erase k)) ask.0 (op_known phase.Calling (op.Del k) false (λ h len e. absurd cc) (λ e. here_too) (λ e. here_too) (λ e. tt) ask.1.1.0 ask.1.1.1.0 ask.0)
+  asks_know (input.Object (object.Names q)) may =
+      let ask = may in
+      let here_too : server.mode ≡ mode.Objects = know.server.kind ∙ ask.1.0 in
+      asked (input.Object (object.Names q)) ask.0 (op_known phase.Calling (op.List q) false (λ h len e. absurd cc) (λ e. here_too) (λ e. here_too) (λ e. tt) (omega (arith, ask.1.1.0)) ask.1.1.1.0 ask.0)
   asks_know input.Poll may =
       asked input.Poll may (record {
-        client = stands_sending s.group me server (record here { awaiting = awaits.Turn }) Polls client.seen client.newer (keeps_asking awaits.Turn here.calls (omega arith)) (refl, calm_asking awaits.Turn here.calls may);
+        client = stands_sending s.group me server (record here { awaiting = awaits.Turn }) Polls client.seen client.newer (keeps_asking awaits.Turn here.phase here.calls (omega arith) client.keeps.fetching) (refl, calm_asking awaits.Turn here.phase here.calls may);
         fates = tt;
         fine = tt;
+        ends = tt;
       })
   asks_know input.Sync may =
       asked input.Sync may (record {
-        client = stands_sending s.group me server (record here { awaiting = awaits.Entries }) Syncs client.seen client.newer (keeps_asking awaits.Entries here.calls (omega arith)) (refl, calm_asking awaits.Entries here.calls may);
+        client = stands_sending s.group me server (record here { awaiting = awaits.Entries }) Syncs client.seen client.newer (keeps_asking awaits.Entries here.phase here.calls (omega arith) client.keeps.fetching) (refl, calm_asking awaits.Entries here.phase here.calls may);
         fates = tt;
         fine = tt;
+        ends = tt;
       })
   asks_know (input.Payload payload) may = absurd may
 
@@ -192,17 +260,35 @@ request_spelled g me s t seen newer fits room keeps (Commits done) d = ((omega (
 request_spelled g me s t seen newer fits room keeps Polls d = tt
 request_spelled g me s t seen newer fits room keeps Seals d = ((omega (arith, d.position), omega (arith, fits.sealed)), (fits.root, length-tag _ _))
 request_spelled g me s t seen newer fits room keeps Syncs d = room
+request_spelled g me s t seen newer fits room keeps (Contains c) d = d.small
+request_spelled g me s t seen newer fits room keeps (Fetches h) d = d.long
 
-pub served_as : {g : Group} (s : Server) (k : ServerKnows g s) (me : ℕ) → 0 < me → me ≤ g.count → (t : Standing) (seen newer : List Ordered) → Keeps me s t seen newer → (sending : Sending) (payload : List ℕ)
-    → Does g me s t seen newer (Sends sending) → read_request payload ≡ Some (request_of g me t sending) → Answers g me s t seen newer (serve s me payload)
+pub served_as : {g : Group} (s : Server) (k : ServerKnows g s) (me : ℕ) (above : 0 < me) (upto : me ≤ g.count) (t : Standing) (seen newer : List Ordered) (keeps : Keeps me s t seen newer) (sending : Sending) (payload : List ℕ)
+    → Does g me s t seen newer (Sends sending) → IsOne g s k me above upto t seen newer keeps sending → read_request payload ≡ Some (request_of g me t sending) → Answers g me s t seen newer (serve s me payload)
 unfolding serve
-served_as {g} s k me above upto t seen newer keeps sending payload does read =
-    subst (λ r. Answers g me s t seen newer (serve_read s me r)) (sym read) (request_answers g s k me above upto t seen newer keeps sending does)
+served_as {g} s k me above upto t seen newer keeps sending payload does one read =
+    subst (λ r. Answers g me s t seen newer (serve_read s me r)) (sym read) (request_answers g s k me above upto t seen newer keeps sending does one)
 
 fresh_member : (n i : ℕ) → i < n → slice_get (replicate n ready) i ≡ Some ready
 fresh_member zero i h = absurd (omega arith)
 fresh_member (suc n) zero h = refl
 fresh_member (suc n) (suc i) h = fresh_member n i (omega arith)
+
+-- of a content that waits to be kept the server keeps no other with its hash
+one_here : (g : Group) (s : Server) (k : ServerKnows g s) (me : ℕ) (above : 0 < me) (upto : me ≤ g.count) (t : Standing) (seen newer : List Ordered) (keeps : Keeps me s t seen newer) (x : Sending) → Does g me s t seen newer (Sends x)
+    → (g.mode ≡ mode.Objects → (c : List ℕ) → request_of g me t x ≡ ask.Keep c → (y : List ℕ) → kept_by s.contents (content_hash c) ≡ Some y → y ≡ c) → IsOne g s k me above upto t seen newer keeps x
+one_here g s k me above upto t seen newer keeps (Contains c) d h = h (sym k.kind ∙ d.objects) c refl
+one_here g s k me above upto t seen newer keeps (Invokes n o) d h = tt
+one_here g s k me above upto t seen newer keeps (Commits done) d h = tt
+one_here g s k me above upto t seen newer keeps Polls d h = tt
+one_here g s k me above upto t seen newer keeps Seals d h = tt
+one_here g s k me above upto t seen newer keeps Syncs d h = tt
+one_here g s k me above upto t seen newer keeps (Fetches x) d h = tt
+
+-- in this scene, of each content that waits to be kept the server keeps no other with its hash
+abbrev OneContent : Scene → Server → Type 0
+OneContent s server = s.group.mode ≡ mode.Objects → (me : ℕ) → 0 < me → me ≤ s.group.count → (c : List ℕ) → queue_of s.up me ≡ request_text (ask.Keep c) ∷ []
+    → (y : List ℕ) → kept_by server.contents (content_hash c) ≡ Some y → y ≡ c
 
 module _ (s : Scene) (server : Server) (fit : SceneFits s server) (know : SceneKnows s server) (me : ℕ) (above : 0 < me) (upto : me ≤ s.group.count) where
   -- what is answered has a spelling
@@ -219,10 +305,10 @@ module _ (s : Scene) (server : Server) (fit : SceneFits s server) (know : SceneK
           (payload_served s.group fit.one.group (texts_made s.group s.history) server me above upto (standing s.group me s.history) seen newer is path fits fit.fits.server sending does).answer.spelled
       by_doing seen newer is path fits (Gets m) up does = absurd (no_item (queue_of s.up me) payload up up_is)
 
-  sent_known : (seen newer : List Ordered) → Keeps me server (standing s.group me s.history) seen newer → (sending : Sending) → (payload : List ℕ)
+  sent_known : OneContent s server → (seen newer : List Ordered) → Keeps me server (standing s.group me s.history) seen newer → (sending : Sending) → (payload : List ℕ)
       → request_text (request_of s.group me (standing s.group me s.history) sending) ≡ payload → queue_of s.up me ≡ payload ∷ [] → queue_of s.down me ≡ []
       → Does s.group me server (standing s.group me s.history) seen newer (Sends sending) → SceneKnows (served_with s me [] (by_rule server me me payload)) (serve server me payload).next
-  sent_known seen newer keeps sending payload payload_is up_is down_is does =
+  sent_known only seen newer keeps sending payload payload_is up_is down_is does =
       let g : Group = s.group in
       let t : Standing = standing g me s.history in
       let c : ClientFits g (texts_made g s.history) me server.log (standing g me s.history) (queue_of s.up me) (queue_of s.down me) = fit.fits.clients me above upto in
@@ -230,7 +316,9 @@ module _ (s : Scene) (server : Server) (fit : SceneFits s server) (know : SceneK
       let room : length t.path < 2 ^ 32 = room_left g (texts_made g s.history) server t c.seen c.newer fit.fits.server c.is c.path in
       let read : read_request payload ≡ Some (request_of g me t sending) =
       ap read_request (sym payload_is) ∙ request_again (request_of g me t sending) (request_spelled g me server t seen newer c.fits room keeps sending does) in
-      let v : Answers g me server t seen newer a = served_as server know.server me above upto t seen newer keeps sending payload does read in
+      let one : IsOne g server know.server me above upto t seen newer keeps sending =
+      one_here g server know.server me above upto t seen newer keeps sending does (λ objects c e y found. only objects me above upto c (up_is ∙ ap (λ p. p ∷ []) (sym payload_is ∙ ap request_text e)) y found) in
+      let v : Answers g me server t seen newer a = served_as server know.server me above upto t seen newer keeps sending payload does one read in
       let up : List Queue = set_queue s.up me [] in
       let joined : Queue = queue_of s.down me ++ answer_text a.answer ∷ [] in
       let down : List Queue = set_queue s.down me joined in
@@ -257,22 +345,23 @@ module _ (s : Scene) (server : Server) (fit : SceneFits s server) (know : SceneK
         fates = subst (λ l. AllByRecursion (IsFated l) (completions g s.history)) (sym grown)
             (all_weaker (IsFated server.log) (IsFated (v.new ++ server.log)) (fated-grows v.new server.log) (completions g s.history) know.fates);
         fine = know.fine;
+        ends = know.ends;
       }
 
-  serves_by : (queue_of s.up me ≡ [] → ⊥) → (seen newer : List Ordered) → Keeps me server (standing s.group me s.history) seen newer → (doing : Doing)
+  serves_by : OneContent s server → (queue_of s.up me ≡ [] → ⊥) → (seen newer : List Ordered) → Keeps me server (standing s.group me s.history) seen newer → (doing : Doing)
       → queue_of s.up me ≡ up_by s.group me (standing s.group me s.history) doing → queue_of s.down me ≡ down_by doing
       → Does s.group me server (standing s.group me s.history) seen newer doing → SceneKnows (serves by_rule s me) (served_next server me (queue_of s.up me))
   unfolding serves
-  serves_by waits seen newer keeps Rests up_is down_is does = absurd (waits up_is)
-  serves_by waits seen newer keeps (Sends sending) up_is down_is does =
+  serves_by only waits seen newer keeps Rests up_is down_is does = absurd (waits up_is)
+  serves_by only waits seen newer keeps (Sends sending) up_is down_is does =
       let payload : List ℕ = request_text (request_of s.group me (standing s.group me s.history) sending) in
       subst (λ q. SceneKnows (served by_rule s me q (server_at s.servers (server_of s.served_by me))) (served_next server me q)) (sym up_is)
       (subst (λ o. SceneKnows (served by_rule s me (payload ∷ []) o) (serve server me payload).next) (sym (server_is s server fit.one me above upto))
-      (sent_known seen newer keeps sending payload refl up_is down_is does))
-  serves_by waits seen newer keeps (Gets m) up_is down_is does = absurd (waits up_is)
+      (sent_known only seen newer keeps sending payload refl up_is down_is does))
+  serves_by only waits seen newer keeps (Gets m) up_is down_is does = absurd (waits up_is)
 
-  serves_know : (queue_of s.up me ≡ [] → ⊥) → SceneKnows (serves by_rule s me) (served_next server me (queue_of s.up me))
-  serves_know waits = let c = know.clients me above upto in serves_by waits c.seen c.newer c.keeps c.doing c.up_is c.down_is c.does
+  serves_know : OneContent s server → (queue_of s.up me ≡ [] → ⊥) → SceneKnows (serves by_rule s me) (served_next server me (queue_of s.up me))
+  serves_know only waits = let c = know.clients me above upto in serves_by only waits c.seen c.newer c.keeps c.doing c.up_is c.down_is c.does
 
   -- ---- taking
 
@@ -280,7 +369,7 @@ module _ (s : Scene) (server : Server) (fit : SceneFits s server) (know : SceneK
       → queue_of s.up me ≡ [] → Does s.group me server (standing s.group me s.history) seen newer (Gets m) → SceneKnows (taken unchanged s me (answer_text m ∷ [])) server
   got_known seen newer keeps m spelled up_is does =
       step_knows s server fit.one know me above upto (input.Payload (answer_text m)) (set_queue s.down me []) (λ j apart low. queue-set_other s.down me j [] above low apart)
-      (answer_learnt s.group (texts_made s.group s.history) server know.server fit.fits.server.log fit.fits.server.room me (standing s.group me s.history) seen newer keeps (answer_text m) m (answer_again m spelled) does)
+      (answer_learnt s.group (texts_made s.group s.history) server know.server fit.fits.server.log fit.fits.server.room me (standing s.group me s.history) seen newer keeps (answer_text m) (fit.fits.clients me above upto).fits.phase m (answer_again m spelled) does)
       up_is (queue-set_same s.down me [] above (omega (arith, upto, fit.one.down_count)))
 
   takes_by : (queue_of s.down me ≡ [] → ⊥) → (seen newer : List Ordered) → Keeps me server (standing s.group me s.history) seen newer → (doing : Doing)
@@ -309,6 +398,8 @@ opening_knows g = record {
     fates = λ newer o below done is committed. absurd cc;
     unmade = λ n past. refl;
     past = tt;
+    kind = refl;
+    referred = λ objects. tt;
   };
   clients = λ j low high.
       let member_is : member (fresh_server g.mode g.count ready) j ≡ ready = ap or_away (fresh_member g.count (j - 1) (omega arith)) in
@@ -327,6 +418,7 @@ opening_knows g = record {
           own = sym (owns-nil j 0);
           unsealed = tt;
           last = subst (λ m. m.last ≤ 0) (sym member_is) (omega arith);
+          fetching = λ h len e. absurd cc;
         };
         doing = Rests;
         up_is = queue-fresh g.count j;
@@ -336,19 +428,25 @@ opening_knows g = record {
       };
   fates = tt;
   fine = tt;
+  ends = tt;
 }
 
-happens_known : (s : Scene) (server : Server) → SceneFits s server → SceneKnows s server → (m : Event) → MayHonestly s m → SceneKnows (happens by_rule s m) (server_next s server m)
-happens_known s server fit know (Asks me i) may = asks_know s server fit know me may.1.0 may.1.1 i may.1.2
-happens_known s server fit know (Serves me) may = serves_know s server fit know me may.1.0 may.1.1 may.1.2
-happens_known s server fit know (Takes me) may = takes_know s server fit know me may.1.0 may.1.1 may.1.2
-happens_known s server fit know (Flips me n) may = absurd may.0
-happens_known s server fit know (Hears me payload) may = absurd may.0
-happens_known s server fit know (Resends me) may = absurd may.0
-happens_known s server fit know (Copies n t) may = absurd may.0
-happens_known s server fit know (Joins me n) may = absurd may.0
+happens_known : (s : Scene) (server : Server) → SceneFits s server → OneContent s server → SceneKnows s server → (m : Event) → MayHonestly s m → SceneKnows (happens by_rule s m) (server_next s server m)
+happens_known s server fit only know (Asks me i) may = asks_know s server fit know me may.1.0 may.1.1 i may.1.2
+happens_known s server fit only know (Serves me) may = serves_know s server fit know me may.1.0 may.1.1 only may.1.2
+happens_known s server fit only know (Takes me) may = takes_know s server fit know me may.1.0 may.1.1 may.1.2
+happens_known s server fit only know (Flips me n) may = absurd may.0
+happens_known s server fit only know (Hears me payload) may = absurd may.0
+happens_known s server fit only know (Resends me) may = absurd may.0
+happens_known s server fit only know (Copies n t) may = absurd may.0
+happens_known s server fit only know (Joins me n) may = absurd may.0
 
-pub all_known : (g : Group) → IsGroup g → (events : List Event) → AreHonest g events → SceneKnows (scene_after g events) (server_after g events)
+pub all_known : (g : Group) → IsGroup g → (events : List Event) → AreHonest g events → IsApart (scene_after g events) → SceneKnows (scene_after g events) (server_after g events)
 unfolding server_after
-all_known g group [] h = opening_knows g
-all_known g group (m ∷ before) h = happens_known (scene_after g before) (server_after g before) (all_fit g group before h.0) (all_known g group before h.0) m h.1
+all_known g group [] h apart = opening_knows g
+all_known g group (m ∷ before) h apart =
+    let here : Scene = scene_after g before in
+    let v : Server = server_after g before in
+    let fit : SceneFits here v = all_fit g group before h.0 in
+    let apart_before : IsApart here = apart_front here m h.1 apart in
+    happens_known here v fit (one_content here v (all_sent g group before h.0) apart_before) (all_known g group before h.0 apart_before) m h.1

@@ -1,5 +1,5 @@
 -- A client takes an answer of an honest server: it goes on, and what it returns is what the log makes of its call.
-use Rattle.std.proofs.Common.{◌≡◌, ℕ, suc, ◌+◌, ◌<◌, ◌≤◌, Bool, true, false, ◌&&◌, List, [], ◌∷◌, ◌++◌, length, Option, Some, None, refl, sym, ap, subst, ◌∙◌, arith, length-append, append_assoc}
+use Rattle.std.proofs.Common.{◌≡◌, ℕ, suc, ◌+◌, ◌<◌, ◌≤◌, Bool, true, false, ◌&&◌, List, [], ◌∷◌, ◌++◌, length, Option, Some, None, ◌⊎◌, inl, inr, refl, sym, ap, subst, ◌∙◌, arith, length-append, append_assoc}
 use Rattle.std.specs.Prelude.{if◌then◌else◌, nat_eq, not, ◌||◌, ◌&&◌}
 use Rattle.std.specs.List.{AllByRecursion, filter}
 use Rattle.std.proofs.lemmas.Bool.{eq-eqb}
@@ -9,6 +9,20 @@ use Rattle.vic_dict.specs.declared.op.Entry.{Entry}
 use Rattle.vic_dict.specs.declared.op.Outcome.{Outcome}
 use Rattle.vic_dict.specs.declared.op.Outcome.TheVariants as outcome
 use Rattle.vic_dict.specs.Dictionary.{Dictionary, after}
+use Rattle.std.specs.Int.{w32, to_be_bytes}
+use Rattle.vic_spellings.proofs.Bytes.{bytes-append, bytes-w32}
+use Rattle.vic_dict.specs.declared.op.Answer.{Answer}
+use Rattle.vic_dict.specs.declared.op.Answer.TheVariants as answer
+use Rattle.vic_dict.specs.declared.op.Mode.TheVariants as mode
+use Rattle.vic_wire.specs.declared.message.Digest32.{Digest32}
+use Rattle.vic_rules.specs.declared.object.Phase.{Phase}
+use Rattle.vic_rules.specs.declared.object.Phase.TheVariants as phase
+use Rattle.vic_rules.specs.declared.object.Next.TheVariants as next
+use Rattle.vic_rules.specs.declared.object.ObjectOutcome.{ObjectOutcome}
+use Rattle.vic_rules.specs.declared.object.ObjectOutcome.TheVariants as ended
+use Rattle.vic_rules.specs.Objects.{Stepped, answered, over_with, ended_by, is_reference, hash_in, length_in, kept_at, after_decision, reference_text}
+use Rattle.vic_honest.proofs.Referred.{IsKept, Refers}
+use Rattle.vic_honest.proofs.Found.{IsGood, fate_good, finds_ok, after_fetching, reference_long, reference_good}
 use Rattle.vic_wire.specs.declared.message.Seal.{Seal}
 use Rattle.vic_wire.specs.declared.message.ToClient.{ToClient}
 use Rattle.vic_wire.specs.declared.message.ToClient.TheVariants as say
@@ -28,18 +42,18 @@ use Rattle.vic_rules.specs.declared.state.Own.{Own}
 use Rattle.vic_rules.specs.declared.state.Awaiting.{Awaiting}
 use Rattle.vic_rules.specs.declared.state.Awaiting.TheVariants as awaits
 use Rattle.vic_rules.specs.declared.trace.Input.TheVariants as input
-use Rattle.vic_rules.specs.Client.{Standing, Sending, Commits, Seals, Move, step, payload_of, grown, decision, decided, replied, replied_to, updated, sealed_to, listed_to, new_root, is_write, is_done, taken, taken_or_halts, on_payload, verdict, verdict_on}
+use Rattle.vic_rules.specs.Client.{Standing, Sending, Invokes, Commits, Seals, Fetches, Move, calls_op, waited, goes_to, refused_at, finds_reference, loads_reference, has_content, step, payload_of, grown, decision, decided, replied, replied_to, updated, sealed_to, listed_to, new_root, is_write, is_done, taken, taken_or_halts, on_payload, verdict, verdict_on}
 use Rattle.vic_rules.specs.History.{Completion, completion}
 use Rattle.vic_laws.proofs.Words.{all_weaker, all_append}
 use Rattle.vic_order.specs.Order.{Ordered, Server, size, sealed_count}
 use Rattle.vic_order.specs.Fates.{entries, fate, dictionary_by}
 use Rattle.vic_order.specs.Scenes.{queued}
 use Rattle.vic_honest.proofs.Words.{length-entries, told, all-second}
-use Rattle.vic_honest.proofs.Standing.{EntryFits, Rests, Sends, Gets}
+use Rattle.vic_honest.proofs.Standing.{EntryFits, PhaseHolds, Rests, Sends, Gets}
 use Rattle.vic_honest.proofs.Owns.{AllOn, AllOn-second, NoneOf, NoneOf-first, NoneOf-second, root_on, seal_on, seal_on-position, owns, own_of, owns-mine, owns-others, owns-filter, owns-higher, owns-next, owns-above, above, IsAbove}
 use Rattle.vic_honest.proofs.Deciding.{dictionary-next, decides}
-use Rattle.vic_honest.proofs.Knowing.{IsOrdered, ServerKnows, Keeps, Calm, ReplyComes, UpdateComes, EntriesCome, RefusalComes, Does, ClientKnows}
-use Rattle.vic_honest.proofs.Checks.{part_is, update_is, proper_by, seal_on-root, grown_told, reply_passes, update_passes, entries_pass, wait_passes, refusal_passes}
+use Rattle.vic_honest.proofs.Knowing.{IsOrdered, ServerKnows, Keeps, Calm, ReplyComes, UpdateComes, EntriesCome, RefusalComes, KeepRefused, KeptComes, ContentComes, Does, ClientKnows}
+use Rattle.vic_honest.proofs.Checks.{part_is, update_is, proper_by, seal_on-root, grown_told, reply_passes, update_passes, entries_pass, wait_passes, refusal_passes, keep_refusal_passes, kept_passes, content_passes}
 
 -- ---- what is shown of a move
 
@@ -61,6 +75,18 @@ IsFine (Some (outcome.Aborted u)) = Unit {0}
 IsFine (Some (outcome.Refused r)) = (0 < r) × (r ≤ 4)
 IsFine (Some (outcome.Halted n)) = ⊥
 
+-- a call on objects is refused for want of room alone, of a log or of what is kept
+abbrev pub EndsFine : Option ObjectOutcome → Type 0
+EndsFine None = Unit {0}
+EndsFine (Some ended.Stored) = Unit {0}
+EndsFine (Some (ended.Content c)) = Unit {0}
+EndsFine (Some ended.Missing) = Unit {0}
+EndsFine (Some ended.Removed) = Unit {0}
+EndsFine (Some ended.Absent) = Unit {0}
+EndsFine (Some (ended.Names names)) = Unit {0}
+EndsFine (Some (ended.Aborted u)) = Unit {0}
+EndsFine (Some (ended.Refused r)) = ((0 < r) × (r ≤ 4)) ⊎ (r ≡ 7)
+
 -- where the client stands once it has moved there and sent that
 abbrev pub Stands : Group → ℕ → Server → Standing → Option Sending → Type 0
 Stands g me s t sends = ClientKnows g me s t (queued [] (payload_of g me t sends)) []
@@ -69,6 +95,7 @@ pub record Learns (g : Group) (me : ℕ) (s : Server) (v : Move) : Type 0 where
   pub client : Stands g me s v.next v.sends
   pub fates : AllByRecursion (IsFated s.log) (completion me v.next.path v.returns)
   pub fine : IsFine v.returns
+  pub ends : EndsFine v.object
 
 module _ (g : Group) (me : ℕ) (s : Server) where
   pub stands_sending : (t : Standing) (sending : Sending) (seen newer : List Ordered) → Keeps me s t seen newer → Does g me s t seen newer (Sends sending) → Stands g me s t (Some sending)
@@ -90,6 +117,28 @@ decided_fine (Some u) d o = tt
 fate_fine : (o : Ordered) (below : List Ordered) → IsFine (Some (fate o below))
 unfolding fate
 fate_fine o below = decided_fine _ _ _
+
+answered_ends : (a : Answer) → EndsFine (over_with (answered a).1)
+answered_ends answer.Stored = tt
+answered_ends (answer.Found v) = by_test (is_reference v)
+  where
+    by_test : (b : Bool) → EndsFine (over_with (if◌then◌else◌ {A = Stepped} b (phase.Fetching (record { bytes = hash_in v }) (length_in v), next.Fetch (record { bytes = hash_in v }) (length_in v)) (phase.Closed, next.Bad)).1)
+    by_test true = tt
+    by_test false = tt
+answered_ends answer.NotFound = tt
+answered_ends answer.Removed = tt
+answered_ends answer.Absent = tt
+answered_ends (answer.Names names) = tt
+
+-- a call on objects ends so with a decided call of its own
+outcome_ends : (p : Phase) (x : Outcome) → IsFine (Some x) → EndsFine (ended_by p x)
+outcome_ends phase.Closed x h = tt
+outcome_ends (phase.Keeping k d len) x h = tt
+outcome_ends (phase.Fetching d len) x h = tt
+outcome_ends phase.Calling (outcome.Done a) h = answered_ends a
+outcome_ends phase.Calling (outcome.Aborted u) h = tt
+outcome_ends phase.Calling (outcome.Refused r) h = inl h
+outcome_ends phase.Calling (outcome.Halted k) h = tt
 
 -- ---- moves as equations
 
@@ -132,6 +181,18 @@ unfolding root_on
 new_root-is g o below part proper bytes cut shown =
     ap (λ r. new_root (own_of o below) part r) (seal_on-root g below) ∙ root_chosen (is_done (fate o below)) o.entry.op (dictionary_by below) part proper bytes cut shown ∙ ap dictionary_root (sym (dictionary-next o below))
 
+-- a load's Reply passes the last check where what it finds is a reference
+load_content : (me : ℕ) (t : Standing) (seal : Seal) (p below : List Entry) (e : Entry) (found : Option Part) (part : Part) (a : Awaiting) (n : ℕ) (o : Op) (load : Bool) (position : ℕ) (p_op : Op) (ends : Outcome)
+    → p ≡ e ∷ below → found ≡ Some part → a ≡ awaits.Reply n o load → seal.position ≡ position → o ≡ p_op → decision me t below position part p_op ≡ ends
+    → (load ≡ true → finds_reference ends ≡ true) → loads_reference me t seal p found a ≡ true
+load_content me t seal p below e found part a n o load position p_op ends e1 e2 e3 e4 e5 e6 good =
+    ap (λ x. loads_reference me t seal x found a) e1 ∙ ap (λ f. loads_reference me t seal (e ∷ below) f a) e2 ∙ ap (loads_reference me t seal (e ∷ below) (Some part)) e3 ∙ by_load load good
+  where
+    by_load : (b : Bool) → (b ≡ true → finds_reference ends ≡ true) → loads_reference me t seal (e ∷ below) (Some part) (awaits.Reply n o b) ≡ true
+    by_load true h =
+        ap (λ k. finds_reference (decision me t below k part o)) e4 ∙ ap (λ x. finds_reference (decision me t below position part x)) e5 ∙ ap finds_reference e6 ∙ h refl
+    by_load false h = refl
+
 -- ---- the answers
 
 module _ (g : Group) (made : List (List ℕ)) (s : Server) (k : ServerKnows g s) (fits : AllByRecursion (EntryFits made) s.log) (room : size s ≤ 1048576)
@@ -155,6 +216,10 @@ module _ (g : Group) (made : List (List ℕ)) (s : Server) (k : ServerKnows g s)
   fits_at : (new old : List Ordered) → s.log ≡ new ++ old → AllByRecursion (EntryFits made) old
   fits_at new old is = all-second (EntryFits made) new old (subst (AllByRecursion (EntryFits made)) is fits)
 
+  below_refers : (new : List Ordered) (o : Ordered) (below : List Ordered) → s.log ≡ new ++ o ∷ below → s.mode ≡ mode.Objects → AllByRecursion (λ x. Refers s.contents x.entry.op) below
+  below_refers new o below is objects =
+      let all = all-second (λ x. Refers s.contents x.entry.op) new (o ∷ below) (subst (AllByRecursion (λ x. Refers s.contents x.entry.op)) is (k.referred objects)) in all.1
+
   ordered_at : (new old : List Ordered) → s.log ≡ new ++ old → AllOn (IsOrdered g) old
   ordered_at new old is = AllOn-second (IsOrdered g) new old (subst (AllOn (IsOrdered g)) is k.ordered)
 
@@ -162,9 +227,10 @@ module _ (g : Group) (made : List (List ℕ)) (s : Server) (k : ServerKnows g s)
   all_on_first [] old h = tt
   all_on_first (o ∷ new) old h = (record { member = h.0.member; tag = h.0.tag; near = omega (arith, h.0.near, length-append new old) }, all_on_first new old h.1)
 
-  -- it awaits something else, or nothing
-  keeps_waiting : (a : Awaiting) → Keeps me s (record t { awaiting = a }) seen newer
-  keeps_waiting a = record {
+  -- it awaits something else, or nothing, and its call on objects has come elsewhere
+  keeps_waiting : (a : Awaiting) (p : Phase) (n : ℕ) → t.calls ≤ n → ((h : Digest32) (len : ℕ) → p ≡ phase.Fetching h len → (s.mode ≡ mode.Objects) × IsKept s.contents h.bytes len)
+      → Keeps me s (record t { awaiting = a; phase = p; calls = n }) seen newer
+  keeps_waiting a p n more fetching = record {
     over = keeps.over;
     base = keeps.base;
     log = keeps.log;
@@ -175,20 +241,94 @@ module _ (g : Group) (made : List (List ℕ)) (s : Server) (k : ServerKnows g s)
     root = keeps.root;
     own = keeps.own;
     unsealed = keeps.unsealed;
-    last = keeps.last;
+    last = omega (arith, keeps.last, more);
+    fetching = fetching;
   }
 
-  rests_so : Calm me s t newer → Stands g me s (record t { awaiting = awaits.Nothing }) None
-  rests_so calm = stands_resting g me s (record t { awaiting = awaits.Nothing }) seen newer (keeps_waiting awaits.Nothing) (refl, record { ready = calm.ready; sealed = calm.sealed; others = calm.others })
+  rests_so : (p : Phase) → ((h : Digest32) (len : ℕ) → p ≡ phase.Fetching h len → (s.mode ≡ mode.Objects) × IsKept s.contents h.bytes len) → Calm me s t newer
+      → Stands g me s (record t { awaiting = awaits.Nothing; phase = p }) None
+  rests_so p fetching calm = stands_resting g me s (record t { awaiting = awaits.Nothing; phase = p }) seen newer (keeps_waiting awaits.Nothing p t.calls (omega arith) fetching) (refl, record { ready = calm.ready; sealed = calm.sealed; others = calm.others })
+
+  -- after Wait: a load fetches the content that it found
+  wait_by : (p : Phase) → t.phase ≡ p → PhaseHolds t.calls p → Calm me s t newer → Learns g me s (waited t p)
+  wait_by phase.Closed e holds calm = record { client = rests_so t.phase keeps.fetching calm; fates = tt; fine = tt; ends = tt }
+  wait_by (phase.Keeping k h len) e holds calm = record { client = rests_so t.phase keeps.fetching calm; fates = tt; fine = tt; ends = tt }
+  wait_by phase.Calling e holds calm = record { client = rests_so t.phase keeps.fetching calm; fates = tt; fine = tt; ends = tt }
+  wait_by (phase.Fetching h len) e holds calm =
+      let f = keeps.fetching h len e in
+      record {
+        client = stands_sending g me s (record t { awaiting = awaits.Content h len }) (Fetches h.bytes) seen newer (keeps_waiting (awaits.Content h len) t.phase t.calls (omega arith) keeps.fetching) (record {
+          digest = h;
+          len = len;
+          is = refl;
+          awaiting = refl;
+          kept = f.1;
+          long = holds;
+          objects = f.0;
+          calm = record { ready = calm.ready; sealed = calm.sealed; others = calm.others };
+        });
+        fates = tt;
+        fine = tt;
+        ends = tt;
+      }
+
+  -- after a refusal nothing is to be fetched that wasn't before
+  refused_fetching : (r : ℕ) (p : Phase) → ((h : Digest32) (len : ℕ) → p ≡ phase.Fetching h len → (s.mode ≡ mode.Objects) × IsKept s.contents h.bytes len)
+      → (h : Digest32) (len : ℕ) → after_decision p (outcome.Refused r) ≡ phase.Fetching h len → (s.mode ≡ mode.Objects) × IsKept s.contents h.bytes len
+  refused_fetching r phase.Closed old h len e = absurd cc
+  refused_fetching r (phase.Keeping k d n) old h len e = absurd cc
+  refused_fetching r phase.Calling old h len e = absurd cc
+  refused_fetching r (phase.Fetching d n) old h len e = old h len e
+
+  refused_by : (r : ℕ) (a : Awaiting) (n : ℕ) (o : Op) (load : Bool) → a ≡ awaits.Reply n o load → (0 < r) × (r ≤ 4) → Calm me s t newer → Learns g me s (refused_at t r a)
+  refused_by r a n o load e limit calm = subst (λ x. Learns g me s (refused_at t r x)) (sym e) (record {
+    client = rests_so (after_decision t.phase (outcome.Refused r)) (refused_fetching r t.phase keeps.fetching) calm;
+    fates = tt;
+    fine = limit;
+    ends = outcome_ends t.phase (outcome.Refused r) limit;
+  })
 
   module _ (payload : List ℕ) where
-    pub wait_learnt : read_answer payload ≡ Some say.Wait → t.awaiting ≡ awaits.Turn → Calm me s t newer → Learns g me s (step g me t (input.Payload payload))
-    wait_learnt read awaiting calm =
-        subst (Learns g me s) (sym (step_takes g me t payload say.Wait keeps.going read (wait_passes g me t awaiting))) (record { client = rests_so calm; fates = tt; fine = tt })
+    pub wait_learnt : PhaseHolds t.calls t.phase → read_answer payload ≡ Some say.Wait → t.awaiting ≡ awaits.Turn → Calm me s t newer → Learns g me s (step g me t (input.Payload payload))
+    wait_learnt holds read awaiting calm =
+        subst (Learns g me s) (sym (step_takes g me t payload say.Wait keeps.going read (wait_passes g me t awaiting))) (wait_by t.phase refl holds calm)
 
     pub refusal_learnt : (r : ℕ) → read_answer payload ≡ Some (say.Refused r) → RefusalComes me s t newer r → Learns g me s (step g me t (input.Payload payload))
     refusal_learnt r read c =
-        subst (Learns g me s) (sym (step_takes g me t payload (say.Refused r) keeps.going read (refusal_passes g me t r c.number c.op c.load c.awaiting))) (record { client = rests_so c.calm; fates = tt; fine = c.limit })
+        subst (Learns g me s) (sym (step_takes g me t payload (say.Refused r) keeps.going read (refusal_passes g me t r c.number c.op c.load c.awaiting)))
+        (refused_by r t.awaiting c.number c.op c.load c.awaiting c.limit c.calm)
+
+    pub keep_refusal_learnt : (r : ℕ) → read_answer payload ≡ Some (say.Refused r) → KeepRefused me s t newer r → Learns g me s (step g me t (input.Payload payload))
+    keep_refusal_learnt r read c =
+        subst (Learns g me s) (sym (step_takes g me t payload (say.Refused r) keeps.going read (keep_refusal_passes g me t r c.awaiting) ∙ ap (refused_at t r) c.awaiting))
+        (record { client = rests_so phase.Closed (λ h len e. absurd cc) c.calm; fates = tt; fine = tt; ends = inr c.full })
+
+    pub kept_learnt : read_answer payload ≡ Some say.Kept → KeptComes me s t newer → Learns g me s (step g me t (input.Payload payload))
+    kept_learnt read c =
+        let w = c.holds.0 in
+        let v : List ℕ = reference_text c.h.bytes c.len in
+        let o : Op = op.Put c.key v in
+        let n : ℕ = t.calls + 1 in
+        subst (Learns g me s) (sym (step_takes g me t payload say.Kept keeps.going read (kept_passes g me t c.awaiting) ∙ ap (λ p. goes_to t false (kept_at p)) c.at)) (record {
+          client = stands_sending g me s (calls_op t phase.Calling o false).next (Invokes n o) seen newer (keeps_waiting (awaits.Reply n o false) phase.Calling n (omega arith) (λ h len e. absurd cc)) (record {
+            load = false;
+            objects = record { calling = λ e. c.objects; loads = λ e. absurd cc };
+            refers = λ e. reference_good s.contents c.h.bytes c.len w.1.0 (omega (arith, c.small)) c.kept;
+            awaiting = refl;
+            number = refl;
+            new = omega (arith, keeps.last);
+            fits = ((w.0.0, omega (arith, reference_long c.h.bytes c.len w.1.0)), (w.0.1, bytes-append c.h.bytes (to_be_bytes w32 c.len) w.1.1 (bytes-w32 c.len)));
+            calm = record { ready = c.calm.ready; sealed = c.calm.sealed; others = c.calm.others };
+          });
+          fates = tt;
+          fine = tt;
+          ends = tt;
+        })
+
+    pub content_learnt : (c : List ℕ) → read_answer payload ≡ Some (say.Content c) → ContentComes me s t newer c → Learns g me s (step g me t (input.Payload payload))
+    content_learnt c read d =
+        subst (Learns g me s) (sym (step_takes g me t payload (say.Content c) keeps.going read (content_passes g me t c d.digest d.len d.awaiting d.is)))
+        (record { client = rests_so phase.Closed (λ h len e. absurd cc) d.calm; fates = tt; fine = tt; ends = tt })
 
     pub reply_learnt : (m : ToClient) → read_answer payload ≡ Some m → ReplyComes g me s t seen newer m → Learns g me s (step g me t (input.Payload payload))
     reply_learnt m read c =
@@ -203,11 +343,8 @@ module _ (g : Group) (made : List (List ℕ)) (s : Server) (k : ServerKnows g s)
         let base_fits : AllByRecursion (EntryFits made) base = fits_at (c.later ++ o ∷ c.over) base base_log in
         let le : length keeps.base ≤ length base = omega (arith, c.from, keeps.sealed) in
         let few : length (o ∷ below) ≤ 1048576 = omega (arith, room, ap length log_is, length-append c.later (o ∷ below)) in
-        let few_base : length base ≤ 1048576 = omega (arith, few, ap length c.cut, length-append c.over base) in
         let client : o.entry.client ≡ me = ap (λ e. e.client) c.entry in
         let mine : nat_eq o.entry.client me ≡ true = eq-eqb o.entry.client me client in
-        let passes = reply_passes g made me t seen keeps.path o c.between c.over base c.number c.op c.load c.cut c.awaiting c.entry (all_on_first (o ∷ c.between) seen ordered) c.others c.sealed_then c.from
-        ordered.0.near few base_fits (own_above (length base) c.upto) in
         let proper = proper_by made base base_fits in
         let spelled : IsEntry o.entry = (fits_at c.later (o ∷ below) log_is).0.spelled in
         let shows = alike_on_cut (dictionary_by base) (byte_keys-proper (dictionary_by base) proper) part (part_is made base base_fits o.entry.op).cut o.entry.op spelled.op.1 (for_reaches (dictionary_by base) proper o.entry.op) in
@@ -215,12 +352,20 @@ module _ (g : Group) (made : List (List ℕ)) (s : Server) (k : ServerKnows g s)
         ap (λ l. decision me t (entries l) (length base) part o.entry.op) c.cut
         ∙ decides me t o c.over base part shows client c.sealed_then (own_over base c.between le c.others ∙ ap (owns me (length base)) c.cut)
         ∙ ap (fate o) (sym c.cut) in
+        let good : s.mode ≡ mode.Objects → (v : List ℕ) → fate o below ≡ outcome.Done (answer.Found v) → IsGood s.contents v =
+        λ objects. fate_good s.contents o below (below_refers c.later o below log_is objects) in
+        let content : has_content me t message ≡ true =
+        load_content me t (seal_on g base) (grown t (told (o ∷ c.between))) (entries below) o.entry (read_part (part_for (dictionary_by base) o.entry.op)) part t.awaiting c.number c.op c.load (length base) o.entry.op (fate o below)
+        (grown_told t (o ∷ c.between) seen keeps.path) (part_is made base base_fits o.entry.op).read c.awaiting (seal_on-position g base) (sym (ap (λ e. e.op) c.entry)) ends
+        (λ loads. finds_ok (fate o below) (λ v e. (good (c.objects.loads loads) v e).0)) in
+        let passes = reply_passes g made me t seen keeps.path o c.between c.over base c.number c.op c.load c.cut c.awaiting c.entry (all_on_first (o ∷ c.between) seen ordered) c.others c.sealed_then c.from
+        ordered.0.near few base_fits (own_above (length base) c.upto) content in
         let moved : taken me t message ≡ reply_move t o.entry (entries below) (length (o ∷ below)) (length base) (root_on base) o.entry.op (fate o below) =
         reply_moves me t (seal_on g base) (grown t (told (o ∷ c.between))) (entries below) o.entry (read_part (part_for (dictionary_by base) o.entry.op)) part t.awaiting c.number c.op c.load
         (length (o ∷ below)) (length base) (root_on base) o.entry.op (fate o below)
         (grown_told t (o ∷ c.between) seen keeps.path) (part_is made base base_fits o.entry.op).read c.awaiting (ap suc (length-entries below)) (seal_on-position g base) (seal_on-root g base) (sym (ap (λ e. e.op) c.entry)) ends in
         let own : List Own = t.own ++ own_of o below ∷ [] in
-        let next : Standing = record t { path = entries (o ∷ below); sealed = length base; root = root_on base; awaiting = awaits.Turn; own = own } in
+        let next : Standing = record t { path = entries (o ∷ below); sealed = length base; root = root_on base; awaiting = awaits.Turn; own = own; phase = after_decision t.phase (fate o below) } in
         let higher : length base < length (o ∷ below) = omega (arith, ap length c.cut, length-append c.over base) in
         let next_keeps : Keeps me s next (o ∷ below) c.later = record {
           over = o ∷ c.over;
@@ -234,6 +379,7 @@ module _ (g : Group) (made : List (List ℕ)) (s : Server) (k : ServerKnows g s)
           own = ap (λ xs. xs ++ own_of o below ∷ []) (own_is base c.between le c.upto c.others) ∙ sym (owns-mine me (length base) o below mine higher);
           unsealed = all_append (IsAbove (sealed_count s)) t.own (own_of o below ∷ []) keeps.unsealed (c.higher, tt);
           last = keeps.last;
+          fetching = after_fetching (s.mode ≡ mode.Objects) s.contents t.phase (fate o below) keeps.fetching c.objects.calling good;
         } in
         subst (Learns g me s) (sym (step_takes g me t payload message keeps.going (read ∙ ap Some c.message) passes ∙ moved)) (record {
           client = stands_sending g me s next (Commits (is_done (fate o below))) (o ∷ below) c.later next_keeps (record {
@@ -249,6 +395,7 @@ module _ (g : Group) (made : List (List ℕ)) (s : Server) (k : ServerKnows g s)
           });
           fates = completed_is (IsFated s.log) me (entries (o ∷ below)) (fate o below) (record { newer = c.later; o = o; below = below; is = log_is; prefix = refl; client = sym client; outcome = refl });
           fine = fate_fine o below;
+          ends = outcome_ends t.phase (fate o below) (fate_fine o below);
         })
 
     pub update_learnt : (m : ToClient) → read_answer payload ≡ Some m → UpdateComes g me s t seen newer m → Learns g me s (step g me t (input.Payload payload))
@@ -285,6 +432,7 @@ module _ (g : Group) (made : List (List ℕ)) (s : Server) (k : ServerKnows g s)
           own = refl;
           unsealed = all_weaker (IsAbove (length (o ∷ below))) (IsAbove (sealed_count s)) (λ x h. omega (arith, h, c.count)) rest (owns-above me (length (o ∷ below)) seen);
           last = keeps.last;
+          fetching = keeps.fetching;
         } in
         subst (Learns g me s) (sym (step_takes g me t payload message keeps.going (read ∙ ap Some c.message) passes ∙ moved)) (record {
           client = stands_sending g me s next Seals seen newer next_keeps (record {
@@ -303,6 +451,7 @@ module _ (g : Group) (made : List (List ℕ)) (s : Server) (k : ServerKnows g s)
           });
           fates = tt;
           fine = tt;
+          ends = tt;
         })
 
     pub entries_learnt : (m : ToClient) → read_answer payload ≡ Some m → EntriesCome g me s t seen newer m → Learns g me s (step g me t (input.Payload payload))
@@ -333,22 +482,25 @@ module _ (g : Group) (made : List (List ℕ)) (s : Server) (k : ServerKnows g s)
           own = own_is base c.between le c.upto none;
           unsealed = keeps.unsealed;
           last = keeps.last;
+          fetching = keeps.fetching;
         } in
         subst (Learns g me s) (sym (step_takes g me t payload message keeps.going (read ∙ ap Some c.message) passes ∙ moved)) (record {
           client = stands_resting g me s next now c.later next_keeps (refl, record { ready = c.calm.ready; sealed = c.upto; others = NoneOf-first me c.later c.between between_others });
           fates = tt;
           fine = tt;
+          ends = tt;
         })
 
     -- what is taken, by its kind
-    pub answer_learnt : (m : ToClient) → read_answer payload ≡ Some m → Does g me s t seen newer (Gets m) → Learns g me s (step g me t (input.Payload payload))
-    answer_learnt say.Hi read d = absurd d
-    answer_learnt (say.Reply seal ts part) read d = reply_learnt (say.Reply seal ts part) read d
-    answer_learnt say.Wait read d = wait_learnt read d.0 d.1
-    answer_learnt (say.Update seal part) read d = update_learnt (say.Update seal part) read d
-    answer_learnt (say.Entries seal ts) read d = entries_learnt (say.Entries seal ts) read d
-    answer_learnt (say.Refused r) read d = refusal_learnt r read d
-    answer_learnt say.Kept read d = absurd d
-    answer_learnt (say.Content c) read d = absurd d
-    answer_learnt say.Gone read d = absurd d
-    answer_learnt say.Absent read d = absurd d
+    pub answer_learnt : PhaseHolds t.calls t.phase → (m : ToClient) → read_answer payload ≡ Some m → Does g me s t seen newer (Gets m) → Learns g me s (step g me t (input.Payload payload))
+    answer_learnt holds say.Hi read d = absurd d
+    answer_learnt holds (say.Reply seal ts part) read d = reply_learnt (say.Reply seal ts part) read d
+    answer_learnt holds say.Wait read d = wait_learnt holds read d.0 d.1
+    answer_learnt holds (say.Update seal part) read d = update_learnt (say.Update seal part) read d
+    answer_learnt holds (say.Entries seal ts) read d = entries_learnt (say.Entries seal ts) read d
+    answer_learnt holds (say.Refused r) read (inl d) = refusal_learnt r read d
+    answer_learnt holds (say.Refused r) read (inr d) = keep_refusal_learnt r read d
+    answer_learnt holds say.Kept read d = kept_learnt read d
+    answer_learnt holds (say.Content c) read d = content_learnt c read d
+    answer_learnt holds say.Gone read d = absurd d
+    answer_learnt holds say.Absent read d = absurd d

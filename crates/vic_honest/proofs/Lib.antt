@@ -9,6 +9,9 @@ pub mod Taking
 pub mod Owns
 pub mod Deciding
 pub mod Worlds
+pub mod Referred
+pub mod Found
+pub mod Sent
 pub mod Knowing
 pub mod Checks
 pub mod Frame

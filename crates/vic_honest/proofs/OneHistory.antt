@@ -1,6 +1,6 @@
 -- The completed calls in the order of the log are one legal history in real-time order.
 use Rattle.vic_honest.specs.Claims.{IsOneHistory, completed_in}
-use Rattle.vic_order.specs.Honest.{IsHonestRun}
+use Rattle.vic_honest.specs.SafeRuns.{IsSafeRun}
 use Rattle.vic_order.specs.Scenes.{Event, Scene}
 use Rattle.std.proofs.Common.{◌≡◌, ℕ, suc, ◌<◌, ◌≤◌, Bool, true, false, List, [], ◌∷◌, ◌++◌, length, Option, Some, None, ◌⊎◌, inl, inr, refl, sym, ap, subst, ◌∙◌, arith, append_assoc}
 use Rattle.std.specs.Prelude.{if◌then◌else◌, nat_eq, nat_lt}
@@ -18,7 +18,8 @@ use Rattle.vic_wire.specs.Conflict.{conflicts}
 use Rattle.vic_wire.specs.Hashes.{Group}
 use Rattle.vic_commute.proofs.Commuting.{Alike, alike_itself, after_same, other_after, reply_alike}
 use Rattle.vic_rules.specs.declared.trace.Shown.{Shown}
-use Rattle.vic_rules.specs.Client.{Standing, Invokes, Commits, Polls, Seals, Syncs, least_above, is_in_the_way, in_the_way, decided, is_done}
+use Rattle.vic_rules.specs.Client.{Standing, Invokes, Commits, Polls, Seals, Syncs, least_above, is_in_the_way, in_the_way, decided, is_done, Fetches}
+use Rattle.vic_rules.specs.Client.{Keeps as Contains}
 use Rattle.vic_rules.specs.History.{standing, path, Completion, completions}
 use Rattle.vic_rules.specs.Views.{confirmed, confirmed_calls, last_prefix, view_of, shown_as, left_by, outcome_leaves, Explains, IsLegal}
 use Rattle.vic_rules.specs.Trust.{texts_made}
@@ -171,6 +172,8 @@ unseen_open g me s t seen newer above u between low (Sends (Commits done)) d e f
 unseen_open g me s t seen newer above u between low (Sends Polls) d e f mine = none_open me s newer above u between low d.1.others e mine
 unseen_open g me s t seen newer above u between low (Sends Seals) d e f mine = none_open me s newer above u between low d.others e mine
 unseen_open g me s t seen newer above u between low (Sends Syncs) d e f mine = none_open me s newer above u between low d.1.others e mine
+unseen_open g me s t seen newer above u between low (Sends (Contains c)) d e f mine = none_open me s newer above u between low d.calm.others e mine
+unseen_open g me s t seen newer above u between low (Sends (Fetches h)) d e f mine = none_open me s newer above u between low d.calm.others e mine
 unseen_open g me s t seen newer above u between low (Gets say.Hi) d e f mine = absurd d
 unseen_open g me s t seen newer above u between low (Gets (say.Reply seal es part)) d e f mine =
     let one = one_own me above u between d.later d.o d.between d.later_others d.others mine (sym e ∙ d.split) in
@@ -179,9 +182,10 @@ unseen_open g me s t seen newer above u between low (Gets (say.Reply seal es par
 unseen_open g me s t seen newer above u between low (Gets say.Wait) d e f mine = none_open me s newer above u between low d.1.others e mine
 unseen_open g me s t seen newer above u between low (Gets (say.Update seal part)) d e f mine = none_open me s newer above u between low d.calm.others e mine
 unseen_open g me s t seen newer above u between low (Gets (say.Entries seal es)) d e f mine = none_open me s newer above u between low d.calm.others e mine
-unseen_open g me s t seen newer above u between low (Gets (say.Refused r)) d e f mine = none_open me s newer above u between low d.calm.others e mine
-unseen_open g me s t seen newer above u between low (Gets say.Kept) d e f mine = absurd d
-unseen_open g me s t seen newer above u between low (Gets (say.Content c)) d e f mine = absurd d
+unseen_open g me s t seen newer above u between low (Gets (say.Refused r)) (inl d) e f mine = none_open me s newer above u between low d.calm.others e mine
+unseen_open g me s t seen newer above u between low (Gets (say.Refused r)) (inr d) e f mine = none_open me s newer above u between low d.calm.others e mine
+unseen_open g me s t seen newer above u between low (Gets say.Kept) d e f mine = none_open me s newer above u between low d.calm.others e mine
+unseen_open g me s t seen newer above u between low (Gets (say.Content c)) d e f mine = none_open me s newer above u between low d.calm.others e mine
 unseen_open g me s t seen newer above u between low (Gets say.Gone) d e f mine = absurd d
 unseen_open g me s t seen newer above u between low (Gets say.Absent) d e f mine = absurd d
 
@@ -261,11 +265,11 @@ world_has g w know c there =
     let f : IsFated w.server.log c = all_at (IsFated w.server.log) (completions g w.history) c know.fates there in
     (entries f.newer, ap entries f.is ∙ entries-joined f.newer (f.o ∷ f.below) ∙ ap (λ p. entries f.newer ++ p) (sym f.prefix))
 
-pub one_history : (s : Scene) (server : Server) (events : List Event) → IsHonestRun s server events
+pub one_history : (s : Scene) (server : Server) (events : List Event) → IsSafeRun s server events
     → IsOneHistory s.group s.history (completed_in s.group s.history server.log)
 one_history s server events run =
     let w : World = world_of s server in
-    let fit : WorldFits s.group w = (run_fits s server events run).fits in
+    let fit : WorldFits s.group w = (run_fits s server events run.honest).fits in
     let know : WorldKnows s.group w = run_knows s server events run in
     record {
       legal = world_legal s.group w fit know;
@@ -288,7 +292,7 @@ last_front me log (c ∷ cs) h =
       | false ↦ last_front me log cs h.1
     ]
 
-pub views_are_fronts : (s : Scene) (server : Server) (events : List Event) → IsHonestRun s server events → (me : ℕ)
+pub views_are_fronts : (s : Scene) (server : Server) (events : List Event) → IsSafeRun s server events → (me : ℕ)
     → (newer : List Shown) × (completed_in s.group s.history server.log ≡ newer ++ view_of s.group me s.history)
 unfolding view_of
 views_are_fronts s server events run me =

@@ -6,18 +6,15 @@ use Rattle.vic_dict.specs.declared.op.Outcome.{Outcome}
 use Rattle.vic_dict.specs.declared.op.Entry.{Entry}
 use Rattle.vic_dict.specs.Lists.{IsIn}
 use Rattle.vic_wire.specs.Hashes.{Group}
-use Rattle.vic_rules.specs.declared.trace.Input.{Input}
-use Rattle.vic_rules.specs.declared.trace.Input.TheVariants as input
 use Rattle.vic_rules.specs.declared.trace.TraceStep.{TraceStep}
 use Rattle.vic_rules.specs.declared.trace.Shown.{Shown}
-use Rattle.vic_rules.specs.Client.{Standing, MayStep}
-use Rattle.vic_rules.specs.History.{standing, path, AreSteps, Completion, completions}
-use Rattle.vic_rules.specs.Views.{confirmed, confirmed_calls, IsCall, IsSameCall, IsAnswered, IsCompleted, is_call, ReturnedBefore, Earlier, IsInRealTime, ShowsOnlyCalls}
+use Rattle.vic_rules.specs.History.{standing, path, move_of, AreSteps, Completion, completions}
+use Rattle.vic_rules.specs.Views.{confirmed, confirmed_calls, IsSameCall, IsAnswered, IsCompleted, is_call, ReturnedBefore, Earlier, IsInRealTime, ShowsOnlyCalls}
 use Rattle.vic_rules.specs.Trust.{IsForged}
 use Rattle.vic_laws.specs.OrderClaims.{CompletedAs}
 use Rattle.vic_laws.proofs.Words.{in_right}
 use Rattle.vic_laws.proofs.Standings.{earlier_steps}
-use Rattle.vic_laws.proofs.Calls.{Grows, completion_stays, completion_answers, newest_entry}
+use Rattle.vic_laws.proofs.Calls.{kind_of, phases_fit, called_if, Grows, completion_stays, completion_answers, newest_entry}
 use Rattle.vic_laws.proofs.Agreement.{confirmed_by, confirmed_tells, same_completion, ShownAt, shown_in, shown_entry, shown_list, splits_at, confirmed_more}
 use Rattle.vic_laws.proofs.Complete.{answered_completion, is_completed, completions_stay, path_has, confirmed_below, not_twice}
 use Rattle.vic_laws.proofs.RealTime.{forged_earlier, not_yet, ends_compare}
@@ -103,12 +100,6 @@ shows_once g h steps e o c p grown =
 
 -- ---- real-time order
 
-call_few : (g : Group) (s : Standing) (i : Input) → IsCall i → MayStep g s i → s.calls + 1 < 2 ^ 32
-call_few g s (input.Call o) c may = may.1.1.1.1
-call_few g s input.Poll c may = absurd c
-call_few g s input.Sync c may = absurd c
-call_few g s (input.Payload payload) c may = absurd c
-
 -- a call that was made after another had returned doesn't stand on that one's path
 never_below : (g : Group) (h : List TraceStep) → AreSteps g h → (IsForged g h → ⊥) → (p : List Entry) (a b : Shown) (older : List Shown)
     → (s : ShownAt (completions g h) p a older) → ReturnedBefore g h a b → IsIn (s.entry ∷ s.below) b.entry → ⊥
@@ -128,8 +119,9 @@ never_below g h steps honest p a b older s r w =
     let grown : Grows c.by.prefix (path g c.by.client r.past) = path_has g r.past now.0 c.by c.there in
     let on_path : IsIn (path g c.by.client r.past) b.entry =
     subst (λ (q : List Entry). IsIn q b.entry) (sym grown.1) (in_right grown.0 c.by.prefix b.entry (subst (λ (q : List Entry). IsIn q b.entry) place w)) in
-    let few : (standing g r.x.client r.past).calls + 1 < 2 ^ 32 = call_few g (standing g r.x.client r.past) r.x.input r.makes.call now.1.may in
-    let number : (standing g r.x.client r.past).calls + 1 ≡ b.entry.seq = r.makes.seq in
+    let calls = called_if g r.x.client (standing g r.x.client r.past) r.x.input (move_of g r.past r.x) (kind_of g r.past r.x now.1) b.entry.seq r.makes.op r.makes.sends in
+    let few : (standing g r.x.client r.past).calls + 1 < 2 ^ 32 = calls.0.few (phases_fit g r.past now.0 r.x.client) in
+    let number : (standing g r.x.client r.past).calls + 1 ≡ b.entry.seq = calls.1.0 in
     let here : (standing g r.x.client r.past).calls ≡ (standing g b.entry.client r.past).calls = ap (λ (m : ℕ). (standing g m r.past).calls) r.makes.client in
     not_yet g r.past now.0 honest_past c.by.client b.entry (omega arith) (omega arith) on_path
 

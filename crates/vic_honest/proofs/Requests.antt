@@ -1,7 +1,7 @@
 -- Each request of a client that stands well is served, and its answer is right.
 use Rattle.std.proofs.Common.{◌≡◌, ℕ, suc, ◌+◌, ◌-◌, ◌<◌, ◌≤◌, Bool, true, false, not, ◌&&◌, ◌||◌, List, [], ◌∷◌, ◌++◌, length, take, drop, min, Option, Some, None, inl, inr, refl, sym, ap, subst, ◌∙◌, arith, length-append, length-drop, length-set, append_assoc}
 use Rattle.std.specs.Prelude.{if◌then◌else◌, nat_eq, nat_lt, nat_le}
-use Rattle.std.specs.List.{AllByRecursion}
+use Rattle.std.specs.List.{AllByRecursion, sum_by}
 use Rattle.std.proofs.lemmas.Bool.{eqb-true, eqb-false, eq-eqb, ne_eqb, lt-ltb, le-leb, and_from, not-true, cases_eq}
 use Rattle.std.proofs.lemmas.List.{take-append-drop, drop-append-le}
 use Rattle.vic_dict.specs.Lists.{front}
@@ -13,21 +13,25 @@ use Rattle.vic_wire.specs.declared.message.ToClient.{ToClient}
 use Rattle.vic_wire.specs.declared.message.ToClient.TheVariants as say
 use Rattle.vic_wire.specs.Texts.{invoke_text}
 use Rattle.vic_wire.specs.Hashes.{Group}
-use Rattle.vic_wire.specs.Parts.{part_text, part_for}
+use Rattle.vic_wire.specs.Parts.{part_for}
 use Rattle.vic_rules.specs.declared.state.Awaiting.TheVariants as awaits
-use Rattle.vic_rules.specs.Client.{Standing, Sending, Invokes, Commits, Polls, Seals, Syncs, request_of, seal_text_on, commit_text_on, digest, tag_for, first_failing, is_done}
+use Rattle.vic_rules.specs.Client.{Standing, Sending, Invokes, Commits, Polls, Seals, Syncs, Fetches, request_of, seal_text_on, commit_text_on, digest, tag_for, first_failing, is_done}
+use Rattle.vic_rules.specs.Client.{Keeps as Contains}
+use Rattle.vic_rules.specs.Objects.{content_hash, is_content_of}
+use Rattle.vic_dict.specs.declared.op.Mode.TheVariants as mode
+use Rattle.vic_honest.proofs.Referred.{has, kept_by, IsKept, Refers, refers_more, kept_more, kept_here, kept_wanted, found_there}
 use Rattle.vic_laws.proofs.Words.{all_weaker}
 use Rattle.vic_order.specs.declared.Stage.{Stage}
 use Rattle.vic_order.specs.declared.Stage.TheVariants as stage
-use Rattle.vic_order.specs.Order.{Ordered, Server, Member, Answered, says, becomes, guarded, unless_refused, size, sealed_count, seal_at_position, top_seal, ordered_at, commit_at, member, set_stage, is_ready, is_open_at, is_inside, is_put, is_member, op_weight, weight, entries_above, turn, with_commit, with_seal, owns_committed, applied_to, ordered_next, serve_read}
+use Rattle.vic_order.specs.Order.{Ordered, Server, Member, Answered, says, becomes, guarded, unless_refused, size, sealed_count, seal_at_position, top_seal, ordered_at, commit_at, member, set_stage, is_ready, is_open_at, is_inside, is_put, is_member, op_weight, weight, entries_above, turn, with_commit, with_seal, owns_committed, applied_to, ordered_next, same_mode, is_kept, content_with, serve_read}
 use Rattle.vic_order.specs.Fates.{entries, fate, dictionary_by}
 use Rattle.vic_honest.specs.Claims.{limit}
 use Rattle.vic_honest.proofs.Words.{length-entries, told, above-told}
-use Rattle.vic_honest.proofs.Standing.{Sends}
+use Rattle.vic_honest.proofs.Standing.{Sends, Gets}
 use Rattle.vic_honest.proofs.Serving.{passed, test_passed, seal_text-joined}
 use Rattle.vic_honest.proofs.Owns.{same_end, Cut, cut_at, root_on, seal_on, seals_on, owns-above, IsAbove}
 use Rattle.vic_honest.proofs.Deciding.{dictionary-next}
-use Rattle.vic_honest.proofs.Knowing.{IsPast, ServerKnows, Keeps, Calm, InvokeGoes, CommitGoes, SealGoes, Does}
+use Rattle.vic_honest.proofs.Knowing.{IsPast, ServerKnows, Keeps, Calm, InvokeGoes, CommitGoes, SealGoes, KeepGoes, FetchGoes, Does}
 use Rattle.vic_honest.proofs.Frame.{same_server, member-same, member-other}
 use Rattle.vic_honest.proofs.Answering.{Answers, count_is, top_is, base_is, seal_at-is, ordered_at-is, turn_does}
 
@@ -131,6 +135,8 @@ module _ (g : Group) (s : Server) (k : ServerKnows g s) (me : ℕ) (above : 0 < 
             ] refl;
         unmade = λ n past. ap (λ b. if b then Some done else commit_at s n) (ne_eqb (length t.path) n (λ e. omega (arith, length-path, length-log))) ∙ k.unmade n past;
         past = k.past;
+        kind = k.kind;
+        referred = k.referred;
       } in
       subst Gives (sym (guard_ok s 6 (is_member s me) _ (is_inside-here (stage.Open (length seen)) go.stage refl) ∙ guard_ok s 5 (is_open_at (length t.path) (member s me).stage) a opened)) (record {
         new = [];
@@ -147,6 +153,7 @@ module _ (g : Group) (s : Server) (k : ServerKnows g s) (me : ℕ) (above : 0 < 
           own = keeps.own;
           unsealed = keeps.unsealed;
           last = subst (λ m. m.last ≤ t.calls) (sym member_is) keeps.last;
+          fetching = keeps.fetching;
         };
         does = turn_does g me next knows t seen newer keeps.log go.awaiting (record { ready = ap (λ m. m.stage) member_is; sealed = go.sealed; others = go.others });
         others = λ j higher apart. record {
@@ -160,6 +167,8 @@ module _ (g : Group) (s : Server) (k : ServerKnows g s) (me : ℕ) (above : 0 < 
                 | true ↦ λ e. let same = there newer2 o2 below2 is e in let top : o2 ≡ go.o = cc in absurd (apart (not_both me j go.o go.mine (subst (λ y. nat_eq y.entry.client j ≡ true) top theirs)))
                 | false ↦ λ e. refl
               ] refl;
+          kind = refl;
+          contents = λ h len kept. kept;
           passes = λ newer2 o2 below2 is theirs low. low;
         };
       })
@@ -202,6 +211,8 @@ module _ (g : Group) (s : Server) (k : ServerKnows g s) (me : ℕ) (above : 0 < 
         fates = k.fates;
         unmade = k.unmade;
         past = all_weaker (IsPast (sealed_count s)) (IsPast (sealed_count next)) (λ y h. omega (arith, h)) s.log k.past;
+        kind = k.kind;
+        referred = k.referred;
       } in
       let counted : length keeps.base ≡ sealed_count next = omega (arith, ap length own_base, go.count) in
       subst Gives (sym (guard_ok s 6 (is_member s me) _ (is_inside-here stage.Ready go.ready refl)
@@ -220,6 +231,7 @@ module _ (g : Group) (s : Server) (k : ServerKnows g s) (me : ℕ) (above : 0 < 
           own = keeps.own;
           unsealed = subst (λ n. AllByRecursion (IsAbove n) t.own) counted (subst (AllByRecursion (IsAbove (length keeps.base))) (sym keeps.own) (owns-above me (length keeps.base) seen));
           last = keeps.last;
+          fetching = keeps.fetching;
         };
         does = turn_does g me next knows t seen newer keeps.log go.awaiting (record { ready = go.ready; sealed = omega (arith, keeps.sealed, counted); others = go.others });
         others = λ j higher apart. record {
@@ -229,6 +241,8 @@ module _ (g : Group) (s : Server) (k : ServerKnows g s) (me : ℕ) (above : 0 < 
           count = omega arith;
           same = refl;
           commits = λ newer2 o2 below2 is theirs. refl;
+          kind = refl;
+          contents = λ h len kept. kept;
           passes = λ newer2 o2 below2 is theirs low. elim (cases_eq (length (o2 ∷ below2)) (length (o ∷ below))) [
             | inl e ↦
                 let same : o2 ∷ below2 ≡ o ∷ below = same_end newer2 (o2 ∷ below2) (newer ++ go.above) (o ∷ below) (sym is ∙ in_log) e in
@@ -312,14 +326,14 @@ module _ (g : Group) (s : Server) (k : ServerKnows g s) (me : ℕ) (above : 0 < 
         new = [];
         knows = k;
         keeps = keeps;
-        does = record {
+        does = inl (record {
           number = n;
           op = o;
-          load = false;
+          load = go.load;
           awaiting = go.awaiting;
           limit = failing (λ m. (0 < m) × (m ≤ 4)) rest r ((omega arith, omega arith), ((omega arith, omega arith), ((omega arith, omega arith), ((omega arith, omega arith), tt)))) (sym at_rest ∙ e);
           calm = go.calm;
-        };
+        });
         others = λ j higher apart. same_server j s;
       })
       (λ e.
@@ -341,6 +355,8 @@ module _ (g : Group) (s : Server) (k : ServerKnows g s) (me : ℕ) (above : 0 < 
           fates = new_fates x;
           unmade = λ m past. k.unmade m (omega arith);
           past = (omega arith, k.past);
+          kind = k.kind;
+          referred = λ objects. (go.refers objects, k.referred objects);
         };
         keeps = record {
           over = keeps.over;
@@ -354,6 +370,7 @@ module _ (g : Group) (s : Server) (k : ServerKnows g s) (me : ℕ) (above : 0 < 
           own = keeps.own;
           unsealed = keeps.unsealed;
           last = subst (λ m. m.last ≤ t.calls) (sym member_is) (omega (arith, go.number));
+          fetching = keeps.fetching;
         };
         does = record {
           later = [];
@@ -363,7 +380,8 @@ module _ (g : Group) (s : Server) (k : ServerKnows g s) (me : ℕ) (above : 0 < 
           base = k.base;
           number = n;
           op = o;
-          load = false;
+          load = go.load;
+          objects = record { calling = go.objects.calling; loads = go.objects.loads };
           split = refl;
           cut = sym keeps.log ∙ k.is;
           awaiting = go.awaiting;
@@ -385,6 +403,8 @@ module _ (g : Group) (s : Server) (k : ServerKnows g s) (me : ℕ) (above : 0 < 
           count = omega arith;
           same = member-other (record s { log = x ∷ s.log }) me j now above higher apart;
           commits = λ newer2 o2 below2 is theirs. refl;
+          kind = refl;
+          contents = λ h len kept. kept;
           passes = λ newer2 o2 below2 is theirs low. low;
         };
       }))
@@ -409,9 +429,142 @@ module _ (g : Group) (s : Server) (k : ServerKnows g s) (me : ℕ) (above : 0 < 
       guard_ok s 6 (is_member s me) _ (is_inside-here stage.Ready go.calm.ready refl)
       ∙ ap (λ b. unless_refused s (if b then rest else Some 5) (ordered_by s me (length t.path) n o tag)) test
 
-  pub request_answers : (sending : Sending) → Does g me s t seen newer (Sends sending) → Gives (serve_read s me (Some (request_of g me t sending)))
-  request_answers (Invokes n o) d = invoke_answers n o d
-  request_answers (Commits done) d = commit_answers done d
-  request_answers Polls d = poll_answers d.0 d.1
-  request_answers Seals d = seal_answers d
-  request_answers Syncs d = sync_answers d.0 d.1
+  -- ---- Keep and Fetch
+
+  objects_ok : (member s me).stage ≡ stage.Ready → s.mode ≡ mode.Objects → (is_ready (member s me).stage && same_mode s.mode mode.Objects) ≡ true
+  objects_ok ready objects = and_from (is_ready (member s me).stage) (same_mode s.mode mode.Objects) (ap is_ready ready) (ap (λ m. same_mode m mode.Objects) objects)
+
+  kept_does : (u : Server) (c : List ℕ) → KeepGoes me s t newer c → u.mode ≡ s.mode → sealed_count s ≡ sealed_count u → member u me ≡ member s me → IsKept u.contents (content_hash c) (length c)
+      → Does g me u t seen newer (Gets say.Kept)
+  kept_does u c go kind count_same same kept = record {
+    key = go.key;
+    h = record { bytes = content_hash c };
+    len = length c;
+    awaiting = go.awaiting;
+    at = go.at;
+    holds = go.holds;
+    kept = kept;
+    small = go.small;
+    objects = kind ∙ go.objects;
+    calm = record { ready = ap (λ m. m.stage) same ∙ go.calm.ready; sealed = omega (arith, go.calm.sealed, count_same); others = go.calm.others };
+  }
+
+  keep_answers : (c : List ℕ) → KeepGoes me s t newer c → ((x : List ℕ) → kept_by s.contents (content_hash c) ≡ Some x → x ≡ c) → Gives (serve_read s me (Some (request_of g me t (Contains c))))
+  keep_answers c go one =
+      let full : Bool = not (nat_le 1048576 (length s.contents)) && nat_le (sum_by length s.contents + length c) 1073741824 in
+      let a : Answered = if is_kept s.contents (content_hash c) then says s say.Kept else guarded s ((7, full) ∷ []) (becomes (record s { contents = c ∷ s.contents }) say.Kept) in
+      subst Gives (sym (guard_ok s 6 (is_member s me) _ (is_inside-here stage.Ready go.calm.ready refl)
+      ∙ guard_ok s 5 (is_ready (member s me).stage && same_mode s.mode mode.Objects) a (objects_ok go.calm.ready go.objects))) (by_tests (is_kept s.contents (content_hash c)) full refl)
+    where
+      stays_so : Does g me s t seen newer (Gets say.Kept) → Gives (says s say.Kept)
+      stays_so does = record { new = []; knows = k; keeps = keeps; does = does; others = λ j higher apart. same_server j s }
+
+      by_tests : (b full : Bool) → is_kept s.contents (content_hash c) ≡ b → Gives (if b then says s say.Kept else guarded s ((7, full) ∷ []) (becomes (record s { contents = c ∷ s.contents }) say.Kept))
+      by_tests true full e =
+          let found = found_there (has (content_hash c)) s.contents e in
+          stays_so (kept_does s c go refl refl refl (record { content = found.0; found = found.1; long = ap length (one found.0 found.1) }))
+      by_tests false false e = record {
+        new = [];
+        knows = k;
+        keeps = keeps;
+        does = inr (record { awaiting = go.awaiting; full = refl; calm = go.calm });
+        others = λ j higher apart. same_server j s;
+      }
+      by_tests false true e =
+          let more : (h : List ℕ) (len : ℕ) → IsKept s.contents h len → IsKept (c ∷ s.contents) h len = kept_more s.contents c e in
+          record {
+            new = [];
+            knows = record {
+              over = k.over;
+              base = k.base;
+              is = k.is;
+              members = k.members;
+              ordered = k.ordered;
+              near = k.near;
+              seals = k.seals;
+              dictionary = k.dictionary;
+              fates = k.fates;
+              unmade = k.unmade;
+              past = k.past;
+              kind = k.kind;
+              referred = λ objects. all_weaker (λ o. Refers s.contents o.entry.op) (λ o. Refers (c ∷ s.contents) o.entry.op) (λ o r. refers_more s.contents (c ∷ s.contents) more o.entry.op r) s.log (k.referred objects);
+            };
+            keeps = record {
+              over = keeps.over;
+              base = keeps.base;
+              log = keeps.log;
+              path = keeps.path;
+              going = keeps.going;
+              cut = keeps.cut;
+              sealed = keeps.sealed;
+              root = keeps.root;
+              own = keeps.own;
+              unsealed = keeps.unsealed;
+              last = keeps.last;
+              fetching = λ h len is. let f = keeps.fetching h len is in (f.0, more h.bytes len f.1);
+            };
+            does = kept_does (record s { contents = c ∷ s.contents }) c go refl refl refl (kept_here s.contents c);
+            others = λ j higher apart. record {
+              new = [];
+              grown = refl;
+              others = tt;
+              count = omega arith;
+              same = refl;
+              commits = λ newer2 o2 below2 is theirs. refl;
+              kind = refl;
+              contents = more;
+              passes = λ newer2 o2 below2 is theirs low. low;
+            };
+          }
+
+  fetch_answers : (h : List ℕ) → FetchGoes me s t newer h → Gives (serve_read s me (Some (request_of g me t (Fetches h))))
+  fetch_answers h go =
+      let a : Answered = says s (content_with s.contents h) in
+      subst Gives (sym (guard_ok s 6 (is_member s me) _ (is_inside-here stage.Ready go.calm.ready refl)
+      ∙ guard_ok s 5 (is_ready (member s me).stage && same_mode s.mode mode.Objects) a (objects_ok go.calm.ready go.objects)
+      ∙ ap (λ o. says s (elim o [ Some c ↦ say.Content c | None ↦ say.Absent ])) go.kept.found)) (record {
+        new = [];
+        knows = k;
+        keeps = keeps;
+        does = record {
+          digest = go.digest;
+          len = go.len;
+          awaiting = go.awaiting;
+          is = ap (λ x. is_content_of x go.len go.kept.content) (sym go.is) ∙ kept_wanted s.contents h go.len go.kept;
+          calm = go.calm;
+        };
+        others = λ j higher apart. same_server j s;
+      })
+
+  -- what they are answered
+  pub keep_is : (c : List ℕ) → KeepGoes me s t newer c → serve_read s me (Some (request_of g me t (Contains c)))
+      ≡ (if is_kept s.contents (content_hash c) then says s say.Kept
+      else guarded s ((7, not (nat_le 1048576 (length s.contents)) && nat_le (sum_by length s.contents + length c) 1073741824) ∷ []) (becomes (record s { contents = c ∷ s.contents }) say.Kept))
+  keep_is c go =
+      guard_ok s 6 (is_member s me) _ (is_inside-here stage.Ready go.calm.ready refl)
+      ∙ guard_ok s 5 (is_ready (member s me).stage && same_mode s.mode mode.Objects) _ (objects_ok go.calm.ready go.objects)
+
+  pub fetch_is : (h : List ℕ) (go : FetchGoes me s t newer h) → serve_read s me (Some (request_of g me t (Fetches h))) ≡ says s (say.Content go.kept.content)
+  fetch_is h go =
+      guard_ok s 6 (is_member s me) _ (is_inside-here stage.Ready go.calm.ready refl)
+      ∙ guard_ok s 5 (is_ready (member s me).stage && same_mode s.mode mode.Objects) (says s (content_with s.contents h)) (objects_ok go.calm.ready go.objects)
+      ∙ ap (λ o. says s (elim o [ Some c ↦ say.Content c | None ↦ say.Absent ])) go.kept.found
+
+  -- of a content that is sent the server keeps no other with its hash
+  abbrev pub IsOne : Sending → Type 0
+  IsOne (Contains c) = (x : List ℕ) → kept_by s.contents (content_hash c) ≡ Some x → x ≡ c
+  IsOne (Invokes n o) = Unit {0}
+  IsOne (Commits done) = Unit {0}
+  IsOne Polls = Unit {0}
+  IsOne Seals = Unit {0}
+  IsOne Syncs = Unit {0}
+  IsOne (Fetches h) = Unit {0}
+
+  pub request_answers : (sending : Sending) → Does g me s t seen newer (Sends sending) → IsOne sending → Gives (serve_read s me (Some (request_of g me t sending)))
+  request_answers (Invokes n o) d one = invoke_answers n o d
+  request_answers (Commits done) d one = commit_answers done d
+  request_answers Polls d one = poll_answers d.0 d.1
+  request_answers Seals d one = seal_answers d
+  request_answers Syncs d one = sync_answers d.0 d.1
+  request_answers (Contains c) d one = keep_answers c d one
+  request_answers (Fetches h) d one = fetch_answers h d

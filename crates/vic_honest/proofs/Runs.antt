@@ -1,8 +1,9 @@
 -- What each honest run shows.
 use Rattle.vic_rules.specs.Trust.{IsForged}
 use Rattle.vic_rules.specs.declared.trace.TraceStep.{TraceStep}
+use Rattle.vic_rules.specs.declared.object.ObjectOutcome.TheVariants as ended
 use Rattle.vic_dict.specs.Lists.{IsIn}
-use Rattle.std.proofs.Common.{◌≡◌, ℕ, List, [], ◌∷◌, Option, Some, None, refl, sym, ap, subst, ◌∙◌, ◌<◌, ◌≤◌}
+use Rattle.std.proofs.Common.{◌≡◌, ℕ, List, [], ◌∷◌, Option, Some, None, refl, sym, ap, subst, ◌∙◌, ◌<◌, ◌≤◌, ◌⊎◌}
 use Rattle.std.specs.Prelude.{if◌then◌else◌}
 use Rattle.std.proofs.lemmas.Option.{same_Some}
 use Rattle.vic_dict.specs.declared.op.Outcome.{Outcome}
@@ -18,6 +19,7 @@ use Rattle.vic_order.specs.Order.{Ordered, Server}
 use Rattle.vic_order.specs.Fates.{entries, fate, dictionary_by}
 use Rattle.vic_order.specs.Scenes.{Scene, server_at, Event}
 use Rattle.vic_order.specs.Honest.{IsHonestRun}
+use Rattle.vic_honest.specs.SafeRuns.{IsSafeRun}
 use Rattle.vic_honest.specs.Claims.{AbortsLeaveNothing, LogsAreLegal, shown_log, GoesOn, IsFrontOf, SealedSo, StandsAsFated}
 use Rattle.vic_honest.proofs.Standing.{SceneFits}
 use Rattle.vic_honest.proofs.Worlds.{server_after, all_fit}
@@ -25,7 +27,8 @@ use Rattle.vic_honest.proofs.Owns.{root_on}
 use Rattle.vic_honest.proofs.Deciding.{dictionary-next}
 use Rattle.vic_honest.proofs.Checks.{seal_on-root}
 use Rattle.vic_honest.proofs.Answering.{count_is, top_is}
-use Rattle.vic_honest.proofs.Learning.{IsFated, IsFine}
+use Rattle.vic_honest.proofs.Learning.{IsFated, IsFine, EndsFine}
+use Rattle.vic_honest.proofs.Sent.{IsApart}
 use Rattle.vic_honest.proofs.Known.{SceneKnows, all_known}
 
 -- the server that honest events leave is the run's
@@ -39,11 +42,12 @@ pub run_fits : (s : Scene) (server : Server) (events : List Event) → IsHonestR
 run_fits s server events run =
     let fit = scene_fits s server events run in subst (SceneFits s) (server_left s server (server_after s.group events) events run fit) fit
 
-pub run_knows : (s : Scene) (server : Server) (events : List Event) → IsHonestRun s server events → SceneKnows s server
+pub run_knows : (s : Scene) (server : Server) (events : List Event) → IsSafeRun s server events → SceneKnows s server
 run_knows s server events run =
-    let fit = scene_fits s server events run in
-    let know : SceneKnows s (server_after s.group events) = subst (λ t. SceneKnows t (server_after s.group events)) (sym run.is) (all_known s.group run.group events run.may) in
-    subst (SceneKnows s) (server_left s server (server_after s.group events) events run fit) know
+    let fit = scene_fits s server events run.honest in
+    let know : SceneKnows s (server_after s.group events) =
+    subst (λ t. SceneKnows t (server_after s.group events)) (sym run.honest.is) (all_known s.group run.honest.group events run.honest.may (subst IsApart run.honest.is run.apart)) in
+    subst (SceneKnows s) (server_left s server (server_after s.group events) events run.honest fit) know
 
 pub tags_made : (s : Scene) (server : Server) (events : List Event) → IsHonestRun s server events → IsForged s.group s.history → ⊥
 tags_made s server events run = (run_fits s server events run).fits.honest
@@ -58,7 +62,7 @@ all_fronts s server events run me above upto =
 pub never_halted : (x : Option Outcome) (check : ℕ) → IsFine x → x ≡ Some (outcome.Halted check) → ⊥
 never_halted x check fine e = subst IsFine e fine
 
-pub all_go_on : (s : Scene) (server : Server) (events : List Event) → IsHonestRun s server events → (me : ℕ) → 0 < me → me ≤ s.group.count → GoesOn s me
+pub all_go_on : (s : Scene) (server : Server) (events : List Event) → IsSafeRun s server events → (me : ℕ) → 0 < me → me ≤ s.group.count → GoesOn s me
 all_go_on s server events run me above upto =
     let know = run_knows s server events run in
     record {
@@ -66,15 +70,18 @@ all_go_on s server events run me above upto =
       returns_so = λ x there check e. never_halted x.returned check (all_at (λ y. IsFine y.returned) s.history x know.fine there) e;
     }
 
-pub all_fated : (s : Scene) (server : Server) (events : List Event) → IsHonestRun s server events → (c : Completion) → IsIn (completions s.group s.history) c → StandsAsFated server.log c
+pub all_fated : (s : Scene) (server : Server) (events : List Event) → IsSafeRun s server events → (c : Completion) → IsIn (completions s.group s.history) c → StandsAsFated server.log c
 all_fated s server events run c there =
     let f = all_at (IsFated server.log) (completions s.group s.history) c (run_knows s server events run).fates there in
     record { newer = f.newer; o = f.o; below = f.below; is = f.is; client = f.client; prefix = f.prefix; outcome = f.outcome }
 
-pub all_refusals : (s : Scene) (server : Server) (events : List Event) → IsHonestRun s server events → (x : TraceStep) → IsIn s.history x → (r : ℕ) → x.returned ≡ Some (outcome.Refused r) → (0 < r) × (r ≤ 4)
+pub all_refusals : (s : Scene) (server : Server) (events : List Event) → IsSafeRun s server events → (x : TraceStep) → IsIn s.history x → (r : ℕ) → x.returned ≡ Some (outcome.Refused r) → (0 < r) × (r ≤ 4)
 all_refusals s server events run x there r e = subst IsFine e (all_at (λ y. IsFine y.returned) s.history x (run_knows s server events run).fine there)
 
-pub all_sealed : (s : Scene) (server : Server) (events : List Event) → IsHonestRun s server events → SealedSo server
+pub all_ends : (s : Scene) (server : Server) (events : List Event) → IsSafeRun s server events → (x : TraceStep) → IsIn s.history x → (r : ℕ) → x.object ≡ Some (ended.Refused r) → ((0 < r) × (r ≤ 4)) ⊎ (r ≡ 7)
+all_ends s server events run x there r e = subst EndsFine e (all_at (λ y. EndsFine y.object) s.history x (run_knows s server events run).ends there)
+
+pub all_sealed : (s : Scene) (server : Server) (events : List Event) → IsSafeRun s server events → SealedSo server
 unfolding root_on
 all_sealed s server events run =
     let k = (run_knows s server events run).server in

@@ -1,29 +1,21 @@
 -- The parts that an honest server sends are cuts of its dictionary's tree; they are read again, and are bytes.
-use Rattle.std.specs.Prelude.{◌≡◌, ℕ, ◌+◌, ◌<◌, Bool, true, false, not, ◌&&◌, ◌||◌, List, [], ◌∷◌, ◌++◌, length, Some, if◌then◌else◌}
-use Rattle.std.proofs.Common.{refl, sym, ap, subst, ◌∙◌, inl, inr}
-use Rattle.sha2.proofs.Facts256.{length-sha256}
-use Rattle.std.specs.FinMap as map
+use Rattle.std.specs.Prelude.{◌≡◌, ℕ, ◌<◌, Bool, true, false, not, ◌&&◌, ◌||◌, List, length, Some, if◌then◌else◌}
+use Rattle.std.proofs.Common.{refl, sym, subst, inl}
 use Rattle.vic_dict.specs.declared.op.Op.{Op}
-use Rattle.vic_dict.specs.declared.op.Op.TheVariants as op
 use Rattle.vic_dict.specs.Lists.{IsIn, AreBytes}
 use Rattle.vic_dict.specs.Dictionary.{Dictionary, IsProper}
-use Rattle.vic_wire.specs.Bits.{key_bit, shared}
-use Rattle.std.specs.Str.{bytes_eq}
 use Rattle.vic_wire.specs.Trees.{Tree, Empty, Leaf, Inner, Stub, Pair, pairs_of, root_of, tree_of, dictionary_root}
-use Rattle.vic_wire.specs.Walks.{end_at, revalued, forked, planted, put_beside, put_in, is_gone, joined, del_in, tree_after}
-use Rattle.std.specs.Prelude.{nat_lt}
 use Rattle.vic_wire.specs.Cuts.{IsCut, cut_for, cut_none}
-use Rattle.vic_wire.specs.Parts.{Part, IsNodeFrom, IsPart, node_field, part_text, part_for, bare_part, read_part, reaches}
+use Rattle.vic_wire.specs.Parts.{Part, IsPart, part_text, part_for, bare_part, read_part, reaches}
 use Rattle.vic_rules.specs.Client.{is_write}
 use Rattle.vic_order.specs.Order.{update_part}
 use Rattle.vic_spellings.specs.Spellings.{PartHoldsBytes}
 use Rattle.vic_spellings.proofs.Bytes.{bytes-sha256}
-use Rattle.vic_spellings.proofs.SpelledParts.{part_again, part_takes, parts_are_spelled}
+use Rattle.vic_spellings.proofs.SpelledParts.{part_again, parts_are_spelled}
 use Rattle.vic_laws.proofs.Words.{in_left, in_right}
 use Rattle.vic_roots.proofs.Proper.{byte_keys-proper}
 use Rattle.vic_roots.proofs.Members.{in_is_entry}
 use Rattle.vic_tree.specs.Grown.{IsGrown, IsTree, LeavesFit}
-use Rattle.vic_tree.proofs.Found.{grown_left, grown_right}
 use Rattle.vic_tree.proofs.Stands.{HasTree, has_tree}
 use Rattle.vic_tree.proofs.Grammar.{tree_is_part, cut_is_part}
 use Rattle.vic_tree.proofs.Made.{cut_for-cut, cut_for-reaches, cut_none-cut}

@@ -1,7 +1,9 @@
 -- The server serves the request that a client sent: it stays fit, and its answer follows the client's path.
 use Rattle.std.proofs.Common.{◌≡◌, ℕ, suc, ◌+◌, ◌-◌, ◌<◌, ◌≤◌, Bool, true, false, not, ◌&&◌, ◌||◌, List, [], ◌∷◌, ◌++◌, length, map, take, drop, min, Option, Some, None, inl, inr, refl, sym, ap, subst, ◌∙◌, arith, length-append, length-drop}
 use Rattle.std.specs.Prelude.{if◌then◌else◌, nat_eq, nat_lt, nat_le}
-use Rattle.std.specs.List.{AllByRecursion}
+use Rattle.std.specs.List.{AllByRecursion, find, sum_by}
+use Rattle.std.specs.Str.{bytes_eq}
+use Rattle.vic_dict.specs.declared.op.Mode.TheVariants as mode
 use Rattle.std.proofs.lemmas.List.{append-nil, take-append-drop, drop-append-le, map-append}
 use Rattle.std.proofs.lemmas.Bool.{eqb-false, leb-true, not-true}
 use Rattle.sha2.proofs.Facts256.{length-sha256}
@@ -13,24 +15,24 @@ use Rattle.vic_wire.specs.declared.message.Tagged.{Tagged}
 use Rattle.vic_wire.specs.declared.message.Digest32.{Digest32}
 use Rattle.vic_wire.specs.declared.message.ToClient.{ToClient}
 use Rattle.vic_wire.specs.declared.message.ToClient.TheVariants as say
-use Rattle.vic_wire.specs.Texts.{invoke_text, seal_text}
-use Rattle.vic_wire.specs.Hashes.{Group, IsGroup, chain, tag_of}
+use Rattle.vic_wire.specs.Texts.{invoke_text, seal_text, content_text}
+use Rattle.vic_wire.specs.Hashes.{Group, IsGroup, chain, tag_of, hash}
 use Rattle.vic_wire.specs.Messages.{IsEntry, IsTagged, HasSpelling, request_text, answer_text, seal_field, entries_field}
-use Rattle.vic_wire.specs.Parts.{part_for, bare_part}
-use Rattle.vic_rules.specs.Client.{Standing, Sending, Invokes, Commits, Polls, Seals, Syncs, request_of, seal_of, entries_of, seal_text_on, commit_text_on, digest, tag_for, first_failing, is_write}
+use Rattle.vic_wire.specs.Parts.{part_for}
+use Rattle.vic_rules.specs.Client.{Standing, Sending, Invokes, Commits, Polls, Seals, Syncs, Keeps, Fetches, request_of, seal_of, entries_of, seal_text_on, commit_text_on, digest, tag_for, first_failing}
 use Rattle.vic_spellings.proofs.Bytes.{bytes-cons, bytes-append, bytes-replicate, bytes-sha256}
 use Rattle.vic_spellings.proofs.Steps.{bytes-nil}
 use Rattle.vic_spellings.proofs.Seals.{first_is_seal}
 use Rattle.vic_spellings.proofs.SpelledRequests.{request_again}
 use Rattle.vic_roots.proofs.Proper.{proper-after}
-use Rattle.vic_honest.proofs.SentParts.{IsSent, sent_for, sent_update}
+use Rattle.vic_honest.proofs.SentParts.{sent_for, sent_update}
 use Rattle.vic_laws.proofs.Words.{all_weaker, all_append, in_either}
 use Rattle.vic_order.specs.declared.Stage.TheVariants as stage
-use Rattle.vic_order.specs.Order.{Ordered, Server, Answered, says, becomes, guarded, unless_refused, size, sealed_count, no_seal, seal_at_position, top_seal, ordered_at, commit_at, member, set_stage, is_ready, is_open_at, is_put, is_member, op_weight, weight, tagged, entries_above, turn, turn_on, update_part, with_commit, with_seal, owns_committed, applied_to, ordered_next, on_request, serve_read, serve}
+use Rattle.vic_order.specs.Order.{Ordered, Server, Answered, says, becomes, guarded, unless_refused, size, sealed_count, no_seal, seal_at_position, top_seal, ordered_at, commit_at, member, set_stage, is_ready, is_open_at, is_put, is_member, op_weight, weight, tagged, entries_above, turn, turn_on, update_part, with_commit, with_seal, owns_committed, applied_to, ordered_next, is_kept, content_with, same_mode, on_request, serve_read, serve}
 use Rattle.vic_order.specs.Fates.{entries}
 use Rattle.vic_honest.proofs.Words.{front-entries, length-entries, told, above-told, length-told, all-first, all-drop, newest_seal, all-newest, AreMade}
 use Rattle.vic_honest.proofs.Spoken.{TaggedBytes, seal_bytes, entries_bytes, tag_bytes}
-use Rattle.vic_honest.proofs.Standing.{EntryFits, SealFits, ServerFits, StandingFits, RequestGoes, AnswerComes, OfSeal}
+use Rattle.vic_honest.proofs.Standing.{EntryFits, SealFits, ServerFits, StandingFits, RequestGoes, AnswerComes, OfSeal, IsContent}
 
 pub length-tag : (key text : List ℕ) → length (tag_of key text) ≡ 32
 unfolding tag_of
@@ -270,6 +272,7 @@ module _ (g : Group) (group : IsGroup g) (made : List (List ℕ)) (s : Server) (
           log = (new_fits, stands.log);
           seals = all_weaker (SealFits g made s.log) (SealFits g made (x ∷ s.log)) (λ y h. seal-grows g made (x ∷ []) s.log y h) s.seals stands.seals;
           dictionary = stands.dictionary;
+          contents = stands.contents;
           room = grown_room (length s.log) stands.room full;
         };
         answer = subst (λ ts. AnswerComes g made (x ∷ s.log) seen (x ∷ newer) (say.Reply (top_seal s) ts (part_for s.dictionary o))) (sym told_is)
@@ -287,7 +290,7 @@ module _ (g : Group) (group : IsGroup g) (made : List (List ℕ)) (s : Server) (
   commit_served : (done : Bool) → Gives (on_request s me (request_of g me t (Commits done)))
   commit_served done =
       let next : Server = set_stage (with_commit s (length t.path) done (tag_for g (commit_text_on g t.path done))) me stage.Ready in
-      let fit : ServerFits g made next = record { log = stands.log; seals = stands.seals; dictionary = stands.dictionary; room = stands.room } in
+      let fit : ServerFits g made next = record { log = stands.log; seals = stands.seals; dictionary = stands.dictionary; room = stands.room; contents = stands.contents } in
       refuses ((5, is_open_at (length t.path) (member s me).stage) ∷ []) (becomes next (turn next me)) ((omega arith, omega arith), tt)
       (λ ok. record { new = []; is = refl; server = fit; answer = turn_comes g made next me seen newer fit })
 
@@ -319,6 +322,7 @@ module _ (g : Group) (group : IsGroup g) (made : List (List ℕ)) (s : Server) (
         seals = (new_fits, stands.seals);
         dictionary = applied_proper s.dictionary (ordered_at s t.sealed) (commit_at s t.sealed) stands.dictionary (λ o e. (entry_fits made s t.sealed o stands.log e).spelled);
         room = stands.room;
+        contents = stands.contents;
       } in
       refuses ((5, is_ready (member s me).stage && (nat_eq t.sealed (sealed_count s + 1) && owns_committed me (ordered_at s t.sealed) (commit_at s t.sealed))) ∷ [])
       (becomes next (turn next me)) ((omega arith, omega arith), tt)
@@ -340,12 +344,48 @@ module _ (g : Group) (group : IsGroup g) (made : List (List ℕ)) (s : Server) (
       (entries_come g made s.log seen newer (take k newer) (drop k newer) x (sym (take-append-drop k newer)) (seal_fits g made s (min (sealed_count s) e) stands)
       (all-drop (EntryFits made) k newer all_newer) (omega (arith, length-drop k newer, length-path, length-log)))))
 
+  -- a content is kept, or was, or there is no room
+  kept_is : (content : List ℕ) → AreBytes content → length content ≤ 8388608 → (b c : Bool)
+      → Gives (if b then says s say.Kept else guarded s ((7, c) ∷ []) (becomes (record s { contents = content ∷ s.contents }) say.Kept))
+  kept_is content bytes small true c = stays say.Kept (plain_comes g made s.log seen newer say.Kept refl refl tt (bytes-cons 0x47 [] (omega arith) bytes-nil))
+  kept_is content bytes small false c =
+      refuses ((7, c) ∷ []) (becomes (record s { contents = content ∷ s.contents }) say.Kept) ((omega arith, omega arith), tt)
+      (λ ok. record {
+        new = [];
+        is = refl;
+        server = record { log = stands.log; seals = stands.seals; dictionary = stands.dictionary; room = stands.room; contents = ((small, bytes), stands.contents) };
+        answer = plain_comes g made s.log seen newer say.Kept refl refl tt (bytes-cons 0x47 [] (omega arith) bytes-nil);
+      })
+
+  keep_served : (content : List ℕ) → RequestGoes g made me t (Keeps content) → Gives (on_request s me (request_of g me t (Keeps content)))
+  keep_served content goes =
+      refuses ((5, is_ready (member s me).stage && same_mode s.mode mode.Objects) ∷ []) _ ((omega arith, omega arith), tt)
+      (λ ok. kept_is content goes.content goes.spelled (is_kept s.contents (hash (content_text content))) (not (nat_le 1048576 (length s.contents)) && nat_le (sum_by length s.contents + length content) 1073741824))
+
+  fetch_served : (h : List ℕ) → Gives (on_request s me (request_of g me t (Fetches h)))
+  fetch_served h =
+      refuses ((5, is_ready (member s me).stage && same_mode s.mode mode.Objects) ∷ []) (says s (content_with s.contents h)) ((omega arith, omega arith), tt)
+      (λ ok. stays (content_with s.contents h) (by_found (find (λ c. bytes_eq (hash (content_text c)) h) s.contents) (found_all (λ c. bytes_eq (hash (content_text c)) h) s.contents stands.contents)))
+    where
+      found_all : (f : List ℕ → Bool) (xs : List (List ℕ)) → AllByRecursion IsContent xs → (c : List ℕ) → find f xs ≡ Some c → IsContent c
+      found_all f [] all c e = absurd cc
+      found_all f (x ∷ xs) all c e = elim (f x) as (λ b. (if b then Some x else find f xs) ≡ Some c → IsContent c) [
+        | true ↦ λ k. let same : x ≡ c = cc in subst IsContent same all.0
+        | false ↦ λ k. found_all f xs all.1 c k
+      ] e
+
+      by_found : (o : Option (List ℕ)) → ((c : List ℕ) → o ≡ Some c → IsContent c) → AnswerComes g made s.log seen newer (elim o [ Some c ↦ say.Content c | None ↦ say.Absent ])
+      by_found (Some c) each = plain_comes g made s.log seen newer (say.Content c) refl refl (each c refl).0 (bytes-cons 0x48 c (omega arith) (each c refl).1)
+      by_found None each = plain_comes g made s.log seen newer say.Absent refl refl tt (bytes-cons 0x4a [] (omega arith) bytes-nil)
+
   -- a request that is read as it was sent
   request_served : (sending : Sending) → RequestGoes g made me t sending → Gives (serve_read s me (Some (request_of g me t sending)))
   request_served (Invokes n o) goes = refuses ((6, is_member s me) ∷ []) (on_request s me (request_of g me t (Invokes n o))) ((omega arith, omega arith), tt) (λ ok. invoke_served n o goes)
   request_served (Commits done) goes = refuses ((6, is_member s me) ∷ []) (on_request s me (request_of g me t (Commits done))) ((omega arith, omega arith), tt) (λ ok. commit_served done)
   request_served Polls goes = refuses ((6, is_member s me) ∷ []) (on_request s me (request_of g me t Polls)) ((omega arith, omega arith), tt) (λ ok. poll_served)
   request_served Seals goes = refuses ((6, is_member s me) ∷ []) (on_request s me (request_of g me t Seals)) ((omega arith, omega arith), tt) (λ ok. seal_served goes)
+  request_served (Keeps content) goes = refuses ((6, is_member s me) ∷ []) (on_request s me (request_of g me t (Keeps content))) ((omega arith, omega arith), tt) (λ ok. keep_served content goes)
+  request_served (Fetches h) goes = refuses ((6, is_member s me) ∷ []) (on_request s me (request_of g me t (Fetches h))) ((omega arith, omega arith), tt) (λ ok. fetch_served h)
   request_served Syncs goes = refuses ((6, is_member s me) ∷ []) (on_request s me (request_of g me t Syncs)) ((omega arith, omega arith), tt) (λ ok. sync_served)
 
   pub payload_served : (sending : Sending) → RequestGoes g made me t sending → Gives (serve s me (request_text (request_of g me t sending)))

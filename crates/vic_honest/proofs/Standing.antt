@@ -10,7 +10,10 @@ use Rattle.vic_wire.specs.Hashes.{Group, IsGroup}
 use Rattle.vic_wire.specs.Messages.{IsEntry, IsSeal, HasSpelling, HasRequestSpelling, request_text, answer_text}
 use Rattle.vic_rules.specs.declared.state.Own.{Own}
 use Rattle.vic_rules.specs.declared.trace.TraceStep.{TraceStep}
-use Rattle.vic_rules.specs.Client.{Standing, Sending, request_of, awaits_nothing, seal_of, entries_of, seal_text_on}
+use Rattle.vic_rules.specs.declared.object.Phase.{Phase}
+use Rattle.vic_rules.specs.declared.object.Phase.TheVariants as phase
+use Rattle.vic_laws.proofs.Steps.{PhaseFits}
+use Rattle.vic_rules.specs.Client.{Standing, Sending, Invokes, Commits, Polls, Seals, Syncs, Keeps, Fetches, request_of, awaits_nothing, seal_of, entries_of, seal_text_on}
 use Rattle.vic_rules.specs.History.{AreSteps, standing}
 use Rattle.vic_rules.specs.Trust.{IsForged, texts_made, text_sent}
 use Rattle.vic_order.specs.Order.{Ordered, Server, size}
@@ -35,11 +38,16 @@ pub record SealFits (g : Group) (made : List (List ℕ)) (log : List Ordered) (x
   pub within : x.position ≤ length log
   pub text : 0 < x.position → IsIn made (seal_text_on g (entries log) x.position x.root.bytes)
 
+-- a content has a spelling
+abbrev pub IsContent : List ℕ → Type 0
+IsContent c = (length c ≤ 8388608) × AreBytes c
+
 pub record ServerFits (g : Group) (made : List (List ℕ)) (s : Server) : Type 0 where
   pub log : AllByRecursion (EntryFits made) s.log
   pub seals : AllByRecursion (SealFits g made s.log) s.seals
   pub dictionary : IsProper s.dictionary
   pub room : size s ≤ 1048576
+  pub contents : AllByRecursion IsContent s.contents
 
 -- ---- a client
 
@@ -62,6 +70,13 @@ down_by (Gets answer) = answer_text answer ∷ []
 abbrev pub IsWithin : ℕ → Own → Type 0
 IsWithin n o = o.position ≤ n
 
+-- a store whose content was sent can call its put, and a content that is to be fetched has a hash
+abbrev pub PhaseHolds : ℕ → Phase → Type 0
+PhaseHolds calls (phase.Keeping k h len) = PhaseFits calls (phase.Keeping k h len)
+PhaseHolds calls (phase.Fetching h len) = length h.bytes ≡ 32
+PhaseHolds calls phase.Closed = Unit {0}
+PhaseHolds calls phase.Calling = Unit {0}
+
 -- what a client keeps is within its path
 pub record StandingFits (t : Standing) : Type 0 where
   pub sealed : t.sealed ≤ length t.path
@@ -69,11 +84,23 @@ pub record StandingFits (t : Standing) : Type 0 where
   pub root : length t.root ≡ 32
   pub root_bytes : AreBytes t.root
   pub calls : t.calls < 2 ^ 32
+  pub phase : PhaseHolds t.calls t.phase
+
+-- a content that is sent is bytes
+abbrev pub SendsBytes : Sending → Type 0
+SendsBytes (Keeps c) = AreBytes c
+SendsBytes (Invokes n o) = Unit {0}
+SendsBytes (Commits done) = Unit {0}
+SendsBytes Polls = Unit {0}
+SendsBytes Seals = Unit {0}
+SendsBytes Syncs = Unit {0}
+SendsBytes (Fetches h) = Unit {0}
 
 -- a request has a spelling, and what it tags was made
 pub record RequestGoes (g : Group) (made : List (List ℕ)) (me : ℕ) (t : Standing) (sending : Sending) : Type 0 where
   pub spelled : HasRequestSpelling (request_of g me t sending)
   pub texts : AreMade made (text_sent g me t (Some sending))
+  pub content : SendsBytes sending
 
 abbrev pub OfSeal : (Seal → Type 0) → Option Seal → Type 0
 OfSeal P None = Unit {0}

@@ -1,13 +1,23 @@
 -- A client steps: it sends or rests, and what it takes was made.
-use Rattle.std.proofs.Common.{◌≡◌, ℕ, suc, zero, ◌+◌, ◌≤◌, Bool, true, false, ◌&&◌, List, [], ◌∷◌, ◌++◌, length, map, Option, Some, None, is_none, ◌⊎◌, inl, inr, refl, sym, ap, subst, ◌∙◌, arith, length-append, append_assoc}
+use Rattle.std.proofs.Common.{◌≡◌, ℕ, suc, zero, ◌+◌, ◌<◌, ◌^◌, ◌≤◌, Bool, true, false, ◌&&◌, List, [], ◌∷◌, ◌++◌, length, map, Option, Some, None, is_none, ◌⊎◌, inl, inr, refl, sym, ap, subst, ◌∙◌, arith, length-append, append_assoc}
 use Rattle.std.specs.Prelude.{if◌then◌else◌, nat_eq}
 use Rattle.std.specs.List.{AllByRecursion}
-use Rattle.std.proofs.lemmas.Bool.{eqb-false}
-use Rattle.std.proofs.lemmas.List.{append-nil}
+use Rattle.std.proofs.lemmas.Bool.{eqb-false, eqb-true}
+use Rattle.std.proofs.lemmas.List.{append-nil, length-take}
 use Rattle.sha2.proofs.Facts256.{length-sha256}
 use Rattle.vic_dict.specs.Lists.{IsIn, AreBytes}
 use Rattle.vic_dict.specs.Dictionary.{Dictionary}
 use Rattle.vic_dict.specs.declared.op.Entry.{Entry}
+use Rattle.vic_dict.specs.declared.op.Op.{Op}
+use Rattle.vic_dict.specs.declared.op.Answer.{Answer}
+use Rattle.vic_dict.specs.declared.op.Answer.TheVariants as answer
+use Rattle.vic_dict.specs.declared.op.Outcome.{Outcome}
+use Rattle.vic_dict.specs.declared.op.Outcome.TheVariants as outcome
+use Rattle.vic_wire.specs.declared.message.Digest32.{Digest32}
+use Rattle.vic_rules.specs.declared.object.Phase.{Phase}
+use Rattle.vic_rules.specs.declared.object.Phase.TheVariants as phase
+use Rattle.vic_rules.specs.declared.object.Next.TheVariants as next
+use Rattle.vic_rules.specs.Objects.{Stepped, answered, kept_at, after_decision, is_reference, hash_in, length_in}
 use Rattle.vic_wire.specs.declared.message.Seal.{Seal}
 use Rattle.vic_wire.specs.declared.message.Tagged.{Tagged}
 use Rattle.vic_wire.specs.declared.message.ToClient.{ToClient}
@@ -22,21 +32,21 @@ use Rattle.vic_rules.specs.declared.state.Own.{Own}
 use Rattle.vic_rules.specs.declared.state.Awaiting.{Awaiting}
 use Rattle.vic_rules.specs.declared.state.Awaiting.TheVariants as awaits
 use Rattle.vic_rules.specs.declared.trace.Input.TheVariants as input
-use Rattle.vic_rules.specs.Client.{Standing, Sending, Commits, Seals, Move, step, request_of, payload_of, awaits_nothing, seal_text_on, newest_first, grown, replied, updated, taken, taken_or_halts, on_payload, verdict, new_root, is_write, is_done, decision}
+use Rattle.vic_rules.specs.Client.{Standing, Sending, Invokes, Commits, Seals, Fetches, Move, calls_op, waited, goes_to, refused_at, step, request_of, payload_of, awaits_nothing, seal_text_on, newest_first, grown, replied, updated, taken, taken_or_halts, on_payload, verdict, new_root, is_write, is_done, decision}
 use Rattle.vic_rules.specs.Trust.{taken_by, checked_texts, seal_texts, text_sent}
 use Rattle.vic_order.specs.Order.{Ordered}
 use Rattle.vic_order.specs.Fates.{entries}
 use Rattle.vic_order.specs.Scenes.{queued}
 use Rattle.vic_spellings.proofs.Bytes.{bytes-sha256}
 use Rattle.vic_laws.proofs.Words.{all_weaker, all_append, in_either, in_left}
-use Rattle.vic_laws.proofs.Steps.{Kind, Quiet, Replied, Updated, Listed, call_of, is_quiet, is_called, is_replied, is_updated, is_listed}
+use Rattle.vic_laws.proofs.Steps.{PhaseFits, Kind, Quiet, Called, Replied, Updated, Listed, call_of, is_quiet, is_called, is_replied, is_updated, is_listed}
 use Rattle.vic_laws.proofs.StepKinds.{step_kind}
 use Rattle.vic_honest.proofs.Words.{entries-joined, length-entries, told, newest-told, AreMade}
 use Rattle.vic_wire.specs.Walks.{tree_after}
 use Rattle.vic_spellings.proofs.SpelledParts.{part_takes, parts_are_spelled}
 use Rattle.vic_laws.proofs.PartRoots.{part_stubs, after_stubs, root_digest}
 use Rattle.vic_honest.proofs.Serving.{length-tag, seal_text-joined}
-use Rattle.vic_honest.proofs.Standing.{SealFits, StandingFits, AnswerComes, IsWithin, Rests, Sends, ClientFits}
+use Rattle.vic_honest.proofs.Standing.{SealFits, StandingFits, PhaseHolds, SendsBytes, AnswerComes, IsWithin, Rests, Sends, ClientFits}
 
 -- ---- roots are digests
 
@@ -73,8 +83,12 @@ new_root_fits first text part root are read long bytes =
 
 -- ---- what a payload makes a client send
 
+-- it fetches a content whose hash is one, and awaits it
+abbrev FetchesOne : Move → Type 0
+FetchesOne v = (h : Digest32) × (len : ℕ) × (v.sends ≡ Some (Fetches h.bytes)) × (length h.bytes ≡ 32) × (v.next.awaiting ≡ awaits.Content h len)
+
 abbrev Loud : Move → Type 0
-Loud v = (v.sends ≡ None) ⊎ (((done : Bool) × (v.sends ≡ Some (Commits done))) ⊎ (v.sends ≡ Some Seals))
+Loud v = (v.sends ≡ None) ⊎ (((done : Bool) × (v.sends ≡ Some (Commits done))) ⊎ ((v.sends ≡ Some Seals) ⊎ (((n : ℕ) × (o : Op) × (v.sends ≡ Some (Invokes n o))) ⊎ FetchesOne v)))
 
 replied_loud : (me : ℕ) (t : Standing) (seal : Seal) (path : List Entry) (part : Option Part) (a : Awaiting) → Loud (replied me t seal path part a)
 replied_loud me t seal [] part a = inl refl
@@ -89,38 +103,157 @@ replied_loud me t seal (e ∷ below) (Some part) (awaits.Content h n) = inl refl
 updated_loud : (t : Standing) (seal : Seal) (part : Option Part) (own : List Own) → Loud (updated t seal part own)
 updated_loud t seal None own = inl refl
 updated_loud t seal (Some part) [] = inl refl
-updated_loud t seal (Some part) (o ∷ others) = inr (inr refl)
+updated_loud t seal (Some part) (o ∷ others) = inr (inr (inl refl))
 
-taken_loud : (me : ℕ) (t : Standing) (m : ToClient) → Loud (taken me t m)
-taken_loud me t say.Hi = inl refl
-taken_loud me t (say.Reply seal ts part) = replied_loud me t seal (grown t ts) (read_part part) t.awaiting
-taken_loud me t say.Wait = inl refl
-taken_loud me t (say.Update seal part) = updated_loud t seal (read_part part) t.own
-taken_loud me t (say.Entries seal ts) = inl refl
-taken_loud me t (say.Refused r) = inl refl
-taken_loud me t say.Kept = inl refl
-taken_loud me t (say.Content c) = inl refl
-taken_loud me t say.Gone = inl refl
-taken_loud me t say.Absent = inl refl
+waited_loud : (t : Standing) (p : Phase) → PhaseHolds t.calls p → Loud (waited t p)
+waited_loud t phase.Closed f = inl refl
+waited_loud t (phase.Keeping k h len) f = inl refl
+waited_loud t phase.Calling f = inl refl
+waited_loud t (phase.Fetching h len) f = inr (inr (inr (inr (h, len, refl, f, refl))))
 
-or_halts_loud : (me : ℕ) (t : Standing) (m : Option ToClient) (k : Option ℕ) → Loud (taken_or_halts me t m k)
-or_halts_loud me t m (Some k) = inl refl
-or_halts_loud me t (Some m) None = taken_loud me t m
-or_halts_loud me t None None = inl refl
+kept_loud : (t : Standing) (p : Phase) → Loud (goes_to t false (kept_at p))
+kept_loud t phase.Closed = inl refl
+kept_loud t (phase.Keeping k h len) = inr (inr (inr (inl (_, _, refl))))
+kept_loud t phase.Calling = inl refl
+kept_loud t (phase.Fetching h len) = inl refl
 
-on_payload_loud : (g : Group) (me : ℕ) (t : Standing) (k : Option ℕ) (payload : List ℕ) → Loud (on_payload g me t k payload)
-on_payload_loud g me t (Some k) payload = inl refl
-on_payload_loud g me t None payload = or_halts_loud me t (read_answer payload) (verdict g me t payload)
+refused_loud : (t : Standing) (r : ℕ) (a : Awaiting) → Loud (refused_at t r a)
+refused_loud t r awaits.Kept = inl refl
+refused_loud t r awaits.Nothing = inl refl
+refused_loud t r (awaits.Reply n o load) = inl refl
+refused_loud t r awaits.Turn = inl refl
+refused_loud t r awaits.Entries = inl refl
+refused_loud t r (awaits.Content h len) = inl refl
 
-payload_loud : (g : Group) (me : ℕ) (t : Standing) (payload : List ℕ) → Loud (step g me t (input.Payload payload))
+taken_loud : (me : ℕ) (t : Standing) (m : ToClient) → PhaseHolds t.calls t.phase → Loud (taken me t m)
+taken_loud me t say.Hi f = inl refl
+taken_loud me t (say.Reply seal ts part) f = replied_loud me t seal (grown t ts) (read_part part) t.awaiting
+taken_loud me t say.Wait f = waited_loud t t.phase f
+taken_loud me t (say.Update seal part) f = updated_loud t seal (read_part part) t.own
+taken_loud me t (say.Entries seal ts) f = inl refl
+taken_loud me t (say.Refused r) f = refused_loud t r t.awaiting
+taken_loud me t say.Kept f = kept_loud t t.phase
+taken_loud me t (say.Content c) f = inl refl
+taken_loud me t say.Gone f = inl refl
+taken_loud me t say.Absent f = inl refl
+
+or_halts_loud : (me : ℕ) (t : Standing) (m : Option ToClient) (k : Option ℕ) → PhaseHolds t.calls t.phase → Loud (taken_or_halts me t m k)
+or_halts_loud me t m (Some k) f = inl refl
+or_halts_loud me t (Some m) None f = taken_loud me t m f
+or_halts_loud me t None None f = inl refl
+
+on_payload_loud : (g : Group) (me : ℕ) (t : Standing) (k : Option ℕ) (payload : List ℕ) → PhaseHolds t.calls t.phase → Loud (on_payload g me t k payload)
+on_payload_loud g me t (Some k) payload f = inl refl
+on_payload_loud g me t None payload f = or_halts_loud me t (read_answer payload) (verdict g me t payload) f
+
+payload_loud : (g : Group) (me : ℕ) (t : Standing) (payload : List ℕ) → PhaseHolds t.calls t.phase → Loud (step g me t (input.Payload payload))
 unfolding step
-payload_loud g me t payload = on_payload_loud g me t t.halted payload
+payload_loud g me t payload f = on_payload_loud g me t t.halted payload f
 
--- where nothing is tagged, nothing is sent
-silent : (g : Group) (me : ℕ) (v : Move) → Loud v → text_sent g me v.next v.sends ≡ [] → v.sends ≡ None
-silent g me v (inl e) nothing = e
+-- where nothing is tagged, nothing is sent but a request for a content
+silent : (g : Group) (me : ℕ) (v : Move) → Loud v → text_sent g me v.next v.sends ≡ [] → (v.sends ≡ None) ⊎ FetchesOne v
+silent g me v (inl e) nothing = inl e
 silent g me v (inr (inl e)) nothing = let f = sym (ap (text_sent g me v.next) e.1) ∙ nothing in absurd cc
-silent g me v (inr (inr e)) nothing = let f = sym (ap (text_sent g me v.next) e) ∙ nothing in absurd cc
+silent g me v (inr (inr (inl e))) nothing = let f = sym (ap (text_sent g me v.next) e) ∙ nothing in absurd cc
+silent g me v (inr (inr (inr (inl e)))) nothing = let f = sym (ap (text_sent g me v.next) e.2) ∙ nothing in absurd cc
+silent g me v (inr (inr (inr (inr e)))) nothing = inr e
+
+-- ---- how far the call on objects has come
+
+-- the hash in a reference is one
+hash_long : (v : List ℕ) → is_reference v ≡ true → length (hash_in v) ≡ 32
+hash_long v e = let long : length v ≡ 36 = eqb-true (length v) 36 e in omega (arith, length-take 32 v, long)
+
+answered_holds : (calls : ℕ) (a : Answer) → PhaseHolds calls (answered a).0
+answered_holds calls answer.Stored = tt
+answered_holds calls (answer.Found v) = by_test (is_reference v) refl
+  where
+    by_test : (b : Bool) → is_reference v ≡ b
+        → PhaseHolds calls (if◌then◌else◌ {A = Stepped} b (phase.Fetching (record { bytes = hash_in v }) (length_in v), next.Fetch (record { bytes = hash_in v }) (length_in v)) (phase.Closed, next.Bad)).0
+    by_test true e = hash_long v e
+    by_test false e = tt
+answered_holds calls answer.NotFound = tt
+answered_holds calls answer.Removed = tt
+answered_holds calls answer.Absent = tt
+answered_holds calls (answer.Names names) = tt
+
+decided_holds : (calls : ℕ) (p : Phase) (o : Outcome) → PhaseHolds calls p → PhaseHolds calls (after_decision p o)
+decided_holds calls phase.Closed o f = f
+decided_holds calls (phase.Keeping k h len) o f = f
+decided_holds calls (phase.Fetching h len) o f = f
+decided_holds calls phase.Calling (outcome.Done a) f = answered_holds calls a
+decided_holds calls phase.Calling (outcome.Aborted u) f = tt
+decided_holds calls phase.Calling (outcome.Refused r) f = tt
+decided_holds calls phase.Calling (outcome.Halted k) f = tt
+
+abbrev Holds : Move → Type 0
+Holds v = PhaseHolds v.next.calls v.next.phase
+
+replied_holds : (me : ℕ) (t : Standing) (seal : Seal) (path : List Entry) (part : Option Part) (a : Awaiting) → PhaseHolds t.calls t.phase → Holds (replied me t seal path part a)
+replied_holds me t seal [] part a f = f
+replied_holds me t seal (e ∷ below) None a f = f
+replied_holds me t seal (e ∷ below) (Some part) (awaits.Reply n o load) f = decided_holds t.calls t.phase (decision me t below seal.position part o) f
+replied_holds me t seal (e ∷ below) (Some part) awaits.Nothing f = f
+replied_holds me t seal (e ∷ below) (Some part) awaits.Turn f = f
+replied_holds me t seal (e ∷ below) (Some part) awaits.Entries f = f
+replied_holds me t seal (e ∷ below) (Some part) awaits.Kept f = f
+replied_holds me t seal (e ∷ below) (Some part) (awaits.Content h n) f = f
+
+updated_holds : (t : Standing) (seal : Seal) (part : Option Part) (own : List Own) → PhaseHolds t.calls t.phase → Holds (updated t seal part own)
+updated_holds t seal None own f = f
+updated_holds t seal (Some part) [] f = f
+updated_holds t seal (Some part) (o ∷ others) f = f
+
+waited_holds : (t : Standing) (p : Phase) → PhaseHolds t.calls t.phase → Holds (waited t p)
+waited_holds t phase.Closed f = f
+waited_holds t (phase.Keeping k h len) f = f
+waited_holds t phase.Calling f = f
+waited_holds t (phase.Fetching h len) f = f
+
+kept_holds : (t : Standing) (p : Phase) → PhaseHolds t.calls t.phase → Holds (goes_to t false (kept_at p))
+kept_holds t phase.Closed f = f
+kept_holds t (phase.Keeping k h len) f = tt
+kept_holds t phase.Calling f = f
+kept_holds t (phase.Fetching h len) f = f
+
+refused_holds : (t : Standing) (r : ℕ) (a : Awaiting) → PhaseHolds t.calls t.phase → Holds (refused_at t r a)
+refused_holds t r awaits.Kept f = tt
+refused_holds t r awaits.Nothing f = decided_holds t.calls t.phase (outcome.Refused r) f
+refused_holds t r (awaits.Reply n o load) f = decided_holds t.calls t.phase (outcome.Refused r) f
+refused_holds t r awaits.Turn f = decided_holds t.calls t.phase (outcome.Refused r) f
+refused_holds t r awaits.Entries f = decided_holds t.calls t.phase (outcome.Refused r) f
+refused_holds t r (awaits.Content h len) f = decided_holds t.calls t.phase (outcome.Refused r) f
+
+taken_holds : (me : ℕ) (t : Standing) (m : ToClient) → PhaseHolds t.calls t.phase → Holds (taken me t m)
+taken_holds me t say.Hi f = f
+taken_holds me t (say.Reply seal ts part) f = replied_holds me t seal (grown t ts) (read_part part) t.awaiting f
+taken_holds me t say.Wait f = waited_holds t t.phase f
+taken_holds me t (say.Update seal part) f = updated_holds t seal (read_part part) t.own f
+taken_holds me t (say.Entries seal ts) f = f
+taken_holds me t (say.Refused r) f = refused_holds t r t.awaiting f
+taken_holds me t say.Kept f = kept_holds t t.phase f
+taken_holds me t (say.Content c) f = tt
+taken_holds me t say.Gone f = f
+taken_holds me t say.Absent f = f
+
+or_halts_holds : (me : ℕ) (t : Standing) (m : Option ToClient) (k : Option ℕ) → PhaseHolds t.calls t.phase → Holds (taken_or_halts me t m k)
+or_halts_holds me t m (Some k) f = f
+or_halts_holds me t (Some m) None f = taken_holds me t m f
+or_halts_holds me t None None f = f
+
+on_payload_holds : (g : Group) (me : ℕ) (t : Standing) (k : Option ℕ) (payload : List ℕ) → PhaseHolds t.calls t.phase → Holds (on_payload g me t k payload)
+on_payload_holds g me t (Some k) payload f = f
+on_payload_holds g me t None payload f = or_halts_holds me t (read_answer payload) (verdict g me t payload) f
+
+payload_holds : (g : Group) (me : ℕ) (t : Standing) (payload : List ℕ) → PhaseHolds t.calls t.phase → Holds (step g me t (input.Payload payload))
+unfolding step
+payload_holds g me t payload f = on_payload_holds g me t t.halted payload f
+
+pub fits_of : (calls : ℕ) (p : Phase) → PhaseHolds calls p → PhaseFits calls p
+fits_of calls phase.Closed f = tt
+fits_of calls (phase.Keeping k h len) f = f
+fits_of calls phase.Calling f = tt
+fits_of calls (phase.Fetching h len) f = tt
 
 -- ---- a client that sends, and one that rests
 
@@ -130,8 +263,8 @@ Moved g made me log t sends = ClientFits g (text_sent g me t sends ++ made) me l
 
 module _ (g : Group) (made : List (List ℕ)) (me : ℕ) (log : List Ordered) where
   pub now_sends : (t : Standing) (sending : Sending) (seen newer : List Ordered) → log ≡ newer ++ seen → t.path ≡ entries seen → StandingFits t → awaits_nothing t.awaiting ≡ false
-      → HasRequestSpelling (request_of g me t sending) → Moved g made me log t (Some sending)
-  now_sends t sending seen newer is path fits busy spelled = record {
+      → HasRequestSpelling (request_of g me t sending) → SendsBytes sending → Moved g made me log t (Some sending)
+  now_sends t sending seen newer is path fits busy spelled content = record {
     seen = seen;
     newer = newer;
     is = is;
@@ -141,7 +274,7 @@ module _ (g : Group) (made : List (List ℕ)) (me : ℕ) (log : List Ordered) wh
     up_is = refl;
     down_is = refl;
     busy = busy;
-    does = record { spelled = spelled; texts = λ text i. in_left (text_sent g me t (Some sending)) made text i };
+    does = record { spelled = spelled; texts = λ text i. in_left (text_sent g me t (Some sending)) made text i; content = content };
   }
 
   pub now_rests : (t : Standing) (seen newer : List Ordered) → log ≡ newer ++ seen → t.path ≡ entries seen → StandingFits t → Moved g made me log t None
@@ -195,19 +328,48 @@ module _ (g : Group) (made : List (List ℕ)) (me : ℕ) (log seen newer : List 
     pub client : Moved g made me log v.next v.sends
     pub texts : AreMade made (checked_texts g v.next.path (taken_by v.next (input.Payload payload)))
 
-  quiet_takes : (v : Move) → Loud v → Quiet g me t (input.Payload payload) v → Takes v
-  quiet_takes v loud q =
+  quiet_takes : (v : Move) → Loud v → Holds v → Quiet g me t (input.Payload payload) v → Takes v
+  quiet_takes v loud holds q =
       let long : length v.next.path ≡ length t.path = ap length q.path in
+      let next_fits : StandingFits v.next = record {
+        sealed = omega (arith, q.sealed, long, fits.sealed);
+        own = subst (AllByRecursion (IsWithin (length v.next.path))) (sym q.own) (within_more (length t.path) (length v.next.path) t.own (omega (arith, long)) fits.own);
+        root = ap length q.root ∙ fits.root;
+        root_bytes = subst AreBytes (sym q.root) fits.root_bytes;
+        calls = omega (arith, q.calls, fits.calls);
+        phase = holds;
+      } in
       record {
-        client = subst (λ z. Moved g made me log v.next z) (sym (silent g me v loud q.sends_nothing)) (now_rests g made me log v.next seen newer is (q.path ∙ path) (record {
-          sealed = omega (arith, q.sealed, long, fits.sealed);
-          own = subst (AllByRecursion (IsWithin (length v.next.path))) (sym q.own) (within_more (length t.path) (length v.next.path) t.own (omega (arith, long)) fits.own);
-          root = ap length q.root ∙ fits.root;
-          root_bytes = subst AreBytes (sym q.root) fits.root_bytes;
-          calls = omega (arith, q.calls, fits.calls);
-        }));
+        client = elim (silent g me v loud q.sends_nothing) [
+          | inl none ↦ subst (λ z. Moved g made me log v.next z) (sym none) (now_rests g made me log v.next seen newer is (q.path ∙ path) next_fits)
+          | inr f ↦ subst (λ z. Moved g made me log v.next z) (sym f.2) (now_sends g made me log v.next (Fetches f.0.bytes) seen newer is (q.path ∙ path) next_fits (ap awaits_nothing f.4) f.3 tt)
+        ];
         texts = subst (AreMade made) (sym (q.checks_nothing v.next.path)) (λ text i. absurd i);
       }
+
+  -- a content is kept, and its reference is put
+  called_takes : length t.path < 2 ^ 32 → (v : Move) → Holds v → Called g me t (input.Payload payload) v → Takes v
+  called_takes room v holds c =
+      let few : t.calls + 1 < 2 ^ 32 = c.few (fits_of t.calls t.phase fits.phase) in
+      let fit = c.fits (fits_of t.calls t.phase fits.phase) in
+      let next : Standing = (calls_op t c.turned c.op c.load).next in
+      let next_fits : StandingFits next = record {
+        sealed = fits.sealed;
+        own = fits.own;
+        root = fits.root;
+        root_bytes = fits.root_bytes;
+        calls = few;
+        phase = subst (λ w. Holds w) c.moved holds;
+      } in
+      record {
+        client = subst (λ w. Moved g made me log w.next w.sends) (sym c.moved)
+            (now_sends g made me log next (Invokes (t.calls + 1) c.op) seen newer is path next_fits refl (room, ((omega arith, few), (fit, length-tag _ _))) tt);
+        texts = by_kept (taken_by v.next (input.Payload payload)) c.takes;
+      }
+    where
+      by_kept : (o : Option ToClient) → ((n : ToClient) → o ≡ Some n → n ≡ say.Kept) → AreMade made (checked_texts g v.next.path o)
+      by_kept None each = λ text i. absurd i
+      by_kept (Some n) each = subst (λ x. AreMade made (checked_texts g v.next.path (Some x))) (sym (each n refl)) (λ text i. absurd i)
 
   -- the log, where the newer entries are split
   log_split : (later between : List Ordered) → newer ≡ later ++ between → log ≡ later ++ (between ++ seen)
@@ -239,18 +401,20 @@ module _ (g : Group) (made : List (List ℕ)) (me : ℕ) (log seen newer : List 
       let p : List Entry = call_of me r.seq r.op ∷ (r.others ++ t.path) in
       let grown : p ≡ entries (c.between ++ seen) = path_grown r.entries (call_of me r.seq r.op ∷ r.others) c.between r.news c.listed in
       let own : List Own = t.own ++ record { position = length p; op = r.op; done = is_done (decision me t (r.others ++ t.path) r.seal.position r.part r.op) } ∷ [] in
-      let next : Standing = record t { path = p; sealed = r.seal.position; root = r.seal.root.bytes; awaiting = awaits.Turn; own = own } in
+      let ends : Outcome = decision me t (r.others ++ t.path) r.seal.position r.part r.op in
+      let next : Standing = record t { path = p; sealed = r.seal.position; root = r.seal.root.bytes; awaiting = awaits.Turn; own = own; phase = after_decision t.phase ends } in
       let next_fits : StandingFits next = record {
         sealed = omega (arith, r.below);
         own = all_append (IsWithin (length p)) t.own _ (within_more (length t.path) (length p) t.own (omega (arith, length-append r.others t.path)) fits.own) (omega arith, tt);
         root = r.sealing.spelled.root;
         root_bytes = c.seal.root_bytes;
         calls = fits.calls;
+        phase = decided_holds t.calls t.phase ends fits.phase;
       } in
       record {
         client = subst (λ w. Moved g made me log w.next w.sends) (sym r.moved)
             (now_sends g made me log next (Commits (is_done (decision me t (r.others ++ t.path) r.seal.position r.part r.op))) (c.between ++ seen) c.later
-            (log_split c.later c.between c.split) grown next_fits refl ((omega arith, omega (arith, r.few)), length-tag _ _));
+            (log_split c.later c.between c.split) grown next_fits refl ((omega arith, omega (arith, r.few)), length-tag _ _) tt);
         texts = checked_made v p answer (ap (λ w. w.next.path) r.moved) r.takes (made_texts c.later c.between p r.seal r.entries c.split grown (omega (arith, r.below)) c.seal c.texts);
       }
 
@@ -269,10 +433,11 @@ module _ (g : Group) (made : List (List ℕ)) (me : ℕ) (log seen newer : List 
         root = root_fits.0;
         root_bytes = root_fits.1;
         calls = fits.calls;
+        phase = fits.phase;
       } in
       record {
         client = subst (λ w. Moved g made me log w.next w.sends) (sym u.moved)
-            (now_sends g made me log next Seals seen newer is path next_fits refl ((omega arith, omega (arith, u.few)), (root_fits.0, length-tag _ _)));
+            (now_sends g made me log next Seals seen newer is path next_fits refl ((omega arith, omega (arith, u.few)), (root_fits.0, length-tag _ _)) tt);
         texts = checked_made v t.path answer (ap (λ w. w.next.path) u.moved) u.takes (made_texts newer [] t.path u.seal [] (sym (append-nil newer)) path u.sealing.within c.seal (λ text i. absurd i));
       }
 
@@ -289,18 +454,20 @@ module _ (g : Group) (made : List (List ℕ)) (me : ℕ) (log seen newer : List 
         root = l.sealing.spelled.root;
         root_bytes = c.seal.root_bytes;
         calls = fits.calls;
+        phase = fits.phase;
       } in
       record {
         client = subst (λ w. Moved g made me log w.next w.sends) (sym l.moved) (now_rests g made me log next (c.between ++ seen) c.later (log_split c.later c.between c.split) grown next_fits);
         texts = checked_made v p answer (ap (λ w. w.next.path) l.moved) l.takes (made_texts c.later c.between p l.seal l.entries c.split grown l.sealing.within c.seal c.texts);
       }
 
-  kind_takes : (v : Move) → Loud v → Kind g me t (input.Payload payload) v → Takes v
-  kind_takes v loud (is_quiet q) = quiet_takes v loud q
-  kind_takes v loud (is_called c) = let e = c.asked in absurd cc
-  kind_takes v loud (is_replied r) = replied_takes v r
-  kind_takes v loud (is_updated u) = updated_takes v u
-  kind_takes v loud (is_listed l) = listed_takes v l
+  kind_takes : length t.path < 2 ^ 32 → (v : Move) → Loud v → Holds v → Kind g me t (input.Payload payload) v → Takes v
+  kind_takes room v loud holds (is_quiet q) = quiet_takes v loud holds q
+  kind_takes room v loud holds (is_called c) = called_takes room v holds c
+  kind_takes room v loud holds (is_replied r) = replied_takes v r
+  kind_takes room v loud holds (is_updated u) = updated_takes v u
+  kind_takes room v loud holds (is_listed l) = listed_takes v l
 
-  pub payload_taken : AreBytes payload → Takes (step g me t (input.Payload payload))
-  payload_taken bytes = kind_takes (step g me t (input.Payload payload)) (payload_loud g me t payload) (step_kind g me t (input.Payload payload) bytes)
+  pub payload_taken : length t.path < 2 ^ 32 → AreBytes payload → Takes (step g me t (input.Payload payload))
+  payload_taken room bytes =
+      kind_takes room (step g me t (input.Payload payload)) (payload_loud g me t payload fits.phase) (payload_holds g me t payload fits.phase) (step_kind g me t (input.Payload payload) bytes)

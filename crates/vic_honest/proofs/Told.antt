@@ -19,22 +19,28 @@ use Rattle.vic_rules.specs.declared.state.Own.{Own}
 use Rattle.vic_rules.specs.declared.trace.Input.{Input}
 use Rattle.vic_rules.specs.declared.trace.Input.TheVariants as input
 use Rattle.vic_rules.specs.declared.trace.TraceStep.{TraceStep}
-use Rattle.vic_rules.specs.Client.{Standing, IsIdle, step, grown, decision, decided, replied, updated, taken, taken_or_halts, on_payload, verdict}
+use Rattle.vic_rules.specs.Client.{Standing, IsIdle, step, grown, decision, decided, replied, updated, taken, taken_or_halts, on_payload, verdict, waited, goes_to, refused_at}
+use Rattle.vic_rules.specs.declared.object.Phase.{Phase}
+use Rattle.vic_rules.specs.declared.object.Phase.TheVariants as phase
+use Rattle.vic_rules.specs.declared.object.ObjectCall.TheVariants as object
+use Rattle.vic_rules.specs.Objects.{kept_at}
+use Rattle.vic_honest.proofs.Sent.{IsApart, apart_front}
 use Rattle.vic_rules.specs.History.{standing}
 use Rattle.vic_order.specs.Order.{Server, serve}
 use Rattle.vic_order.specs.Serving.{by_rule}
 use Rattle.vic_order.specs.Scenes.{Queue, Scene, queue_of, set_queue, server_at, steps, served, serves, taken as taking, takes, unchanged, Event, Asks, Serves, Takes, Flips, Hears, Resends, Copies, Joins, happens, MayAsk}
-use Rattle.vic_order.specs.Honest.{MayHonestly, scene_after, AreHonest, IsHonestRun}
+use Rattle.vic_order.specs.Honest.{MayHonestly, scene_after, AreHonest}
 use Rattle.vic_spellings.proofs.SpelledAnswers.{answer_again}
 use Rattle.vic_laws.proofs.Words.{some_same}
 use Rattle.vic_laws.proofs.Standings.{standing_kept}
-use Rattle.vic_honest.specs.Claims.{RefusedAtLimit, WasRefused}
+use Rattle.vic_honest.specs.SafeRuns.{IsSafeRun}
+use Rattle.vic_honest.specs.Claims.{WasRefused}
 use Rattle.vic_honest.proofs.Queues.{queue-set_same, queue-set_other, queue-fresh}
 use Rattle.vic_honest.proofs.Events.{scene-group}
 use Rattle.vic_honest.proofs.Standing.{world_of, SceneFits, Doing, Rests, Sends, Gets, up_by, down_by}
 use Rattle.vic_honest.proofs.Worlds.{step_of, server_is, server_after, all_fit}
 use Rattle.vic_honest.proofs.Known.{SceneKnows, nothing_under_way, answer_spelled, all_known}
-use Rattle.vic_honest.proofs.Refusals.{world_refuses, world_awaits}
+use Rattle.vic_honest.proofs.Refusals.{world_refuses, world_awaits, world_keeps}
 
 -- ---- a client returns a refusal only where it takes one
 
@@ -58,28 +64,52 @@ updated_not t seal None own r e = absurd cc
 updated_not t seal (Some part) [] r e = absurd cc
 updated_not t seal (Some part) (o ∷ others) r e = absurd cc
 
-taken_refused : (me : ℕ) (t : Standing) (m : ToClient) (r : ℕ) → (taken me t m).returns ≡ Some (outcome.Refused r) → m ≡ say.Refused r
+waited_not : (t : Standing) (p : Phase) (r : ℕ) → (waited t p).returns ≡ Some (outcome.Refused r) → ⊥
+waited_not t phase.Closed r e = absurd cc
+waited_not t (phase.Keeping k h len) r e = absurd cc
+waited_not t phase.Calling r e = absurd cc
+waited_not t (phase.Fetching h len) r e = absurd cc
+
+kept_not : (t : Standing) (p : Phase) (r : ℕ) → (goes_to t false (kept_at p)).returns ≡ Some (outcome.Refused r) → ⊥
+kept_not t phase.Closed r e = absurd cc
+kept_not t (phase.Keeping k h len) r e = absurd cc
+kept_not t phase.Calling r e = absurd cc
+kept_not t (phase.Fetching h len) r e = absurd cc
+
+-- a refusal, and not of a content
+abbrev Tells : Standing → Option ToClient → ℕ → Type 0
+Tells t m r = (m ≡ Some (say.Refused r)) × (t.awaiting ≡ awaits.Kept → ⊥)
+
+refused_tells : (t : Standing) (k r : ℕ) (a : Awaiting) → t.awaiting ≡ a → (refused_at t k a).returns ≡ Some (outcome.Refused r) → Tells t (Some (say.Refused k)) r
+refused_tells t k r awaits.Kept at e = absurd cc
+refused_tells t k r awaits.Nothing at e = let same : k ≡ r = cc in (ap (λ n. Some (say.Refused n)) same, λ x. let other = sym at ∙ x in absurd cc)
+refused_tells t k r (awaits.Reply n o load) at e = let same : k ≡ r = cc in (ap (λ n. Some (say.Refused n)) same, λ x. let other = sym at ∙ x in absurd cc)
+refused_tells t k r awaits.Turn at e = let same : k ≡ r = cc in (ap (λ n. Some (say.Refused n)) same, λ x. let other = sym at ∙ x in absurd cc)
+refused_tells t k r awaits.Entries at e = let same : k ≡ r = cc in (ap (λ n. Some (say.Refused n)) same, λ x. let other = sym at ∙ x in absurd cc)
+refused_tells t k r (awaits.Content h len) at e = let same : k ≡ r = cc in (ap (λ n. Some (say.Refused n)) same, λ x. let other = sym at ∙ x in absurd cc)
+
+taken_refused : (me : ℕ) (t : Standing) (m : ToClient) (r : ℕ) → (taken me t m).returns ≡ Some (outcome.Refused r) → Tells t (Some m) r
 taken_refused me t say.Hi r e = absurd cc
 taken_refused me t (say.Reply seal entries part) r e = absurd (replied_not me t seal (grown t entries) (read_part part) t.awaiting r e)
-taken_refused me t say.Wait r e = absurd cc
+taken_refused me t say.Wait r e = absurd (waited_not t t.phase r e)
 taken_refused me t (say.Update seal part) r e = absurd (updated_not t seal (read_part part) t.own r e)
 taken_refused me t (say.Entries seal entries) r e = absurd cc
-taken_refused me t (say.Refused k) r e = let same : k ≡ r = cc in ap say.Refused same
-taken_refused me t say.Kept r e = absurd cc
+taken_refused me t (say.Refused k) r e = refused_tells t k r t.awaiting refl e
+taken_refused me t say.Kept r e = absurd (kept_not t t.phase r e)
 taken_refused me t (say.Content c) r e = absurd cc
 taken_refused me t say.Gone r e = absurd cc
 taken_refused me t say.Absent r e = absurd cc
 
-taken_or_refused : (me : ℕ) (t : Standing) (m : Option ToClient) (k : Option ℕ) (r : ℕ) → (taken_or_halts me t m k).returns ≡ Some (outcome.Refused r) → m ≡ Some (say.Refused r)
+taken_or_refused : (me : ℕ) (t : Standing) (m : Option ToClient) (k : Option ℕ) (r : ℕ) → (taken_or_halts me t m k).returns ≡ Some (outcome.Refused r) → Tells t m r
 taken_or_refused me t m (Some k) r e = absurd cc
-taken_or_refused me t (Some m) None r e = ap Some (taken_refused me t m r e)
+taken_or_refused me t (Some m) None r e = taken_refused me t m r e
 taken_or_refused me t None None r e = absurd cc
 
-payload_refused : (g : Group) (me : ℕ) (t : Standing) (halted : Option ℕ) (payload : List ℕ) (r : ℕ) → (on_payload g me t halted payload).returns ≡ Some (outcome.Refused r) → read_answer payload ≡ Some (say.Refused r)
+payload_refused : (g : Group) (me : ℕ) (t : Standing) (halted : Option ℕ) (payload : List ℕ) (r : ℕ) → (on_payload g me t halted payload).returns ≡ Some (outcome.Refused r) → Tells t (read_answer payload) r
 payload_refused g me t (Some k) payload r e = absurd cc
 payload_refused g me t None payload r e = taken_or_refused me t (read_answer payload) (verdict g me t payload) r e
 
-take_refused : (g : Group) (me : ℕ) (t : Standing) (payload : List ℕ) (r : ℕ) → (step g me t (input.Payload payload)).returns ≡ Some (outcome.Refused r) → read_answer payload ≡ Some (say.Refused r)
+take_refused : (g : Group) (me : ℕ) (t : Standing) (payload : List ℕ) (r : ℕ) → (step g me t (input.Payload payload)).returns ≡ Some (outcome.Refused r) → Tells t (read_answer payload) r
 unfolding step
 take_refused g me t payload r e = payload_refused g me t t.halted payload r e
 
@@ -87,12 +117,17 @@ take_refused g me t payload r e = payload_refused g me t t.halted payload r e
 ask_refused : (s : Scene) (me : ℕ) (i : Input) → MayAsk s me i → (r : ℕ) → (step s.group me (standing s.group me s.history) i).returns ≡ Some (outcome.Refused r) → ⊥
 unfolding step
 ask_refused s me (input.Call o) may r e = absurd cc
+ask_refused s me (input.Object (object.Store k c)) may r e = absurd cc
+ask_refused s me (input.Object (object.Load k)) may r e = absurd cc
+ask_refused s me (input.Object (object.Erase k)) may r e = absurd cc
+ask_refused s me (input.Object (object.Names p)) may r e = absurd cc
 ask_refused s me input.Poll may r e = absurd cc
 ask_refused s me input.Sync may r e = absurd cc
 ask_refused s me (input.Payload payload) may r e = may
 
 ask_idle : (s : Scene) (me : ℕ) (i : Input) → MayAsk s me i → IsIdle (standing s.group me s.history)
 ask_idle s me (input.Call o) may = may.0
+ask_idle s me (input.Object c) may = may.0
 ask_idle s me input.Poll may = may
 ask_idle s me input.Sync may = may
 ask_idle s me (input.Payload payload) may = absurd may
@@ -106,7 +141,8 @@ AreTold g events (x ∷ past) = AreTold g events past × ((r : ℕ) → x.return
 
 -- so is a client for which a refusal waits
 abbrev Waits : List Event → Scene → ℕ → Type 0
-Waits events s me = (payload : List ℕ) (rest : List (List ℕ)) → queue_of s.down me ≡ payload ∷ rest → (r : ℕ) → read_answer payload ≡ Some (say.Refused r) → WasRefused s.group events me (standing s.group me s.history) r
+Waits events s me = (payload : List ℕ) (rest : List (List ℕ)) → queue_of s.down me ≡ payload ∷ rest → (r : ℕ) → read_answer payload ≡ Some (say.Refused r) → ((standing s.group me s.history).awaiting ≡ awaits.Kept → ⊥)
+    → WasRefused s.group events me (standing s.group me s.history) r
 
 record IsTold (events : List Event) (s : Scene) : Type 0 where
   steps : AreTold s.group events s.history
@@ -158,11 +194,12 @@ module _ (events : List Event) (s : Scene) (server : Server) (at_events : scene_
   unfolding steps
   step_told m i down same none new = record {
     steps = (told_still s.group m events s.history told.steps, λ r f. refused_still s.group m events me (standing s.group me s.history) r (new r f));
-    waits = λ j low high payload rest at r read. elim (cases_eq j me) [
+    waits = λ j low high payload rest at r read other. elim (cases_eq j me) [
       | inl mine ↦ let there : queue_of down j ≡ queue_of down me = ap (queue_of down) mine in absurd cc
       | inr apart ↦
           subst (λ t. WasRefused s.group (m ∷ events) j t r) (sym (standing_kept s.group j (step_of s.group (world_of s server) me i) s.history (λ x. apart (sym x))))
-          (refused_still s.group m events j (standing s.group j s.history) r (told.waits j low high payload rest (sym (same j apart low) ∙ at) r read))
+          (refused_still s.group m events j (standing s.group j s.history) r (told.waits j low high payload rest (sym (same j apart low) ∙ at) r read
+          (λ k. other (ap (λ t. t.awaiting) (standing_kept s.group j (step_of s.group (world_of s server) me i) s.history (λ x. apart (sym x))) ∙ k))))
     ];
   }
 
@@ -177,31 +214,34 @@ module _ (events : List Event) (s : Scene) (server : Server) (at_events : scene_
       let c = know.clients me above upto in
       step_told (Takes me) (input.Payload payload) (set_queue s.down me rest) (λ j apart low. queue-set_other s.down me j rest above low apart)
       (queue-set_same s.down me rest above (omega (arith, upto, fit.one.down_count)) ∙ alone (queue_of s.down me) payload rest c.doing c.down_is at)
-      (λ r e. told.waits me above upto payload rest at r (take_refused s.group me (standing s.group me s.history) payload r e))
+      (λ r e. let tells = take_refused s.group me (standing s.group me s.history) payload r e in told.waits me above upto payload rest at r tells.0 tells.1)
 
   takes_told : (queue_of s.down me ≡ [] → ⊥) → IsTold (Takes me ∷ events) (takes unchanged s me)
   unfolding takes
   takes_told some = taken_told (queue_of s.down me) refl some
 
   -- the server answers a request
-  answered : (payload : List ℕ) (rest : List (List ℕ)) → queue_of s.up me ≡ payload ∷ rest → (r : ℕ) → (serve server me payload).answer ≡ say.Refused r
+  answered : (payload : List ℕ) (rest : List (List ℕ)) → queue_of s.up me ≡ payload ∷ rest → (r : ℕ) → (serve server me payload).answer ≡ say.Refused r → ((standing s.group me s.history).awaiting ≡ awaits.Kept → ⊥)
       → WasRefused s.group (Serves me ∷ events) me (standing s.group me s.history) r
-  answered payload rest at r answer =
-      let refused : RefusedAtLimit server payload r = world_refuses s.group (world_of s server) fit.fits know me above upto payload rest at r answer in
-      record {
-        later = [];
-        before = events;
-        payload = payload;
-        rest = rest;
-        server = server;
-        is = refl;
-        waited = ap (λ (t : Scene). queue_of t.up me) at_events ∙ at;
-        one = ap (λ (t : Scene). server_at t.servers 1) at_events ∙ ap (λ l. server_at l 1) fit.one.only;
-        answer = answer;
-        refused = refused;
-        load = false;
-        awaited = world_awaits s.group (world_of s server) fit.fits know me above upto payload rest at refused.known refused.seq refused.op refused.tag refused.is;
-      }
+  answered payload rest at r answer other = elim (world_refuses s.group (world_of s server) fit.fits know me above upto payload rest at r answer) [
+    | inl refused ↦
+        let reply = world_awaits s.group (world_of s server) fit.fits know me above upto payload rest at refused.known refused.seq refused.op refused.tag refused.is in
+        record {
+          later = [];
+          before = events;
+          payload = payload;
+          rest = rest;
+          server = server;
+          is = refl;
+          waited = ap (λ (t : Scene). queue_of t.up me) at_events ∙ at;
+          one = ap (λ (t : Scene). server_at t.servers 1) at_events ∙ ap (λ l. server_at l 1) fit.one.only;
+          answer = answer;
+          refused = refused;
+          load = reply.0;
+          awaited = reply.1;
+        }
+    | inr c ↦ absurd (other (world_keeps s.group (world_of s server) fit.fits know me above upto payload rest at c.content c.is))
+  ]
 
   served_told : (q : Queue) → queue_of s.up me ≡ q → (q ≡ [] → ⊥) → IsTold (Serves me ∷ events) (served by_rule s me q (Some server))
   served_told [] at some = absurd (some refl)
@@ -216,15 +256,15 @@ module _ (events : List Event) (s : Scene) (server : Server) (at_events : scene_
       let waits_here : queue_of down me ≡ text ∷ [] = queue-set_same s.down me joined above (omega (arith, upto, fit.one.down_count)) ∙ ap (λ l. l ++ text ∷ []) only.1 in
       record {
         steps = told_still s.group (Serves me) events s.history told.steps;
-        waits = λ j low high payload2 rest2 at2 r read. elim (cases_eq j me) [
+        waits = λ j low high payload2 rest2 at2 r read other. elim (cases_eq j me) [
           | inl mine ↦
               let there : queue_of down j ≡ queue_of down me = ap (queue_of down) mine in
               let same : text ≡ payload2 = cc in
               subst (λ k. WasRefused s.group (Serves me ∷ events) k (standing s.group k s.history) r) (sym mine)
-              (answered payload rest at r (some_same (sym read_back ∙ ap read_answer same ∙ read)))
+              (answered payload rest at r (some_same (sym read_back ∙ ap read_answer same ∙ read)) (subst (λ k. (standing s.group k s.history).awaiting ≡ awaits.Kept → ⊥) mine other))
           | inr apart ↦
               refused_still s.group (Serves me) events j (standing s.group j s.history) r
-              (told.waits j low high payload2 rest2 (sym (queue-set_other s.down me j joined above low apart) ∙ at2) r read)
+              (told.waits j low high payload2 rest2 (sym (queue-set_other s.down me j joined above low apart) ∙ at2) r read other)
         ];
       }
 
@@ -244,13 +284,14 @@ happens_told events s server at fit know told (Resends me) may = absurd may.0
 happens_told events s server at fit know told (Copies n t) may = absurd may.0
 happens_told events s server at fit know told (Joins me n) may = absurd may.0
 
-all_told : (g : Group) → IsGroup g → (events : List Event) → AreHonest g events → IsTold events (scene_after g events)
-all_told g group [] h = record { steps = tt; waits = λ me low high payload rest at. let none = sym (queue-fresh g.count me) ∙ at in absurd cc }
-all_told g group (m ∷ before) h =
+all_told : (g : Group) → IsGroup g → (events : List Event) → AreHonest g events → IsApart (scene_after g events) → IsTold events (scene_after g events)
+all_told g group [] h apart = record { steps = tt; waits = λ me low high payload rest at r read other. let none = sym (queue-fresh g.count me) ∙ at in absurd cc }
+all_told g group (m ∷ before) h apart =
     let s : Scene = scene_after g before in
-    happens_told before s (server_after g before) (ap (λ k. scene_after k before) (scene-group g before)) (all_fit g group before h.0) (all_known g group before h.0) (all_told g group before h.0) m h.1
+    let apart_before : IsApart s = apart_front s m h.1 apart in
+    happens_told before s (server_after g before) (ap (λ k. scene_after k before) (scene-group g before)) (all_fit g group before h.0) (all_known g group before h.0 apart_before) (all_told g group before h.0 apart_before) m h.1
 
-pub refusals_are_told : (s : Scene) (server : Server) (events : List Event) → IsHonestRun s server events → (newer : List TraceStep) (x : TraceStep) (past : List TraceStep) → s.history ≡ newer ++ x ∷ past
+pub refusals_are_told : (s : Scene) (server : Server) (events : List Event) → IsSafeRun s server events → (newer : List TraceStep) (x : TraceStep) (past : List TraceStep) → s.history ≡ newer ++ x ∷ past
     → (r : ℕ) → x.returned ≡ Some (outcome.Refused r) → WasRefused s.group events x.client (standing s.group x.client past) r
 refusals_are_told s server events run newer x past is =
-    told_at s.group events newer x past (subst (AreTold s.group events) is (subst (IsTold events) (sym run.is) (all_told s.group run.group events run.may)).steps)
+    told_at s.group events newer x past (subst (AreTold s.group events) is (subst (IsTold events) (sym run.honest.is) (all_told s.group run.honest.group events run.honest.may (subst IsApart run.honest.is run.apart))).steps)

@@ -1,30 +1,30 @@
--- What a sync's answer tells, and to whom the turn comes, where only calls are refused.
-use Rattle.std.specs.Prelude.{◌≡◌, ℕ, suc, ◌+◌, ◌<◌, ◌≤◌, ◌⊎◌, Bool, true, false, ◌&&◌, List, [], ◌∷◌, ◌++◌, length, ◌-◌, take, drop, Option, Some, None, nat_eq, nat_le, nat_lt, if◌then◌else◌, min}
+-- What a sync's answer tells, and to whom the turn comes, where only calls and contents are refused.
+use Rattle.std.specs.Prelude.{◌≡◌, ℕ, ◌+◌, ◌<◌, ◌≤◌, ◌⊎◌, Bool, true, false, ◌&&◌, List, [], ◌∷◌, ◌++◌, length, ◌-◌, take, Option, Some, None, nat_eq, nat_le, nat_lt, if◌then◌else◌, min}
 use Rattle.std.proofs.Common.{refl, ap, subst, sym, ◌∙◌, inl, inr, arith, lt-ltb, le-ltb, leb-true, eqb-true, eq-eqb, true≢false}
-use Rattle.std.proofs.lemmas.Bool.{cases_lt, and_parts, cases_Bool}
+use Rattle.std.proofs.lemmas.Bool.{cases_lt, and_parts}
 use Rattle.vic_dict.specs.declared.op.Entry.{Entry}
 use Rattle.vic_dict.specs.Lists.{front}
 use Rattle.vic_wire.specs.declared.message.Tagged.{Tagged}
 use Rattle.vic_wire.specs.declared.message.ToServer.{ToServer}
 use Rattle.vic_wire.specs.declared.message.ToServer.TheVariants as ask
-use Rattle.vic_wire.specs.declared.message.ToClient.{ToClient}
 use Rattle.vic_wire.specs.declared.message.ToClient.TheVariants as say
+use Rattle.vic_wire.specs.Hashes.{Group}
 use Rattle.vic_wire.specs.Reading.{read_request}
 use Rattle.vic_rules.specs.Client.{onto, first_failing}
-use Rattle.vic_order.specs.Order.{Ordered, Server, Answered, tagged, entries_above, says, becomes, guarded, unless_refused, size, sealed_count, top_seal, member, is_ready, is_open_at, is_member, owns_committed, ordered_at, commit_at, turn, turn_on, update_part, with_commit, with_seal, set_stage, seal_at_position, on_request, serve, serve_read}
+use Rattle.vic_order.specs.Order.{Ordered, Server, Answered, tagged, entries_above, says, becomes, guarded, unless_refused, size, sealed_count, top_seal, member, is_ready, is_open_at, is_member, owns_committed, ordered_at, commit_at, turn, turn_on, update_part, with_commit, with_seal, set_stage, seal_at_position, serve, serve_read}
 use Rattle.vic_order.specs.declared.Stage.TheVariants as stage
 use Rattle.vic_order.specs.Fates.{entries}
 use Rattle.vic_laws.proofs.Words.{some_same, none_is_some}
 use Rattle.vic_laws.proofs.Growth.{front_whole, length-front}
-use Rattle.vic_honest.specs.Claims.{RefusedAtLimit, IsSyncedSo, AsksTurn, HasTurn, IsTurnedSo}
+use Rattle.vic_honest.specs.Claims.{RefusedAtLimit, ContentRefused, IsSyncedSo, AsksTurn, IsTurnedSo}
 use Rattle.vic_honest.proofs.Words.{front-joined, entries-joined, length-entries}
 use Rattle.std.proofs.lemmas.List.{take-append-drop}
 
 -- ---- what isn't refused is answered
 
--- the server refuses nothing with this payload but a call
-abbrev OnlyCalls : Server → ℕ → List ℕ → Type 0
-OnlyCalls s me payload = (r : ℕ) → (serve s me payload).answer ≡ say.Refused r → RefusedAtLimit s payload r
+-- the server refuses nothing with this payload but a call or a content
+abbrev OnlyCalls : Group → Server → ℕ → List ℕ → Type 0
+OnlyCalls g s me payload = (r : ℕ) → (serve s me payload).answer ≡ say.Refused r → RefusedAtLimit s payload r ⊎ ContentRefused g s payload r
 
 guarded_passes : (s : Server) (tests : List (ℕ × Bool)) (a : Answered) → ((r : ℕ) → (guarded s tests a).answer ≡ say.Refused r → ⊥) → (guarded s tests a ≡ a) × (first_failing tests ≡ None)
 guarded_passes s tests a never = now (first_failing tests) refl
@@ -33,15 +33,17 @@ guarded_passes s tests a never = now (first_failing tests) refl
     now None e = (ap (λ o. unless_refused s o a) e, e)
     now (Some r) e = absurd (never r (ap (λ o. (unless_refused s o a).answer) e))
 
-never_call : (s : Server) (me : ℕ) (payload : List ℕ) (r : ToServer) → read_request payload ≡ Some r → OnlyCalls s me payload → ((known seq : ℕ) (o : _) (tag : _) → r ≡ ask.Invoke known seq o tag → ⊥)
-    → (n : ℕ) → (serve_read s me (Some r)).answer ≡ say.Refused n → ⊥
+never_call : (g : Group) (s : Server) (me : ℕ) (payload : List ℕ) (r : ToServer) → read_request payload ≡ Some r → OnlyCalls g s me payload → ((known seq : ℕ) (o : _) (tag : _) → r ≡ ask.Invoke known seq o tag → ⊥)
+    → ((c : List ℕ) → r ≡ ask.Keep c → ⊥) → (n : ℕ) → (serve_read s me (Some r)).answer ≡ say.Refused n → ⊥
 unfolding serve
-never_call s me payload r read only other n e =
-    let l = only n (ap (λ o. (serve_read s me o).answer) read ∙ e) in
-    other l.known l.seq l.op l.tag (some_same (sym read ∙ l.is))
+never_call g s me payload r read only other content n e =
+    elim (only n (ap (λ o. (serve_read s me o).answer) read ∙ e)) [
+      | inl l ↦ other l.known l.seq l.op l.tag (some_same (sym read ∙ l.is))
+      | inr c ↦ content c.content (some_same (sym read ∙ c.is))
+    ]
 
 -- a request of a member, answered as its case says
-module _ (s : Server) (me : ℕ) (payload : List ℕ) (only : OnlyCalls s me payload) where
+module _ (s : Server) (me : ℕ) (payload : List ℕ) where
   served_as : (r : ToServer) → read_request payload ≡ Some r → serve s me payload ≡ serve_read s me (Some r)
   unfolding serve
   served_as r read = ap (serve_read s me) read
@@ -91,18 +93,18 @@ test_passed : (b : Bool) → first_failing ((5, b) ∷ []) ≡ None → b ≡ tr
 test_passed true e = refl
 test_passed false e = absurd (none_is_some (sym e))
 
-pub syncs_are_answered : (s : Server) (me : ℕ) (payload : List ℕ) → OnlyCalls s me payload → (known : ℕ) → read_request payload ≡ Some (ask.Sync known) → IsSyncedSo s known (serve s me payload).answer
-syncs_are_answered s me payload only known read =
+pub syncs_are_answered : (g : Group) (s : Server) (me : ℕ) (payload : List ℕ) → OnlyCalls g s me payload → (known : ℕ) → read_request payload ≡ Some (ask.Sync known) → IsSyncedSo s known (serve s me payload).answer
+syncs_are_answered g s me payload only known read =
     let e : ℕ = min (size s) (known + 8192) in
     let a : Answered = says s (say.Entries (seal_at_position s (min (sealed_count s) e)) (entries_above known (front e s.log))) in
-    let never = never_call s me payload (ask.Sync known) read only (λ k n o t f. absurd cc) in
-    let p = passed s me payload only (is_ready (member s me).stage && nat_le known (size s)) a never in
+    let never = never_call g s me payload (ask.Sync known) read only (λ k n o t f. absurd cc) (λ c f. absurd cc) in
+    let p = passed s me payload (is_ready (member s me).stage && nat_le known (size s)) a never in
     let within = leb-true known (size s) (and_parts (is_ready (member s me).stage) (nat_le known (size s)) (test_passed _ p.1)).1 in
     let long : length (front e s.log) ≡ e = length-front e s.log (omega arith) in
     record {
       seal = _;
       told = entries_above known (front e s.log);
-      is = ap (λ (x : Answered). x.answer) (served_as s me payload only (ask.Sync known) read ∙ p.0);
+      is = ap (λ (x : Answered). x.answer) (served_as s me payload (ask.Sync known) read ∙ p.0);
       gives = ap (onto (entries_above known (front e s.log))) (sym (front_front known e s.log (omega (arith, within)) (omega arith)))
           ∙ above_onto known (front e s.log) (omega (arith, within, long));
     }
@@ -132,28 +134,28 @@ turn_is s me = now (ordered_at s (sealed_count s + 1)) (commit_at s (sealed_coun
 turned_by : (s : Server) (me : ℕ) (a : Answered) (next : Server) → a.next ≡ next → a.answer ≡ turn next me → IsTurnedSo a.next me a.answer
 turned_by s me a next e f = subst (IsTurnedSo a.next me) (ap (λ (t : Server). turn t me) e ∙ sym f) (turn_is a.next me)
 
-pub turns_are_told : (s : Server) (me : ℕ) (payload : List ℕ) → OnlyCalls s me payload → (r : ToServer) → read_request payload ≡ Some r → AsksTurn r
+pub turns_are_told : (g : Group) (s : Server) (me : ℕ) (payload : List ℕ) → OnlyCalls g s me payload → (r : ToServer) → read_request payload ≡ Some r → AsksTurn r
     → IsTurnedSo (serve s me payload).next me (serve s me payload).answer
-turns_are_told s me payload only (ask.Hello kind client) read asks = absurd asks
-turns_are_told s me payload only (ask.Invoke known seq o tag) read asks = absurd asks
-turns_are_told s me payload only (ask.Commit position done tag) read asks =
+turns_are_told g s me payload only (ask.Hello kind client) read asks = absurd asks
+turns_are_told g s me payload only (ask.Invoke known seq o tag) read asks = absurd asks
+turns_are_told g s me payload only (ask.Commit position done tag) read asks =
     let next : Server = set_stage (with_commit s position done tag) me stage.Ready in
-    let never = never_call s me payload (ask.Commit position done tag) read only (λ k n o t f. absurd cc) in
-    let p = passed s me payload only (is_open_at position (member s me).stage) (becomes next (turn next me)) never in
-    let is = served_as s me payload only (ask.Commit position done tag) read ∙ p.0 in
+    let never = never_call g s me payload (ask.Commit position done tag) read only (λ k n o t f. absurd cc) (λ c f. absurd cc) in
+    let p = passed s me payload (is_open_at position (member s me).stage) (becomes next (turn next me)) never in
+    let is = served_as s me payload (ask.Commit position done tag) read ∙ p.0 in
     turned_by s me (serve s me payload) next (ap (λ (x : Answered). x.next) is) (ap (λ (x : Answered). x.answer) is)
-turns_are_told s me payload only ask.Poll read asks =
-    let never = never_call s me payload ask.Poll read only (λ k n o t f. absurd cc) in
-    let p = passed s me payload only (is_ready (member s me).stage) (says s (turn s me)) never in
-    let is = served_as s me payload only ask.Poll read ∙ p.0 in
+turns_are_told g s me payload only ask.Poll read asks =
+    let never = never_call g s me payload ask.Poll read only (λ k n o t f. absurd cc) (λ c f. absurd cc) in
+    let p = passed s me payload (is_ready (member s me).stage) (says s (turn s me)) never in
+    let is = served_as s me payload ask.Poll read ∙ p.0 in
     turned_by s me (serve s me payload) s (ap (λ (x : Answered). x.next) is) (ap (λ (x : Answered). x.answer) is)
-turns_are_told s me payload only (ask.Seal position root tag) read asks =
+turns_are_told g s me payload only (ask.Seal position root tag) read asks =
     let next : Server = with_seal s (record { position = position; root = root; tag = tag }) in
-    let never = never_call s me payload (ask.Seal position root tag) read only (λ k n o t f. absurd cc) in
-    let p = passed s me payload only (is_ready (member s me).stage && (nat_eq position (sealed_count s + 1) && owns_committed me (ordered_at s position) (commit_at s position))) (becomes next (turn next me)) never in
-    let is = served_as s me payload only (ask.Seal position root tag) read ∙ p.0 in
+    let never = never_call g s me payload (ask.Seal position root tag) read only (λ k n o t f. absurd cc) (λ c f. absurd cc) in
+    let p = passed s me payload (is_ready (member s me).stage && (nat_eq position (sealed_count s + 1) && owns_committed me (ordered_at s position) (commit_at s position))) (becomes next (turn next me)) never in
+    let is = served_as s me payload (ask.Seal position root tag) read ∙ p.0 in
     turned_by s me (serve s me payload) next (ap (λ (x : Answered). x.next) is) (ap (λ (x : Answered). x.answer) is)
-turns_are_told s me payload only (ask.Sync known) read asks = absurd asks
-turns_are_told s me payload only (ask.Keep content) read asks = absurd asks
-turns_are_told s me payload only (ask.Fetch hash) read asks = absurd asks
-turns_are_told s me payload only ask.Bye read asks = absurd asks
+turns_are_told g s me payload only (ask.Sync known) read asks = absurd asks
+turns_are_told g s me payload only (ask.Keep content) read asks = absurd asks
+turns_are_told g s me payload only (ask.Fetch hash) read asks = absurd asks
+turns_are_told g s me payload only ask.Bye read asks = absurd asks

@@ -1,11 +1,19 @@
 -- Every world of an honest run is fit.
-use Rattle.std.proofs.Common.{◌≡◌, ℕ, ◌+◌, ◌-◌, ◌<◌, ◌≤◌, ◌^◌, true, false, List, [], ◌∷◌, ◌++◌, length, replicate, Option, Some, None, is_none, inl, inr, refl, sym, ap, subst, ◌∙◌, arith, length-append, append_assoc}
+use Rattle.std.proofs.Common.{◌≡◌, ℕ, ◌+◌, ◌-◌, ◌<◌, ◌≤◌, ◌^◌, Bool, true, false, List, [], ◌∷◌, ◌++◌, length, replicate, Option, Some, None, is_none, inl, inr, refl, sym, ap, subst, ◌∙◌, arith, length-append, append_assoc}
 use Rattle.std.specs.List.{AllByRecursion}
 use Rattle.std.proofs.lemmas.Bool.{cases_eq, and_parts}
 use Rattle.std.proofs.lemmas.List.{length-replicate, get_or-replicate}
 use Rattle.std.proofs.lemmas.Option.{unwrap_or-slice_get}
 use Rattle.sha2.proofs.Facts256.{length-sha256}
 use Rattle.vic_dict.specs.Lists.{IsIn, AreBytes}
+use Rattle.vic_dict.specs.declared.op.Op.{Op}
+use Rattle.vic_dict.specs.declared.op.Op.TheVariants as op
+use Rattle.vic_dict.specs.Dictionary.{Fits, AreBytesIn}
+use Rattle.vic_wire.specs.declared.message.Digest32.{Digest32}
+use Rattle.vic_rules.specs.declared.object.Phase.{Phase}
+use Rattle.vic_rules.specs.declared.object.Phase.TheVariants as phase
+use Rattle.vic_rules.specs.declared.object.ObjectCall.TheVariants as object
+use Rattle.vic_rules.specs.Objects.{content_hash}
 use Rattle.vic_wire.specs.declared.message.ToClient.{ToClient}
 use Rattle.vic_wire.specs.declared.message.Seal.{Seal}
 use Rattle.vic_wire.specs.Hashes.{Group, IsGroup}
@@ -14,7 +22,7 @@ use Rattle.vic_rules.specs.declared.state.Awaiting.TheVariants as awaits
 use Rattle.vic_rules.specs.declared.trace.Input.{Input}
 use Rattle.vic_rules.specs.declared.trace.Input.TheVariants as input
 use Rattle.vic_rules.specs.declared.trace.TraceStep.{TraceStep}
-use Rattle.vic_rules.specs.Client.{Standing, Sending, Invokes, Polls, Syncs, Move, step, MayStep, IsIdle, request_of, payload_of, awaits_nothing, seal_of}
+use Rattle.vic_rules.specs.Client.{Standing, Sending, Invokes, Polls, Syncs, Keeps, calls_op, Move, step, MayStep, IsIdle, request_of, payload_of, awaits_nothing, seal_of}
 use Rattle.vic_rules.specs.History.{standing}
 use Rattle.vic_rules.specs.Trust.{IsForged, texts_made, text_sent, checked_texts, taken_by, took}
 use Rattle.vic_order.specs.Order.{Ordered, Server, Answered, fresh_server, ready, serve}
@@ -27,36 +35,38 @@ use Rattle.vic_spellings.proofs.SpelledAnswers.{answer_again}
 use Rattle.vic_roots.proofs.Proper.{proper-nothing}
 use Rattle.vic_laws.proofs.Words.{all_weaker, in_right}
 use Rattle.vic_laws.proofs.Standings.{standing_moved, standing_kept}
-use Rattle.vic_honest.proofs.Words.{AreMade, Keeps, length-entries}
+use Rattle.vic_honest.proofs.Words.{AreMade, length-entries}
+use Rattle.vic_honest.proofs.Words.{Keeps as Stays}
 use Rattle.vic_honest.proofs.Serving.{length-tag, seal-grows, Served, payload_served}
 use Rattle.vic_honest.proofs.Taking.{Moved, now_sends, payload_taken}
 use Rattle.vic_honest.proofs.Queues.{queue-set_same, queue-set_other, queue-fresh, length-set_queue}
-use Rattle.vic_honest.proofs.Standing.{World, world_of, HasOne, SceneFits, EntryFits, SealFits, ServerFits, StandingFits, RequestGoes, AnswerComes, OfSeal, IsWithin, Doing, Rests, Sends, Gets, Does, IsBusy, up_by, down_by, ClientFits}
+use Rattle.vic_honest.proofs.Standing.{World, world_of, HasOne, SceneFits, EntryFits, SealFits, ServerFits, StandingFits, PhaseHolds, RequestGoes, AnswerComes, OfSeal, IsWithin, Doing, Rests, Sends, Gets, Does, IsBusy, up_by, down_by, ClientFits}
 
 -- ---- what stays as more is made and the log grows
 
-entry-stays : (before made : List (List ℕ)) → Keeps before made → (o : Ordered) → EntryFits before o → EntryFits made o
+entry-stays : (before made : List (List ℕ)) → Stays before made → (o : Ordered) → EntryFits before o → EntryFits made o
 entry-stays before made keeps o fits = record { spelled = fits.spelled; tag = fits.tag; tag_bytes = fits.tag_bytes; text = keeps _ fits.text }
 
-seal-stays : (g : Group) (before made : List (List ℕ)) → Keeps before made → (log : List Ordered) (x : Seal) → SealFits g before log x → SealFits g made log x
+seal-stays : (g : Group) (before made : List (List ℕ)) → Stays before made → (log : List Ordered) (x : Seal) → SealFits g before log x → SealFits g made log x
 seal-stays g before made keeps log x fits = record { spelled = fits.spelled; root_bytes = fits.root_bytes; tag_bytes = fits.tag_bytes; within = fits.within; text = λ above. keeps _ (fits.text above) }
 
-server-stays : (g : Group) (before made : List (List ℕ)) → Keeps before made → (s : Server) → ServerFits g before s → ServerFits g made s
+server-stays : (g : Group) (before made : List (List ℕ)) → Stays before made → (s : Server) → ServerFits g before s → ServerFits g made s
 server-stays g before made keeps s fits = record {
   log = all_weaker (EntryFits before) (EntryFits made) (entry-stays before made keeps) s.log fits.log;
   seals = all_weaker (SealFits g before s.log) (SealFits g made s.log) (seal-stays g before made keeps s.log) s.seals fits.seals;
   dictionary = fits.dictionary;
   room = fits.room;
+  contents = fits.contents;
 }
 
 of_seal : (P Q : Seal → Type 0) → ((x : Seal) → P x → Q x) → (x : Option Seal) → OfSeal P x → OfSeal Q x
 of_seal P Q more None h = tt
 of_seal P Q more (Some x) h = more x h
 
-module _ (g : Group) (before made : List (List ℕ)) (keeps : Keeps before made) (me : ℕ) (log new : List Ordered) (t : Standing) where
+module _ (g : Group) (before made : List (List ℕ)) (keeps : Stays before made) (me : ℕ) (log new : List Ordered) (t : Standing) where
   does-stays : (seen newer : List Ordered) (doing : Doing) → Does g before me log t seen newer doing → Does g made me (new ++ log) t seen (new ++ newer) doing
   does-stays seen newer Rests h = tt
-  does-stays seen newer (Sends sending) h = record { spelled = h.spelled; texts = λ text i. keeps text (h.texts text i) }
+  does-stays seen newer (Sends sending) h = record { spelled = h.spelled; texts = λ text i. keeps text (h.texts text i); content = h.content }
   does-stays seen newer (Gets m) h = record {
     later = new ++ h.later;
     between = h.between;
@@ -88,7 +98,7 @@ module _ (g : Group) (before made : List (List ℕ)) (keeps : Keeps before made)
 abbrev pub step_of : Group → World → ℕ → Input → TraceStep
 step_of g w me i =
     let v = step g me (standing g me w.history) i in
-    record { client = me; input = i; sent = payload_of g me v.next v.sends; returned = v.returns }
+    record { client = me; input = i; sent = payload_of g me v.next v.sends; returned = v.returns; object = v.object }
 
 abbrev pub move : Group → World → ℕ → Input → Move
 move g w me i = step g me (standing g me w.history) i
@@ -123,7 +133,7 @@ module _ (s : Scene) (server : Server) (fit : SceneFits s server) (me : ℕ) (ab
   abbrev up : List Queue
   up = set_queue s.up me (queued (queue_of s.up me) x.sent)
 
-  keeps : Keeps (texts_made g w.history) made
+  keeps : Stays (texts_made g w.history) made
   keeps text h = subst (λ l. IsIn l text) (sym (made_more g w me i)) (in_right (text_sent g me v.next v.sends) (texts_made g w.history) text h)
 
   mine : Moved g (texts_made g w.history) me w.server.log v.next v.sends → w.up me ≡ [] → queue_of down me ≡ []
@@ -151,7 +161,7 @@ module _ (s : Scene) (server : Server) (fit : SceneFits s server) (me : ℕ) (ab
   step_fits happens up_is down_is texts = record {
     one = record { group = fit.one.group; up_count = length-set_queue s.up me _ ∙ fit.one.up_count; down_count = count; by = fit.one.by; only = fit.one.only };
     fits = record {
-      steps = (fit.fits.steps, record { member = (above, upto); may = may; sent = refl; returned = refl });
+      steps = (fit.fits.steps, record { member = (above, upto); may = may; sent = refl; returned = refl; object = refl });
       honest = not_forged g w me i texts fit.fits.honest;
       server = server-stays g (texts_made g w.history) made keeps w.server fit.fits.server;
       clients = λ j low high. elim (cases_eq j me) [
@@ -163,13 +173,14 @@ module _ (s : Scene) (server : Server) (fit : SceneFits s server) (me : ℕ) (ab
 
 -- ---- asking
 
-same_fits : (t next : Standing) → next.path ≡ t.path → next.sealed ≡ t.sealed → next.own ≡ t.own → next.root ≡ t.root → next.calls ≡ t.calls → StandingFits t → StandingFits next
-same_fits t next path sealed own root calls fits = record {
+same_fits : (t next : Standing) → next.path ≡ t.path → next.sealed ≡ t.sealed → next.own ≡ t.own → next.root ≡ t.root → next.calls ≡ t.calls → PhaseHolds next.calls next.phase → StandingFits t → StandingFits next
+same_fits t next path sealed own root calls holds fits = record {
   sealed = omega (arith, fits.sealed, ap length path);
   own = subst (AllByRecursion (IsWithin (length next.path))) (sym own) (subst (λ p. AllByRecursion (IsWithin (length p)) t.own) (sym path) fits.own);
   root = ap length root ∙ fits.root;
   root_bytes = subst AreBytes (sym root) fits.root_bytes;
   calls = omega (arith, fits.calls);
+  phase = holds;
 }
 
 -- a client that awaits nothing has nothing under way
@@ -198,27 +209,49 @@ module _ (s : Scene) (server : Server) (fit : SceneFits s server) (me : ℕ) (ab
   room : length here.path < 2 ^ 32
   room = room_left s.group (texts_made s.group s.history) server here client.seen client.newer fit.fits.server client.is client.path
 
-  asks_fit : (i : Input) → MayAsk s me i → SceneFits (steps s me i) server
-  unfolding step
-  asks_fit (input.Call o) may =
-      let ask = may in
-      let next : Standing = record here { calls = here.calls + 1; awaiting = awaits.Reply (here.calls + 1) o false } in
-      let fits : StandingFits next = record {
+  -- a client that calls an operation
+  op_sent : (p : Phase) (o : Op) (load : Bool) → PhaseHolds (here.calls + 1) p → Fits o → AreBytesIn o → here.calls + 1 < 2 ^ 32
+      → Moved s.group (texts_made s.group s.history) me server.log (calls_op here p o load).next (calls_op here p o load).sends
+  op_sent p o load holds fits bytes few =
+      let next : Standing = (calls_op here p o load).next in
+      let next_fits : StandingFits next = record {
         sealed = client.fits.sealed;
         own = client.fits.own;
         root = client.fits.root;
         root_bytes = client.fits.root_bytes;
-        calls = ask.1.1.1.1;
+        calls = few;
+        phase = holds;
       } in
-      asked (input.Call o) ask ask.0
-      (now_sends s.group (texts_made s.group s.history) me server.log next (Invokes (here.calls + 1) o) client.seen client.newer client.is client.path fits refl
-      (room, ((omega arith, ask.1.1.1.1), ((ask.1.1.0, ask.1.1.1.0), length-tag _ _)))) refl
+      now_sends s.group (texts_made s.group s.history) me server.log next (Invokes (here.calls + 1) o) client.seen client.newer client.is client.path next_fits refl
+      (room, ((omega arith, few), ((fits, bytes), length-tag _ _))) tt
+
+  asks_fit : (i : Input) → MayAsk s me i → SceneFits (steps s me i) server
+  unfolding step
+  asks_fit (input.Call o) may =
+      let ask = may in
+      asked (input.Call o) ask ask.0 (op_sent phase.Closed o false tt ask.1.1.0 ask.1.1.1.0 ask.1.1.1.1) refl
+  asks_fit (input.Object (object.Store k c)) may =
+      let ask = may in
+      let h : Digest32 = record { bytes = content_hash c } in
+      let next : Standing = record here { awaiting = awaits.Kept; phase = phase.Keeping k h (length c) } in
+      let holds : PhaseHolds here.calls (phase.Keeping k h (length c)) = (((ask.1.1.0.0, ask.1.1.1.0.0), (length-sha256 _, bytes-sha256 _)), ask.1.1.1.1) in
+      asked (input.Object (object.Store k c)) ask ask.0
+      (now_sends s.group (texts_made s.group s.history) me server.log next (Keeps c) client.seen client.newer client.is client.path (same_fits here next refl refl refl refl refl holds client.fits) refl ask.1.1.0.1 ask.1.1.1.0.1) refl
+  asks_fit (input.Object (object.Load k)) may =
+      let ask = may in
+      asked (input.Object (object.Load k)) ask ask.0 (op_sent phase.Calling (op.Get k) true tt ask.1.1.0 ask.1.1.1.0 ask.1.1.1.1) refl
+  asks_fit (input.Object (object.Erase k)) may =
+      let ask = may in
+      asked (input.Object (object.Erase k)) ask ask.0 (op_sent phase.Calling (op.Del k) false tt ask.1.1.0 ask.1.1.1.0 ask.1.1.1.1) refl
+  asks_fit (input.Object (object.Names p)) may =
+      let ask = may in
+      asked (input.Object (object.Names p)) ask ask.0 (op_sent phase.Calling (op.List p) false tt (omega (arith, ask.1.1.0)) ask.1.1.1.0 ask.1.1.1.1) refl
   asks_fit input.Poll may =
       let next : Standing = record here { awaiting = awaits.Turn } in
-      asked input.Poll may may (now_sends s.group (texts_made s.group s.history) me server.log next Polls client.seen client.newer client.is client.path (same_fits here next refl refl refl refl refl client.fits) refl tt) refl
+      asked input.Poll may may (now_sends s.group (texts_made s.group s.history) me server.log next Polls client.seen client.newer client.is client.path (same_fits here next refl refl refl refl refl client.fits.phase client.fits) refl tt tt) refl
   asks_fit input.Sync may =
       let next : Standing = record here { awaiting = awaits.Entries } in
-      asked input.Sync may may (now_sends s.group (texts_made s.group s.history) me server.log next Syncs client.seen client.newer client.is client.path (same_fits here next refl refl refl refl refl client.fits) refl room) refl
+      asked input.Sync may may (now_sends s.group (texts_made s.group s.history) me server.log next Syncs client.seen client.newer client.is client.path (same_fits here next refl refl refl refl refl client.fits.phase client.fits) refl room tt) refl
   asks_fit (input.Payload payload) may = absurd may
 
 -- ---- the server
@@ -325,7 +358,8 @@ module _ (s : Scene) (server : Server) (fit : SceneFits s server) (me : ℕ) (ab
   got_fit : (seen newer : List Ordered) → server.log ≡ newer ++ seen → (standing s.group me s.history).path ≡ entries seen
       → StandingFits (standing s.group me s.history) → (m : ToClient) → queue_of s.up me ≡ [] → AnswerComes s.group (texts_made s.group s.history) server.log seen newer m → SceneFits (taken unchanged s me (answer_text m ∷ [])) server
   got_fit seen newer is path fits m up_is comes =
-      let gone = payload_taken s.group (texts_made s.group s.history) me server.log seen newer (standing s.group me s.history) is path fits (answer_text m) m (answer_again m comes.spelled) comes comes.bytes in
+      let gone = payload_taken s.group (texts_made s.group s.history) me server.log seen newer (standing s.group me s.history) is path fits (answer_text m) m (answer_again m comes.spelled) comes
+      (room_left s.group (texts_made s.group s.history) server (standing s.group me s.history) seen newer fit.fits.server is path) comes.bytes in
       step_fits s server fit me above upto (input.Payload (answer_text m)) comes.bytes (set_queue s.down me []) (length-set_queue s.down me [] ∙ fit.one.down_count) (λ j apart low. queue-set_other s.down me j [] above low apart)
       gone.client up_is (queue-set_same s.down me [] above (omega (arith, upto, fit.one.down_count))) gone.texts
 
@@ -358,13 +392,13 @@ opening_fits g group = record {
   fits = record {
     steps = tt;
     honest = λ no_step. no_step;
-    server = record { log = tt; seals = tt; dictionary = proper-nothing; room = omega arith };
+    server = record { log = tt; seals = tt; dictionary = proper-nothing; room = omega arith; contents = tt };
     clients = λ j low high. record {
       seen = [];
       newer = [];
       is = refl;
       path = refl;
-      fits = record { sealed = omega arith; own = tt; root = length-sha256 _; root_bytes = bytes-sha256 _; calls = omega arith };
+      fits = record { sealed = omega arith; own = tt; root = length-sha256 _; root_bytes = bytes-sha256 _; calls = omega arith; phase = tt };
       doing = Rests;
       up_is = queue-fresh g.count j;
       down_is = queue-fresh g.count j;

@@ -1,8 +1,10 @@
 -- The laws of honest runs, one by one.
-use Rattle.std.specs.Prelude.{◌≡◌, ◌≢◌, ◌↔◌, ℕ, ◌+◌, ◌-◌, ◌<◌, ◌≤◌, Bool, true, false, not, ◌||◌, List, [], ◌∷◌, ◌++◌, length, Option, Some, None, nat_eq, nat_le, min}
+use Rattle.std.specs.Prelude.{◌≡◌, ◌≢◌, ◌↔◌, ℕ, ◌+◌, ◌-◌, ◌<◌, ◌≤◌, ◌⊎◌, Bool, true, false, not, ◌&&◌, ◌||◌, List, [], ◌∷◌, ◌++◌, length, Option, Some, None, nat_eq, nat_le, min}
+use Rattle.std.specs.List.{sum_by}
 use Rattle.vic_dict.specs.declared.op.Op.{Op}
 use Rattle.vic_dict.specs.declared.op.Entry.{Entry}
 use Rattle.vic_dict.specs.declared.op.Outcome.TheVariants as outcome
+use Rattle.vic_dict.specs.declared.op.Mode.TheVariants as mode
 use Rattle.vic_dict.specs.Lists.{IsIn, front, newest}
 use Rattle.vic_wire.specs.declared.message.Digest32.{Digest32}
 use Rattle.vic_wire.specs.declared.message.Seal.{Seal}
@@ -15,18 +17,21 @@ use Rattle.vic_wire.specs.Hashes.{Group}
 use Rattle.vic_wire.specs.Conflict.{conflicts}
 use Rattle.vic_wire.specs.Reading.{read_request, read_answer}
 use Rattle.vic_wire.specs.Trees.{dictionary_root}
+use Rattle.vic_rules.specs.declared.object.ObjectOutcome.TheVariants as ended
 use Rattle.vic_rules.specs.declared.state.Awaiting.TheVariants as awaits
 use Rattle.vic_rules.specs.declared.trace.Input.TheVariants as input
 use Rattle.vic_rules.specs.declared.trace.TraceStep.{TraceStep}
 use Rattle.vic_rules.specs.declared.trace.Shown.{Shown}
+use Rattle.vic_rules.specs.Objects.{content_hash, ended_by}
 use Rattle.vic_rules.specs.Client.{Standing, first_failing, is_done, onto}
 use Rattle.vic_rules.specs.History.{IsLawful, standing, Completion, completions}
 use Rattle.vic_rules.specs.Views.{confirmed_calls, view_of, IsLegal, left_by, IsInRealTime, HasAll, ShowsOnlyCalls}
 use Rattle.vic_rules.specs.Trust.{IsForged}
-use Rattle.vic_order.specs.Order.{Ordered, Server, Answered, size, sealed_count, top_seal, is_put, op_weight, weight, ordered_at, commit_at, serve}
+use Rattle.vic_order.specs.Order.{Ordered, Server, Answered, size, sealed_count, top_seal, is_put, op_weight, weight, ordered_at, commit_at, is_kept, serve}
 use Rattle.vic_order.specs.Fates.{entries, fate, dictionary_by}
 use Rattle.vic_order.specs.Scenes.{Queue, Scene, SceneOf, queue_of, server_at, Event, Serves}
 use Rattle.vic_order.specs.Honest.{IsHonestRun, scene_after}
+use Rattle.vic_honest.specs.SafeRuns.{IsSafeRun}
 
 -- the path of a client is what the server's log was at some time
 pub record IsFrontOf (s : Scene) (server : Server) (me : ℕ) : Type 0 where
@@ -77,6 +82,32 @@ pub record RefusedAtLimit (s : Server) (payload : List ℕ) (r : ℕ) : Type 0 w
   pub tag : Digest32
   pub is : read_request payload ≡ Some (ask.Invoke known seq op tag)
   pub limit_is : limit s known op ≡ Some r
+
+-- there is room for one content more: contents in all, and bytes in all
+abbrev pub has_room_for : Server → List ℕ → Bool
+has_room_for s content = not (nat_le 1048576 (length s.contents)) && nat_le (sum_by length s.contents + length content) 1073741824
+
+-- a request that is refused was a content to be kept, in a group with objects: it is new, and there is no room for it
+pub record ContentRefused (g : Group) (s : Server) (payload : List ℕ) (r : ℕ) : Type 0 where
+  pub objects : g.mode ≡ mode.Objects
+  pub content : List ℕ
+  pub is : read_request payload ≡ Some (ask.Keep content)
+  pub new : is_kept s.contents (content_hash content) ≡ false
+  pub full : has_room_for s content ≡ false
+  pub number : r ≡ 7
+
+-- a content that is to be kept is refused exactly where it is new and there is no room for it; else it is kept, once
+pub record IsKeptSo (s : Server) (content : List ℕ) (a : Answered) : Type 0 where
+  pub there : is_kept s.contents (content_hash content) ≡ true → (a.answer ≡ say.Kept) × (a.next.contents ≡ s.contents)
+  pub added : is_kept s.contents (content_hash content) ≡ false → has_room_for s content ≡ true → (a.answer ≡ say.Kept) × (a.next.contents ≡ content ∷ s.contents)
+  pub full : is_kept s.contents (content_hash content) ≡ false → has_room_for s content ≡ false → (a.answer ≡ say.Refused 7) × (a.next.contents ≡ s.contents)
+
+-- a content that is asked for is given: the one that is kept under this hash
+pub record IsFetchedSo (s : Server) (hash : Digest32) (answer : ToClient) : Type 0 where
+  pub content : List ℕ
+  pub kept : IsIn s.contents content
+  pub has : content_hash content ≡ hash.bytes
+  pub is : answer ≡ say.Content content
 
 -- the call is the newest entry of the log, with its tag, and a Reply answers it
 pub record IsOrderedBy (s : Server) (me seq : ℕ) (o : Op) (tag : Digest32) (a : Answered) : Type 0 where
@@ -156,22 +187,40 @@ pub record IsOneHistory (g : Group) (h : List TraceStep) (v : List Shown) : Type
 
 -- ---- all of it
 
--- no client has halted, and no step returned that a check failed; a call that is refused names one of four limits
+-- no client has halted, and no step returned that a check failed; a call that is refused names one of four limits, and a call on objects
+-- one of these or, where its content was refused, 7
 pub record NoneHalts (g : Group) (h : List TraceStep) : Type 0 where
   pub stands_so : (i : ℕ) → 0 < i → i ≤ g.count → (standing g i h).halted ≡ None
   pub returns_so : (x : TraceStep) → IsIn h x → (check : ℕ) → x.returned ≡ Some (outcome.Halted check) → ⊥
   pub refuses_so : (x : TraceStep) → IsIn h x → (number : ℕ) → x.returned ≡ Some (outcome.Refused number) → (0 < number) × (number ≤ 4)
+  pub ends_so : (x : TraceStep) → IsIn h x → (number : ℕ) → x.object ≡ Some (ended.Refused number) → ((0 < number) × (number ≤ 4)) ⊎ (number ≡ 7)
 
 -- a position aborts an entry exactly where it is the least that stands in the entry's way
 abbrev pub IsAbortedSo : Ordered → List Ordered → Type 0
 IsAbortedSo o below = (u : ℕ) → (fate o below ≡ outcome.Aborted u) ↔ (StandsInTheWay o below u × ((v : ℕ) → v < u → StandsInTheWay o below v → ⊥))
+
+-- the refusal of a call is returned as what the call ended with, and where it belongs to a call on objects that ends so too
+pub record CallRefused (t : Standing) (x : TraceStep) (r : ℕ) : Type 0 where
+  pub other : t.awaiting ≡ awaits.Kept → ⊥
+  pub returned : x.returned ≡ Some (outcome.Refused r)
+  pub object : x.object ≡ ended_by t.phase (outcome.Refused r)
+
+-- the refusal of a content, in a group with objects, is returned as what the call on objects ended with, and no call returns
+pub record StoreRefused (g : Group) (t : Standing) (x : TraceStep) (r : ℕ) : Type 0 where
+  pub objects : g.mode ≡ mode.Objects
+  pub awaited : t.awaiting ≡ awaits.Kept
+  pub returned : x.returned ≡ None
+  pub object : x.object ≡ Some (ended.Refused r)
+
+abbrev pub RefusalIsReturned : Group → Standing → TraceStep → ℕ → Type 0
+RefusalIsReturned g t x r = CallRefused t x r ⊎ StoreRefused g t x r
 
 -- what a step returned that took a payload
 pub record ReturnsSo (g : Group) (log : List Ordered) (past : List TraceStep) (x : TraceStep) (payload : List ℕ) : Type 0 where
   -- of a Reply: what becomes of the entry of the call
   pub reply : (seal : Seal) (told : List Tagged) (part : List ℕ) → read_answer payload ≡ Some (say.Reply seal told part) → ReturnsItsFate g log past x
   -- of a refusal: refused, with its number
-  pub refusal : (number : ℕ) → read_answer payload ≡ Some (say.Refused number) → x.returned ≡ Some (outcome.Refused number)
+  pub refusal : (number : ℕ) → read_answer payload ≡ Some (say.Refused number) → RefusalIsReturned g (standing g x.client past) x number
 
 -- a sync's answer has the entries that the client lacks: put onto as many of the log's oldest entries as it knows, they give the oldest entries of
 -- the log, up to 8,192 more
@@ -207,9 +256,10 @@ pub record IsTurnedSo (server : Server) (me : ℕ) (answer : ToClient) : Type 0 
   pub waits : (HasTurn server me → ⊥) → answer ≡ say.Wait
 
 -- how a server answers a client's request
-pub record IsServedSo (server : Server) (me : ℕ) (payload : List ℕ) : Type 0 where
-  -- it refuses nothing but calls that would pass one of its limits, with the number of that limit
-  pub refused : (number : ℕ) → (serve server me payload).answer ≡ say.Refused number → RefusedAtLimit server payload number
+pub record IsServedSo (g : Group) (server : Server) (me : ℕ) (payload : List ℕ) : Type 0 where
+  -- it refuses nothing but calls that would pass one of its limits, with the number of that limit, and in a group with objects new
+  -- contents for which there is no room
+  pub refused : (number : ℕ) → (serve server me payload).answer ≡ say.Refused number → RefusedAtLimit server payload number ⊎ ContentRefused g server payload number
   -- a call that would pass a limit is refused, with the number of that limit
   pub limited : (known seq : ℕ) (o : Op) (tag : Digest32) → read_request payload ≡ Some (ask.Invoke known seq o tag)
       → (number : ℕ) → limit server known o ≡ Some number → (serve server me payload).answer ≡ say.Refused number
@@ -218,6 +268,10 @@ pub record IsServedSo (server : Server) (me : ℕ) (payload : List ℕ) : Type 0
       → limit server known o ≡ None → IsOrderedBy server me seq o tag (serve server me payload)
   -- a sync is answered with what the client lacks
   pub synced : (known : ℕ) → read_request payload ≡ Some (ask.Sync known) → IsSyncedSo server known (serve server me payload).answer
+  -- a content is refused exactly where it is new and there is no room for it, and else kept
+  pub kept : (content : List ℕ) → read_request payload ≡ Some (ask.Keep content) → IsKeptSo server content (serve server me payload)
+  -- a fetch is answered with the content
+  pub fetched : (hash : Digest32) → read_request payload ≡ Some (ask.Fetch hash) → IsFetchedSo server hash (serve server me payload).answer
   -- a commit, a poll and a seal are answered by the turn, as the server then stands
   pub turned : (r : ToServer) → read_request payload ≡ Some r → AsksTurn r → IsTurnedSo (serve server me payload).next me (serve server me payload).answer
 
@@ -229,7 +283,7 @@ pub record HoldsHonestly (g : Group) (h : List TraceStep) (up : List Queue) (eve
   pub unforged : IsForged g h → ⊥
   -- each completed call is an entry of the server's log, and returned what becomes of that entry
   pub fated : (c : Completion) → IsIn (completions g h) c → StandsAsFated server.log c
-  -- no client has halted, no step returned that a check failed, and a call that is refused names one of four limits
+  -- no client has halted, no step returned that a check failed, and a call that is refused names one of the limits
   pub goes_on : NoneHalts g h
   -- each client's path is the oldest entries of the server's log, up to some position
   pub paths : (i : ℕ) → 0 < i → i ≤ g.count → (n : ℕ) × ((standing g i h).path ≡ entries (front n server.log))
@@ -250,11 +304,21 @@ pub record HoldsHonestly (g : Group) (h : List TraceStep) (up : List Queue) (eve
   -- a call that returned refused was refused when the run's server served it, at the limit whose number it returned
   pub refused : (newer : List TraceStep) (x : TraceStep) (past : List TraceStep) → h ≡ newer ++ x ∷ past
       → (number : ℕ) → x.returned ≡ Some (outcome.Refused number) → WasRefused g events x.client (standing g x.client past) number
-  -- a client's next request is refused exactly where it is a call that would pass a limit; every other call is ordered
-  pub served_so : (i : ℕ) → 0 < i → i ≤ g.count → (payload : List ℕ) (rest : Queue) → queue_of up i ≡ payload ∷ rest → IsServedSo server i payload
+  -- a client's next request is refused exactly where it is a call that would pass a limit, or a new content without room; every other
+  -- call is ordered, and every other content kept
+  pub served_so : (i : ℕ) → 0 < i → i ≤ g.count → (payload : List ℕ) (rest : Queue) → queue_of up i ≡ payload ∷ rest → IsServedSo g server i payload
 
 abbrev pub IsHonestScene : {V : Type 0} → SceneOf V → List Event → Server → Type 0
 IsHonestScene s events server = HoldsHonestly s.group s.history s.up events server
 
 abbrev pub HonestRunsHold : Type 0
-HonestRunsHold = (s : Scene) (server : Server) (events : List Event) → IsHonestRun s server events → IsHonestScene s events server
+HonestRunsHold = (s : Scene) (server : Server) (events : List Event) → IsSafeRun s server events → IsHonestScene s events server
+
+-- what holds also where two different contents that clients sent have one hash
+pub record HoldsAnyway (g : Group) (h : List TraceStep) (server : Server) : Type 0 where
+  pub lawful : IsLawful g h
+  pub unforged : IsForged g h → ⊥
+  pub paths : (i : ℕ) → 0 < i → i ≤ g.count → (n : ℕ) × ((standing g i h).path ≡ entries (front n server.log))
+
+abbrev pub HonestRunsAreLawful : Type 0
+HonestRunsAreLawful = (s : Scene) (server : Server) (events : List Event) → IsHonestRun s server events → HoldsAnyway s.group s.history server

@@ -1,2 +1,3 @@
+pub mod SafeRuns
 pub mod Claims
 pub mod ObjectClaims

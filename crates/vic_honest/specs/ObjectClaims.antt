@@ -1,45 +1,23 @@
 -- The laws of honest runs of groups with objects.
-use Rattle.std.specs.Prelude.{◌≡◌, ◌≢◌, ℕ, List, [], ◌∷◌, ◌++◌, Some}
+use Rattle.std.specs.Prelude.{◌≡◌, ℕ, List, ◌∷◌, ◌++◌, Some}
 use Rattle.vic_dict.specs.declared.op.Op.TheVariants as op
 use Rattle.vic_dict.specs.declared.op.Answer.TheVariants as answer
 use Rattle.vic_dict.specs.declared.op.Outcome.TheVariants as outcome
-use Rattle.vic_dict.specs.declared.op.Mode.TheVariants as mode
-use Rattle.vic_dict.specs.Lists.{IsIn}
 use Rattle.vic_wire.specs.Hashes.{Group}
 use Rattle.vic_rules.specs.declared.object.ObjectOutcome.TheVariants as ended
 use Rattle.vic_rules.specs.declared.trace.TraceStep.{TraceStep}
 use Rattle.vic_rules.specs.declared.trace.Shown.{Shown}
-use Rattle.vic_rules.specs.Objects.{content_hash, reference_of}
+use Rattle.vic_rules.specs.Objects.{reference_of}
 use Rattle.vic_rules.specs.History.{move_of}
-use Rattle.vic_rules.specs.Trust.{content_sent}
 use Rattle.vic_laws.specs.ContentClaims.{IsStore, NoAskOf, last_put}
 use Rattle.vic_rules.specs.Client.{Invokes}
 use Rattle.vic_rules.specs.declared.object.ObjectCall.TheVariants as object
 use Rattle.vic_rules.specs.declared.trace.Input.TheVariants as input
 use Rattle.vic_order.specs.Order.{Ordered, Server}
 use Rattle.vic_order.specs.Fates.{fate}
-use Rattle.vic_order.specs.Scenes.{Scene, Move}
-use Rattle.vic_order.specs.Honest.{IsHonestRun}
+use Rattle.vic_order.specs.Scenes.{Scene, Event}
+use Rattle.vic_honest.specs.SafeRuns.{IsSafeRun}
 use Rattle.vic_honest.specs.Claims.{shown_log}
-
--- the contents that clients sent to be kept
-unfoldable pub contents_sent : Group → List TraceStep → List (List ℕ)
-contents_sent g [] = []
-contents_sent g (x ∷ past) = content_sent (move_of g past x).sends ++ contents_sent g past
-
--- two different contents that clients sent have one hash
-pub record ContentsCollide (g : Group) (h : List TraceStep) : Type 0 where
-  pub one : List ℕ
-  pub other : List ℕ
-  pub one_sent : IsIn (contents_sent g h) one
-  pub other_sent : IsIn (contents_sent g h) other
-  pub differ : one ≢ other
-  pub same_hash : content_hash one ≡ content_hash other
-
--- a run of which the laws hold: in a group with objects no two different contents that were sent have one hash
-pub record IsSafeRun (s : Scene) (server : Server) (moves : List Move) : Type 0 where
-  pub honest : IsHonestRun s server moves
-  pub apart : s.group.mode ≡ mode.Objects → ContentsCollide s.group s.history → ⊥
 
 -- a step after this past that returned a content to a load: the load is the last thing that its client was asked for, its get stands in
 -- the log as done with a reference, and the last done put of that name below it is the put of a store of this content
@@ -65,5 +43,5 @@ pub record LoadIsFated (g : Group) (h past : List TraceStep) (log : List Ordered
   pub by_store : IsStore g h stored.entry name content
 
 abbrev pub LoadsAreFated : Type 0
-LoadsAreFated = (s : Scene) (server : Server) (moves : List Move) → IsSafeRun s server moves → (newer : List TraceStep) (x : TraceStep) (past : List TraceStep) → s.history ≡ newer ++ x ∷ past
+LoadsAreFated = (s : Scene) (server : Server) (events : List Event) → IsSafeRun s server events → (newer : List TraceStep) (x : TraceStep) (past : List TraceStep) → s.history ≡ newer ++ x ∷ past
     → (content : List ℕ) → x.object ≡ Some (ended.Content content) → LoadIsFated s.group s.history past server.log x.client content
