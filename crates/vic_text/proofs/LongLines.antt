@@ -2,7 +2,7 @@
 use Rattle.std.proofs.Common.{◌≡◌, ℕ, List, [], ◌∷◌, None, refl, if◌then◌else◌, nat_eq, true, false}
 use Rattle.vic_dict.specs.declared.op.Mode.{Mode}
 use Rattle.vic_text.specs.ClientLines.{plain_line}
-use Rattle.vic_script.specs.Lines.{words_of, put_first, header_of, next_header_of, op_of, called, event_of}
+use Rattle.vic_script.specs.Lines.{words_of, put_first, header_of, next_header_of, op_of, object_of, called, event_of}
 
 -- every text has a word, though it may be empty
 pub put_first_some : (b : ℕ) (pieces : List (List ℕ)) → (w : List ℕ) × (ws : List (List ℕ)) × (put_first b pieces ≡ w ∷ ws)
@@ -30,6 +30,9 @@ event_long kind name number third text = let some = words_some text in rw some.2
 
 pub op_of_four : (name a b text : List ℕ) → op_of (name ∷ a ∷ b ∷ words_of text) ≡ None
 op_of_four name a b text = let some = words_some text in rw some.2 refl
+
+pub object_of_four : (name a b text : List ℕ) → object_of (name ∷ a ∷ b ∷ words_of text) ≡ None
+object_of_four name a b text = let some = words_some text in rw some.2 refl
 
 -- a line of three words or more is a call
 pub plain_long : (name a text : List ℕ) → plain_line (name ∷ a ∷ words_of text) ≡ None

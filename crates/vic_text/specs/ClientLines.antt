@@ -3,7 +3,7 @@ use Rattle.std.specs.Prelude.{ℕ, ◌&&◌, List, [], ◌∷◌, Option, Some, 
 use Rattle.std.specs.Str.{bytes_eq}
 use Rattle.vic_dict.specs.declared.op.Mode.{Mode}
 use Rattle.vic_dict.specs.declared.op.Mode.TheVariants as mode
-use Rattle.vic_script.specs.Lines.{words_of, op_of, is_skipped}
+use Rattle.vic_script.specs.Lines.{words_of, op_of, object_of, is_skipped}
 use Rattle.vic_script.specs.Words.{word_number}
 use Rattle.vic_text.specs.declared.client_line.ClientLine.{ClientLine}
 use Rattle.vic_text.specs.declared.client_line.ClientLine.TheVariants as line
@@ -25,10 +25,10 @@ plain_line (name ∷ []) =
 plain_line (name ∷ a ∷ []) = if bytes_eq name (codes "settle") then settle_of (word_number a) else None
 plain_line words = None
 
--- a call, which a group of mode plain has
+-- a call: in a group of mode plain of an operation on the dictionary, in one of mode objects on objects
 abbrev pub call_line : Mode → List (List ℕ) → Option ClientLine
 call_line mode.Plain words = option_map line.Call (op_of words)
-call_line mode.Objects words = None
+call_line mode.Objects words = option_map line.Object (object_of words)
 
 abbrev pub client_line_in : Mode → List (List ℕ) → Option ClientLine
 client_line_in kind words = or_line (plain_line words) (call_line kind words)

@@ -5,16 +5,20 @@ ghost use Rattle.vic_script.specs.Lines.{words_of};
 ghost use Rattle.vic_script.specs.Words.{word_number};
 ghost use Rattle.vic_text.specs.ClientLines.{client_line_of, client_line_in, plain_line, call_line, settle_of};
 
+use crate::object::object_of_words;
 use crate::read::{LineFault, is_skipped, op_of_words};
 use crate::word::{is_name, number_of, split_word};
 use std::alloc::Global;
 use vic_dict::{Mode, NoMemory, Op};
+use vic_rules::ObjectCall;
 
 /// A line of a client's script.
 #[derive(Debug, Drop)]
 pub enum ClientLine {
     /// The client calls the operation.
     Call(Op),
+    /// The client makes the call on objects.
+    Object(ObjectCall),
     Poll,
     Sync,
     /// Polls while the client has unsealed calls, at most so often.
@@ -108,7 +112,7 @@ fn settle_of_word(word: &[u8]) -> Option<ClientLine>
     }
 }
 
-// A call, which a group of mode plain has.
+// A call: of an operation in a group of mode plain, on objects in one of mode objects.
 fn called_line(
     alloc: Global,
     name: &[u8],
@@ -119,6 +123,6 @@ fn called_line(
 {
     match mode {
         Mode::Plain => Ok(op_of_words(alloc, name, others)?.map(ClientLine::Call)),
-        Mode::Objects => Ok(None),
+        Mode::Objects => Ok(object_of_words(alloc, name, others)?.map(ClientLine::Object)),
     }
 }

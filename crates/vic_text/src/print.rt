@@ -1,15 +1,16 @@
-//! Printing bytes, operations, outcomes and bad lines.
+//! Printing bytes, operations, outcomes of both kinds of calls, and bad lines.
 
-ghost use Rattle.std.specs.Prelude.{◌≡◌, ◌<◌, ◌++◌, ◌∷◌, length, OnOk, OnErr, IfOk, if◌then◌else◌};
+ghost use Rattle.std.specs.Prelude.{◌≡◌, ◌<◌, ◌++◌, ◌∷◌, length, OnOk, OnErr, IfOk, if◌then◌else◌, codes, take};
 ghost use Rattle.hex.specs.Hex.{encode_lower};
 ghost use Rattle.std.specs.List.{flat_map, list_all};
 ghost use Rattle.std.specs.Fmt.{decimal};
-ghost use Rattle.vic_script.specs.Words.{is_plain as plain_test, bytes_word, space, op_words, answer_words, outcome_words};
+ghost use Rattle.vic_script.specs.Words.{is_plain as plain_test, bytes_word, space, op_words, answer_words, outcome_words, object_words};
 ghost use Rattle.vic_script.specs.Print.{kind_text as kind_words, bad_line};
 
 use crate::word::are_plain;
 use std::alloc::Global;
 use vic_dict::{Answer, Bytes, Names, NoMemory, Op, Outcome};
+use vic_rules::ObjectOutcome;
 
 /// The operation, as in a line that calls it.
 pub fn op_text(alloc: Global, op: &Op) -> Result<Bytes, NoMemory>
@@ -43,6 +44,32 @@ pub fn outcome_text(alloc: Global, outcome: &Outcome) -> Result<Bytes, NoMemory>
             put_numbered(&mut text, alloc, b"refused ", u32::from(*reason))?
         }
         Outcome::Halted(check) => put_numbered(&mut text, alloc, b"halted ", u32::from(*check))?,
+    }
+    Ok(text)
+}
+
+/// What a call on objects returned, as it is printed: of a content its length in bytes and the first 32 of them, or all where it
+/// has fewer. The cost doesn't grow with the content.
+pub fn object_text(alloc: Global, outcome: &ObjectOutcome) -> Result<Bytes, NoMemory>
+    ensures { IfOk result (λ made. made ≡ object_words outcome.now) }
+{
+    let mut text = Bytes::new(alloc);
+    match outcome {
+        ObjectOutcome::Stored => text.append(b"object stored")?,
+        ObjectOutcome::Content(content) => put_content(&mut text, alloc, content.as_slice())?,
+        ObjectOutcome::Missing => text.append(b"object missing")?,
+        ObjectOutcome::Removed => text.append(b"object removed")?,
+        ObjectOutcome::Absent => text.append(b"object absent")?,
+        ObjectOutcome::Names(names) => {
+            text.append(b"object names")?;
+            put_names(&mut text, alloc, names)?;
+        }
+        ObjectOutcome::Aborted(position) => {
+            put_numbered(&mut text, alloc, b"object aborted ", *position)?
+        }
+        ObjectOutcome::Refused(reason) => {
+            put_numbered(&mut text, alloc, b"object refused ", u32::from(*reason))?
+        }
     }
     Ok(text)
 }
@@ -107,6 +134,15 @@ pub fn put_outcome(out: &mut Bytes, alloc: Global, outcome: &Outcome) -> Result<
     out.append(text.as_slice())
 }
 
+/// Appends what a call on objects returned.
+pub fn put_object(out: &mut Bytes, alloc: Global, outcome: &ObjectOutcome) -> Result<(), NoMemory>
+    ensures ok { OnOk result (out.new ≡ out.old ++ object_words outcome.now) }
+    ensures err { OnErr result (out.new ≡ out.old) }
+{
+    let text = object_text(alloc, outcome)?;
+    out.append(text.as_slice())
+}
+
 /// Appends the line that tells of a bad line: its number, from 1 on, and the text of its kind, 1 to 7. Where memory runs out, some
 /// of it may stand there.
 pub fn put_bad_line(out: &mut Bytes, alloc: Global, number: u32, kind: u8) -> Result<(), NoMemory>
@@ -162,6 +198,27 @@ fn put_answer(out: &mut Bytes, alloc: Global, answer: &Answer) -> Result<(), NoM
             out.append(b"names")?;
             put_names(out, alloc, names)
         }
+    }
+}
+
+fn put_content(out: &mut Bytes, alloc: Global, content: &[u8]) -> Result<(), NoMemory>
+    ensures ok { OnOk result (out.new ≡ out.old ++ codes "object content " ++ decimal (length content.now) ++ space ++ bytes_word (take 32 content.now)) }
+{
+    let length = content.len().to_string(alloc)?;
+    out.append(b"object content ")?;
+    out.append(length.as_bytes())?;
+    out.append(b" ")?;
+    put_word(out, alloc, front(content))
+}
+
+/// The first 32 bytes, or all where there are fewer.
+fn front(content: &[u8]) -> &[u8]
+    ensures { result.now ≡ take 32 content.now }
+{
+    if content.len() <= 32 {
+        content
+    } else {
+        &content[..32]
     }
 }
 

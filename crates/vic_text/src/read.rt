@@ -2,8 +2,9 @@
 
 ghost use Rattle.std.specs.Prelude.{◌≡◌, [], ◌∷◌, IfOk, Some, None};
 ghost use Rattle.vic_script.specs.Words.{word_bytes, word_number, word_capped};
-ghost use Rattle.vic_script.specs.Lines.{words_of, within as within_of, key_of, value_of, prefix_of, op_of, named, give_of, pair_of, copy_of, paired, called, clients_of, header_of, key_line as key_by, next_header_of, or_line, is_skipped as skip_test, line_in, line_of as line_by};
+ghost use Rattle.vic_script.specs.Lines.{words_of, within as within_of, key_of, value_of, prefix_of, op_of, call_of, object_of, object_call_of, named, give_of, pair_of, copy_of, paired, called, group_line, header_of, key_line as key_by, next_header_of, or_line, is_skipped as skip_test, line_in, line_of as line_by};
 
+use crate::object::object_of_words;
 use crate::word::{are_key_digits, bytes_of, is_name, number_of, split_word};
 use std::alloc::Global;
 use thiserror::Error;
@@ -126,19 +127,36 @@ fn header_line(name: &[u8], number: &[u8]) -> Option<Line>
 {
     if is_name(name, b"clients") {
         clients_line(number)
+    } else if is_name(name, b"objects") {
+        objects_line(number)
     } else {
         None
     }
 }
 
 fn clients_line(number: &[u8]) -> Option<Line>
-    ensures { result ≡ clients_of (word_number number.now) }
+    ensures { result ≡ group_line Line.Clients (word_number number.now) }
 {
     match number_of(number) {
         None => None,
         Some(count) => {
             if 0 < count && count <= 64 {
                 Some(Line::Clients(count as u8))
+            } else {
+                None
+            }
+        }
+    }
+}
+
+fn objects_line(number: &[u8]) -> Option<Line>
+    ensures { result ≡ group_line Line.Objects (word_number number.now) }
+{
+    match number_of(number) {
+        None => None,
+        Some(count) => {
+            if 0 < count && count <= 64 {
+                Some(Line::Objects(count as u8))
             } else {
                 None
             }
@@ -253,22 +271,52 @@ fn copy_line(server: &[u8], copy: &[u8]) -> Option<Line>
     }
 }
 
-/// A line that calls an operation, whose name is the third word; the words behind it are given as one text.
+/// A line that calls, whose third word names what it calls; the words behind that are given as one text.
 fn called_line(
     alloc: Global,
     kind: Mode,
     name: &[u8],
     client: &[u8],
-    op_name: &[u8],
+    call_name: &[u8],
     others: &[u8],
 ) -> Result<Option<Line>, NoMemory>
-    ensures { IfOk result (λ o. o ≡ called kind name.now client.now (op_name.now ∷ words_of others.now)) }
+    ensures { IfOk result (λ o. o ≡ called kind name.now client.now (call_name.now ∷ words_of others.now)) }
 {
-    if kind != Mode::Plain || !is_name(name, b"call") {
+    if !is_name(name, b"call") {
         return Ok(None);
     }
-    match (number_of(client), op_of_words(alloc, op_name, others)?) {
+    match kind {
+        Mode::Plain => op_line(alloc, client, call_name, others),
+        Mode::Objects => object_line(alloc, client, call_name, others),
+    }
+}
+
+/// A client calls an operation.
+fn op_line(
+    alloc: Global,
+    client: &[u8],
+    name: &[u8],
+    others: &[u8],
+) -> Result<Option<Line>, NoMemory>
+    ensures { IfOk result (λ o. o ≡ call_of (word_capped client.now) (op_of (name.now ∷ words_of others.now))) }
+{
+    match (number_of(client), op_of_words(alloc, name, others)?) {
         (Some(client), Some(op)) => Ok(Some(Line::Call(client, op))),
+        _ => Ok(None),
+    }
+}
+
+/// A client makes a call on objects.
+fn object_line(
+    alloc: Global,
+    client: &[u8],
+    name: &[u8],
+    others: &[u8],
+) -> Result<Option<Line>, NoMemory>
+    ensures { IfOk result (λ o. o ≡ object_call_of (word_capped client.now) (object_of (name.now ∷ words_of others.now))) }
+{
+    match (number_of(client), object_of_words(alloc, name, others)?) {
+        (Some(client), Some(call)) => Ok(Some(Line::Object(client, call))),
         _ => Ok(None),
     }
 }
@@ -330,7 +378,7 @@ fn put_of_words(
 }
 
 /// Bytes of at least and at most so many.
-fn within(least: usize, most: usize, bytes: Option<Bytes>) -> Option<Bytes>
+pub(crate) fn within(least: usize, most: usize, bytes: Option<Bytes>) -> Option<Bytes>
     ensures { result ≡ within_of least most bytes }
 {
     match bytes {
@@ -345,7 +393,7 @@ fn within(least: usize, most: usize, bytes: Option<Bytes>) -> Option<Bytes>
     }
 }
 
-fn key_word(alloc: Global, word: &[u8]) -> Result<Option<Bytes>, NoMemory>
+pub(crate) fn key_word(alloc: Global, word: &[u8]) -> Result<Option<Bytes>, NoMemory>
     ensures { IfOk result (λ o. o ≡ key_of word.now) }
 {
     Ok(within(1, 255, bytes_of(alloc, word)?))
@@ -357,7 +405,7 @@ fn value_word(alloc: Global, word: &[u8]) -> Result<Option<Bytes>, NoMemory>
     Ok(within(0, 64, bytes_of(alloc, word)?))
 }
 
-fn prefix_word(alloc: Global, word: &[u8]) -> Result<Option<Bytes>, NoMemory>
+pub(crate) fn prefix_word(alloc: Global, word: &[u8]) -> Result<Option<Bytes>, NoMemory>
     ensures { IfOk result (λ o. o ≡ prefix_of word.now) }
 {
     Ok(within(0, 255, bytes_of(alloc, word)?))

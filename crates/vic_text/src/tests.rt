@@ -1,7 +1,8 @@
-use crate::{op_text, outcome_text, read_line};
+use crate::{object_text, op_text, outcome_text, read_client_line, read_line};
 use std::alloc::Global;
 use std::test::Fail;
 use vic_dict::{Answer, Bytes, Mode, Names, Op, Outcome};
+use vic_rules::ObjectOutcome;
 
 const NONE: &str = "Err(Grammar)";
 
@@ -88,8 +89,70 @@ const CALLS: [Row; 15] = [
     ("call 1 store f x", NONE),
 ];
 
+/// Lines of mode objects alone.
+const OBJECTS: [Row; 16] = [
+    (
+        "call 1 store a x",
+        "Ok(Object(1, Store(Bytes { items: [97] }, Bytes { items: [120] })))",
+    ),
+    (
+        "call 2 store %20 zeros:2",
+        "Ok(Object(2, Store(Bytes { items: [32] }, Bytes { items: [0, 0] })))",
+    ),
+    (
+        "call 3 store a zeros:0",
+        "Ok(Object(3, Store(Bytes { items: [97] }, Bytes { items: [] })))",
+    ),
+    (
+        "call 4 load a/",
+        "Ok(Object(4, Load(Bytes { items: [97, 47] })))",
+    ),
+    (
+        "call 4294967296 erase B",
+        "Ok(Object(4294967295, Erase(Bytes { items: [66] })))",
+    ),
+    (
+        "call 5 names %",
+        "Ok(Object(5, Names(Bytes { items: [] })))",
+    ),
+    ("call 1 store a zeros:", NONE),
+    ("call 1 store a zeros:007", NONE),
+    ("call 1 store a zeros:8388609", NONE),
+    ("call 1 store a zeros:4303355904", NONE),
+    ("call 1 store % x", NONE),
+    ("call 1 store a", NONE),
+    ("call 1 store a x y", NONE),
+    ("call 1 load %", NONE),
+    ("call 1 names", NONE),
+    ("call 1 put a x", NONE),
+];
+
+/// Lines of clients' scripts, in mode plain and in mode objects.
+const CLIENTS: [(&str, &str, &str); 12] = [
+    (
+        "put a x",
+        "Ok(Call(Put(Bytes { items: [97] }, Bytes { items: [120] })))",
+        NONE,
+    ),
+    ("get a", "Ok(Call(Get(Bytes { items: [97] })))", NONE),
+    ("put a zeros:1", NONE, NONE),
+    (
+        "store a zeros:1",
+        NONE,
+        "Ok(Object(Store(Bytes { items: [97] }, Bytes { items: [0] })))",
+    ),
+    ("load a", NONE, "Ok(Object(Load(Bytes { items: [97] })))"),
+    ("erase a", NONE, "Ok(Object(Erase(Bytes { items: [97] })))"),
+    ("names a", NONE, "Ok(Object(Names(Bytes { items: [97] })))"),
+    ("poll", "Ok(Poll)", "Ok(Poll)"),
+    ("settle 1000", "Ok(Settle(1000))", "Ok(Settle(1000))"),
+    ("settle 1001", NONE, NONE),
+    ("# a", "Ok(Skip)", "Ok(Skip)"),
+    ("sync 1", NONE, NONE),
+];
+
 /// Lines that are read before the mode is known, too.
-const HEADERS: [Row; 11] = [
+const HEADERS: [Row; 14] = [
     ("", "Ok(Skip)"),
     ("#", "Ok(Skip)"),
     ("# a", "Ok(Skip)"),
@@ -100,7 +163,10 @@ const HEADERS: [Row; 11] = [
     ("clients 65", NONE),
     ("clients 01", NONE),
     ("clients 4294967297", NONE),
-    ("objects 1", NONE),
+    ("objects 1", "Ok(Objects(1))"),
+    ("objects 64", "Ok(Objects(64))"),
+    ("objects 0", NONE),
+    ("objects 65", NONE),
 ];
 
 /// What a text reads as.
@@ -115,6 +181,7 @@ fn lines(rt: HostRuntime) -> Result<(), Fail> {
     let tables = [
         (LINES.as_slice(), [true, true, false]),
         (CALLS.as_slice(), [true, false, false]),
+        (OBJECTS.as_slice(), [false, true, false]),
         (HEADERS.as_slice(), [true, true, true]),
     ];
     let modes = [Some(Mode::Plain), Some(Mode::Objects), None];
@@ -130,18 +197,34 @@ fn lines(rt: HostRuntime) -> Result<(), Fail> {
     Ok(())
 }
 
-// A key and a prefix may have 255 bytes, a value 64, and the key of a group 128 digits.
+// What lines of a client's script read as.
+#[test]
+fn client_lines(rt: HostRuntime) -> Result<(), Fail> {
+    let alloc = rt.alloc();
+    for (line, plain, objects) in &CLIENTS {
+        for (mode, want) in [(Mode::Plain, plain), (Mode::Objects, objects)] {
+            let read = read_client_line(alloc, line.as_bytes(), mode);
+            let text = format!(in alloc; "{read:?}")?;
+            assert_eq!(rt; text.as_str(), *want, "{line}, {mode:?}");
+        }
+    }
+    Ok(())
+}
+
+// A key, a name and a prefix may have 255 bytes, a value 64, and the key of a group 128 digits.
 #[test]
 fn longest(rt: HostRuntime) -> Result<(), Fail> {
-    for (front, most, more) in [
-        ("call 1 get ", 255, 256),
-        ("call 1 list ", 255, 256),
-        ("call 1 put a ", 64, 65),
-        ("key ", 128, 130),
+    for (mode, front, most, more) in [
+        (Mode::Plain, "call 1 get ", 255, 256),
+        (Mode::Plain, "call 1 list ", 255, 256),
+        (Mode::Plain, "call 1 put a ", 64, 65),
+        (Mode::Objects, "call 1 load ", 255, 256),
+        (Mode::Objects, "call 1 names ", 255, 256),
+        (Mode::Plain, "key ", 128, 130),
     ] {
         for count in [most, more] {
             let line = format!(in rt.alloc(); "{front}{}", "a".repeat(rt.alloc(), count)?)?;
-            let read = shown(rt.alloc(), line.as_str(), Some(Mode::Plain))?;
+            let read = shown(rt.alloc(), line.as_str(), Some(mode))?;
             assert!(rt; (read.as_str() == NONE) == (count > most), "{front}{count}");
         }
     }
@@ -188,6 +271,46 @@ fn printed(rt: HostRuntime) -> Result<(), Fail> {
     for (outcome, want) in &outcomes {
         assert_eq!(rt;
             outcome_text(alloc, outcome)?.as_slice(),
+            want.as_bytes(),
+            "{want}"
+        );
+    }
+    Ok(())
+}
+
+// What the outcomes of calls on objects are printed as.
+#[test]
+fn printed_objects(rt: HostRuntime) -> Result<(), Fail> {
+    let alloc = rt.alloc();
+    let mut names = Names::new(alloc);
+    names.push(Bytes::of(alloc, b"a")?)?;
+    names.push(Bytes::of(alloc, b" ")?)?;
+    let front = "0".repeat(alloc, 64)?;
+    let long = format!(in alloc; "object content 33 %{front}")?;
+    let outcomes = [
+        (ObjectOutcome::Stored, "object stored"),
+        (
+            ObjectOutcome::Content(Bytes::of(alloc, b"a")?),
+            "object content 1 a",
+        ),
+        (
+            ObjectOutcome::Content(Bytes::new(alloc)),
+            "object content 0 %",
+        ),
+        (
+            ObjectOutcome::Content(Bytes::of(alloc, &[0; 33])?),
+            long.as_str(),
+        ),
+        (ObjectOutcome::Missing, "object missing"),
+        (ObjectOutcome::Removed, "object removed"),
+        (ObjectOutcome::Absent, "object absent"),
+        (ObjectOutcome::Names(names), "object names a %20"),
+        (ObjectOutcome::Aborted(7), "object aborted 7"),
+        (ObjectOutcome::Refused(7), "object refused 7"),
+    ];
+    for (outcome, want) in &outcomes {
+        assert_eq!(rt;
+            object_text(alloc, outcome)?.as_slice(),
             want.as_bytes(),
             "{want}"
         );
