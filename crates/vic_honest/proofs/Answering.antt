@@ -2,7 +2,7 @@
 use Rattle.std.proofs.Common.{◌≡◌, ℕ, ◌+◌, ◌<◌, Bool, true, false, List, [], ◌∷◌, ◌++◌, length, Option, Some, None, inl, inr, refl, sym, ap, subst, ◌∙◌, arith, length-append, append_assoc}
 use Rattle.std.specs.Prelude.{if◌then◌else◌, nat_eq}
 use Rattle.std.proofs.lemmas.Bool.{lt-ltb, le-ltb, cases_lt}
-use Rattle.vic_dict.specs.Lists.{front, newest}
+use Rattle.vic_dict.specs.Lists.{IsIn, front, newest}
 use Rattle.vic_wire.specs.declared.message.ToClient.TheVariants as say
 use Rattle.vic_wire.specs.Hashes.{Group}
 use Rattle.vic_rules.specs.declared.state.Awaiting.TheVariants as awaits
@@ -65,6 +65,7 @@ pub record Answers (g : Group) (me : ℕ) (s : Server) (t : Standing) (seen newe
   pub knows : ServerKnows g a.next
   pub keeps : Keeps me a.next t seen (new ++ newer)
   pub does : Does g me a.next t seen (new ++ newer) (Gets a.answer)
+  pub still_kept : (c : List ℕ) → IsIn s.contents c → IsIn a.next.contents c
   pub others : (j : ℕ) → 0 < j → (j ≡ me → ⊥) → Later j s a.next
 
 pub count_is : (g : Group) (s : Server) (k : ServerKnows g s) → sealed_count s ≡ length k.base

@@ -64,7 +64,7 @@ got_good contents (o ∷ below) all k v gets = by_done (is_done (fate o below)) 
     by_done true e rest = by_op contents (dictionary_by below) k v o.entry.op all.0 rest e
     by_done false e rest = rest e
 
-found_value : (x : Option (List ℕ)) (v : List ℕ) → found x ≡ answer.Found v → x ≡ Some v
+pub found_value : (x : Option (List ℕ)) (v : List ℕ) → found x ≡ answer.Found v → x ≡ Some v
 found_value None v e = absurd cc
 found_value (Some w) v e = let same : w ≡ v = cc in ap Some same
 
@@ -140,7 +140,7 @@ after_fetching M contents phase.Calling (outcome.Done (answer.Found v)) old call
 
 -- ---- the reference of a content that is kept
 
-first_part : (h rest : List ℕ) (n : ℕ) → length h ≡ n → take n (h ++ rest) ≡ h
+pub first_part : (h rest : List ℕ) (n : ℕ) → length h ≡ n → take n (h ++ rest) ≡ h
 first_part [] rest n e = ap (λ m. take m rest) (sym e)
 first_part (x ∷ h) rest n e = ap (λ m. take m (x ∷ (h ++ rest))) (sym e) ∙ ap (λ t. x ∷ t) (first_part h rest (length h) refl)
 

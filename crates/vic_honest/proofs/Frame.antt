@@ -9,6 +9,7 @@ use Rattle.vic_wire.specs.Hashes.{Group}
 use Rattle.vic_rules.specs.Client.{Standing, Invokes, Commits, Polls, Seals, Syncs, Fetches}
 use Rattle.vic_rules.specs.Client.{Keeps as Contains}
 use Rattle.vic_dict.specs.declared.op.Op.{Op}
+use Rattle.vic_dict.specs.Lists.{IsIn}
 use Rattle.vic_dict.specs.declared.op.Mode.TheVariants as mode
 use Rattle.vic_honest.proofs.Referred.{IsKept, Refers, refers_more}
 use Rattle.vic_order.specs.Order.{Ordered, Server, Member, sealed_count, commit_at, member, set_member, or_away}
@@ -48,6 +49,7 @@ pub record Later (j : ℕ) (s u : Server) : Type 0 where
   pub commits : (newer : List Ordered) (o : Ordered) (below : List Ordered) → s.log ≡ newer ++ o ∷ below → nat_eq o.entry.client j ≡ true → commit_at u (length (o ∷ below)) ≡ commit_at s (length (o ∷ below))
   pub kind : u.mode ≡ s.mode
   pub contents : (h : List ℕ) (len : ℕ) → IsKept s.contents h len → IsKept u.contents h len
+  pub still_kept : (c : List ℕ) → IsIn s.contents c → IsIn u.contents c
   pub passes : (newer : List Ordered) (o : Ordered) (below : List Ordered) → s.log ≡ newer ++ o ∷ below → nat_eq o.entry.client j ≡ true → sealed_count s < length (o ∷ below) → sealed_count u < length (o ∷ below)
 
 module _ (g : Group) (j : ℕ) (s u : Server) (l : Later j s u) (t : Standing) (seen newer : List Ordered) (log : s.log ≡ newer ++ seen) where
@@ -205,7 +207,7 @@ module _ (g : Group) (j : ℕ) (s u : Server) (l : Later j s u) (t : Standing) (
     objects = l.kind ∙ d.objects;
     calm = calm_stays d.calm;
   }
-  does_stays (Gets (say.Content c)) d = record { digest = d.digest; len = d.len; awaiting = d.awaiting; is = d.is; calm = calm_stays d.calm }
+  does_stays (Gets (say.Content c)) d = record { digest = d.digest; len = d.len; awaiting = d.awaiting; is = d.is; kept = l.still_kept c d.kept; objects = l.kind ∙ d.objects; calm = calm_stays d.calm }
   does_stays (Gets say.Gone) d = d
   does_stays (Gets say.Absent) d = d
 
@@ -223,4 +225,4 @@ client_stays g j s u l t up down c = record {
 
 -- a server that stays as it is
 pub same_server : (j : ℕ) (s : Server) → Later j s s
-same_server j s = record { new = []; grown = refl; others = tt; count = omega arith; same = refl; commits = λ newer o below is mine. refl; kind = refl; contents = λ h len k. k; passes = λ newer o below is mine higher. higher }
+same_server j s = record { new = []; grown = refl; others = tt; count = omega arith; same = refl; commits = λ newer o below is mine. refl; kind = refl; contents = λ h len k. k; still_kept = λ c i. i; passes = λ newer o below is mine higher. higher }

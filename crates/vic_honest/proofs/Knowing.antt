@@ -2,6 +2,7 @@
 use Rattle.std.specs.Prelude.{◌≡◌, ℕ, ◌+◌, ◌<◌, ◌≤◌, ◌⊎◌, Bool, true, List, ◌∷◌, ◌++◌, length, Some, None, nat_eq}
 use Rattle.std.specs.List.{AllByRecursion}
 use Rattle.vic_dict.specs.declared.op.Op.{Op}
+use Rattle.vic_dict.specs.Lists.{IsIn}
 use Rattle.vic_dict.specs.Dictionary.{Fits, AreBytesIn}
 use Rattle.vic_wire.specs.declared.message.ToClient.{ToClient}
 use Rattle.vic_wire.specs.declared.message.ToClient.TheVariants as say
@@ -226,6 +227,8 @@ pub record ContentComes (me : ℕ) (s : Server) (t : Standing) (newer : List Ord
   pub len : ℕ
   pub awaiting : t.awaiting ≡ awaits.Content digest len
   pub is : is_content_of digest.bytes len c ≡ true
+  pub kept : IsIn s.contents c
+  pub objects : s.mode ≡ mode.Objects
   pub calm : Calm me s t newer
 
 abbrev pub Does : Group → ℕ → Server → Standing → List Ordered → List Ordered → Doing → Type 0

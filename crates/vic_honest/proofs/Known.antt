@@ -52,7 +52,7 @@ use Rattle.vic_honest.proofs.Checks.{nothing_is, root_on-nil}
 use Rattle.vic_honest.proofs.Frame.{client_stays}
 use Rattle.vic_honest.proofs.Answering.{Answers}
 use Rattle.vic_honest.proofs.Requests.{IsOne, request_answers}
-use Rattle.vic_honest.proofs.Learning.{IsFated, IsFine, EndsFine, Stands, Learns, stands_sending, answer_learnt}
+use Rattle.vic_honest.proofs.Learning.{IsFated, IsFine, EndsFine, ends_later, Stands, Learns, stands_sending, answer_learnt}
 
 -- each client stands well, each completed call has its fate, and nothing else was returned but refusals for want of room
 pub record WorldKnows (g : Group) (w : World) : Type 0 where
@@ -60,7 +60,7 @@ pub record WorldKnows (g : Group) (w : World) : Type 0 where
   pub clients : (me : ℕ) → 0 < me → me ≤ g.count → ClientKnows g me w.server (standing g me w.history) (w.up me) (w.down me)
   pub fates : AllByRecursion (IsFated w.server.log) (completions g w.history)
   pub fine : AllByRecursion (λ x. IsFine x.returned) w.history
-  pub ends : AllByRecursion (λ x. EndsFine x.object) w.history
+  pub ends : AllByRecursion (λ x. EndsFine g.mode w.server.contents x.object) w.history
 
 abbrev pub SceneKnows : Scene → Server → Type 0
 SceneKnows s server = WorldKnows s.group (world_of s server)
@@ -345,7 +345,7 @@ module _ (s : Scene) (server : Server) (fit : SceneFits s server) (know : SceneK
         fates = subst (λ l. AllByRecursion (IsFated l) (completions g s.history)) (sym grown)
             (all_weaker (IsFated server.log) (IsFated (v.new ++ server.log)) (fated-grows v.new server.log) (completions g s.history) know.fates);
         fine = know.fine;
-        ends = know.ends;
+        ends = all_weaker (λ x. EndsFine g.mode server.contents x.object) (λ x. EndsFine g.mode a.next.contents x.object) (λ x h. ends_later g.mode server.contents a.next.contents v.still_kept x.object h) s.history know.ends;
       }
 
   serves_by : OneContent s server → (queue_of s.up me ≡ [] → ⊥) → (seen newer : List Ordered) → Keeps me server (standing s.group me s.history) seen newer → (doing : Doing)

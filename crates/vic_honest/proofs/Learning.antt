@@ -13,7 +13,9 @@ use Rattle.std.specs.Int.{w32, to_be_bytes}
 use Rattle.vic_spellings.proofs.Bytes.{bytes-append, bytes-w32}
 use Rattle.vic_dict.specs.declared.op.Answer.{Answer}
 use Rattle.vic_dict.specs.declared.op.Answer.TheVariants as answer
+use Rattle.vic_dict.specs.declared.op.Mode.{Mode}
 use Rattle.vic_dict.specs.declared.op.Mode.TheVariants as mode
+use Rattle.vic_dict.specs.Lists.{IsIn}
 use Rattle.vic_wire.specs.declared.message.Digest32.{Digest32}
 use Rattle.vic_rules.specs.declared.object.Phase.{Phase}
 use Rattle.vic_rules.specs.declared.object.Phase.TheVariants as phase
@@ -75,17 +77,28 @@ IsFine (Some (outcome.Aborted u)) = Unit {0}
 IsFine (Some (outcome.Refused r)) = (0 < r) × (r ≤ 4)
 IsFine (Some (outcome.Halted n)) = ⊥
 
--- a call on objects is refused for want of room alone, of a log or of what is kept
-abbrev pub EndsFine : Option ObjectOutcome → Type 0
-EndsFine None = Unit {0}
-EndsFine (Some ended.Stored) = Unit {0}
-EndsFine (Some (ended.Content c)) = Unit {0}
-EndsFine (Some ended.Missing) = Unit {0}
-EndsFine (Some ended.Removed) = Unit {0}
-EndsFine (Some ended.Absent) = Unit {0}
-EndsFine (Some (ended.Names names)) = Unit {0}
-EndsFine (Some (ended.Aborted u)) = Unit {0}
-EndsFine (Some (ended.Refused r)) = ((0 < r) × (r ≤ 4)) ⊎ (r ≡ 7)
+-- a call on objects is refused for want of room alone, of a log or of what is kept; a content that it returns is kept, in a group with objects
+abbrev pub EndsFine : Mode → List (List ℕ) → Option ObjectOutcome → Type 0
+EndsFine kind contents None = Unit {0}
+EndsFine kind contents (Some ended.Stored) = Unit {0}
+EndsFine kind contents (Some (ended.Content c)) = (kind ≡ mode.Objects) × IsIn contents c
+EndsFine kind contents (Some ended.Missing) = Unit {0}
+EndsFine kind contents (Some ended.Removed) = Unit {0}
+EndsFine kind contents (Some ended.Absent) = Unit {0}
+EndsFine kind contents (Some (ended.Names names)) = Unit {0}
+EndsFine kind contents (Some (ended.Aborted u)) = Unit {0}
+EndsFine kind contents (Some (ended.Refused r)) = ((0 < r) × (r ≤ 4)) ⊎ (r ≡ 7)
+
+pub ends_later : (kind : Mode) (contents more : List (List ℕ)) → ((c : List ℕ) → IsIn contents c → IsIn more c) → (o : Option ObjectOutcome) → EndsFine kind contents o → EndsFine kind more o
+ends_later kind contents more grows None h = tt
+ends_later kind contents more grows (Some ended.Stored) h = tt
+ends_later kind contents more grows (Some (ended.Content c)) h = (h.0, grows c h.1)
+ends_later kind contents more grows (Some ended.Missing) h = tt
+ends_later kind contents more grows (Some ended.Removed) h = tt
+ends_later kind contents more grows (Some ended.Absent) h = tt
+ends_later kind contents more grows (Some (ended.Names names)) h = tt
+ends_later kind contents more grows (Some (ended.Aborted u)) h = tt
+ends_later kind contents more grows (Some (ended.Refused r)) h = h
 
 -- where the client stands once it has moved there and sent that
 abbrev pub Stands : Group → ℕ → Server → Standing → Option Sending → Type 0
@@ -95,7 +108,7 @@ pub record Learns (g : Group) (me : ℕ) (s : Server) (v : Move) : Type 0 where
   pub client : Stands g me s v.next v.sends
   pub fates : AllByRecursion (IsFated s.log) (completion me v.next.path v.returns)
   pub fine : IsFine v.returns
-  pub ends : EndsFine v.object
+  pub ends : EndsFine g.mode s.contents v.object
 
 module _ (g : Group) (me : ℕ) (s : Server) where
   pub stands_sending : (t : Standing) (sending : Sending) (seen newer : List Ordered) → Keeps me s t seen newer → Does g me s t seen newer (Sends sending) → Stands g me s t (Some sending)
@@ -118,27 +131,27 @@ fate_fine : (o : Ordered) (below : List Ordered) → IsFine (Some (fate o below)
 unfolding fate
 fate_fine o below = decided_fine _ _ _
 
-answered_ends : (a : Answer) → EndsFine (over_with (answered a).1)
-answered_ends answer.Stored = tt
-answered_ends (answer.Found v) = by_test (is_reference v)
+answered_ends : (kind : Mode) (contents : List (List ℕ)) (a : Answer) → EndsFine kind contents (over_with (answered a).1)
+answered_ends kind contents answer.Stored = tt
+answered_ends kind contents (answer.Found v) = by_test (is_reference v)
   where
-    by_test : (b : Bool) → EndsFine (over_with (if◌then◌else◌ {A = Stepped} b (phase.Fetching (record { bytes = hash_in v }) (length_in v), next.Fetch (record { bytes = hash_in v }) (length_in v)) (phase.Closed, next.Bad)).1)
+    by_test : (b : Bool) → EndsFine kind contents (over_with (if◌then◌else◌ {A = Stepped} b (phase.Fetching (record { bytes = hash_in v }) (length_in v), next.Fetch (record { bytes = hash_in v }) (length_in v)) (phase.Closed, next.Bad)).1)
     by_test true = tt
     by_test false = tt
-answered_ends answer.NotFound = tt
-answered_ends answer.Removed = tt
-answered_ends answer.Absent = tt
-answered_ends (answer.Names names) = tt
+answered_ends kind contents answer.NotFound = tt
+answered_ends kind contents answer.Removed = tt
+answered_ends kind contents answer.Absent = tt
+answered_ends kind contents (answer.Names names) = tt
 
 -- a call on objects ends so with a decided call of its own
-outcome_ends : (p : Phase) (x : Outcome) → IsFine (Some x) → EndsFine (ended_by p x)
-outcome_ends phase.Closed x h = tt
-outcome_ends (phase.Keeping k d len) x h = tt
-outcome_ends (phase.Fetching d len) x h = tt
-outcome_ends phase.Calling (outcome.Done a) h = answered_ends a
-outcome_ends phase.Calling (outcome.Aborted u) h = tt
-outcome_ends phase.Calling (outcome.Refused r) h = inl h
-outcome_ends phase.Calling (outcome.Halted k) h = tt
+outcome_ends : (kind : Mode) (contents : List (List ℕ)) (p : Phase) (x : Outcome) → IsFine (Some x) → EndsFine kind contents (ended_by p x)
+outcome_ends kind contents phase.Closed x h = tt
+outcome_ends kind contents (phase.Keeping k d len) x h = tt
+outcome_ends kind contents (phase.Fetching d len) x h = tt
+outcome_ends kind contents phase.Calling (outcome.Done a) h = answered_ends kind contents a
+outcome_ends kind contents phase.Calling (outcome.Aborted u) h = tt
+outcome_ends kind contents phase.Calling (outcome.Refused r) h = inl h
+outcome_ends kind contents phase.Calling (outcome.Halted k) h = tt
 
 -- ---- moves as equations
 
@@ -285,7 +298,7 @@ module _ (g : Group) (made : List (List ℕ)) (s : Server) (k : ServerKnows g s)
     client = rests_so (after_decision t.phase (outcome.Refused r)) (refused_fetching r t.phase keeps.fetching) calm;
     fates = tt;
     fine = limit;
-    ends = outcome_ends t.phase (outcome.Refused r) limit;
+    ends = outcome_ends g.mode s.contents t.phase (outcome.Refused r) limit;
   })
 
   module _ (payload : List ℕ) where
@@ -328,7 +341,7 @@ module _ (g : Group) (made : List (List ℕ)) (s : Server) (k : ServerKnows g s)
     pub content_learnt : (c : List ℕ) → read_answer payload ≡ Some (say.Content c) → ContentComes me s t newer c → Learns g me s (step g me t (input.Payload payload))
     content_learnt c read d =
         subst (Learns g me s) (sym (step_takes g me t payload (say.Content c) keeps.going read (content_passes g me t c d.digest d.len d.awaiting d.is)))
-        (record { client = rests_so phase.Closed (λ h len e. absurd cc) d.calm; fates = tt; fine = tt; ends = tt })
+        (record { client = rests_so phase.Closed (λ h len e. absurd cc) d.calm; fates = tt; fine = tt; ends = (sym k.kind ∙ d.objects, d.kept) })
 
     pub reply_learnt : (m : ToClient) → read_answer payload ≡ Some m → ReplyComes g me s t seen newer m → Learns g me s (step g me t (input.Payload payload))
     reply_learnt m read c =
@@ -395,7 +408,7 @@ module _ (g : Group) (made : List (List ℕ)) (s : Server) (k : ServerKnows g s)
           });
           fates = completed_is (IsFated s.log) me (entries (o ∷ below)) (fate o below) (record { newer = c.later; o = o; below = below; is = log_is; prefix = refl; client = sym client; outcome = refl });
           fine = fate_fine o below;
-          ends = outcome_ends t.phase (fate o below) (fate_fine o below);
+          ends = outcome_ends g.mode s.contents t.phase (fate o below) (fate_fine o below);
         })
 
     pub update_learnt : (m : ToClient) → read_answer payload ≡ Some m → UpdateComes g me s t seen newer m → Learns g me s (step g me t (input.Payload payload))

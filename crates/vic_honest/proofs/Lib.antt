@@ -26,5 +26,6 @@ pub mod OneHistory
 pub mod Refusals
 pub mod Told
 pub mod Replies
+pub mod Loads
 pub mod Scenes
 pub mod Turned

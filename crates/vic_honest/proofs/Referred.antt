@@ -1,11 +1,12 @@
 -- Contents that the server keeps, and the references to them.
-use Rattle.std.proofs.Common.{◌≡◌, ℕ, Bool, true, false, ◌&&◌, ◌||◌, List, [], ◌∷◌, length, Option, Some, refl, sym, ap, ◌∙◌}
+use Rattle.std.proofs.Common.{◌≡◌, ℕ, Bool, true, false, ◌&&◌, ◌||◌, List, [], ◌∷◌, length, Option, Some, inl, inr, refl, sym, ap, ◌∙◌}
 use Rattle.std.specs.Prelude.{if◌then◌else◌}
 use Rattle.std.specs.List.{find, list_any}
 use Rattle.std.specs.Str.{bytes_eq}
 use Rattle.std.proofs.lemmas.Bool.{eq-eqb}
 use Rattle.std.proofs.lemmas.Slice.Eq.{bytes_eq-Decides}
 use Rattle.vic_dict.specs.declared.op.Op.{Op}
+use Rattle.vic_dict.specs.Lists.{IsIn}
 use Rattle.vic_dict.specs.declared.op.Op.TheVariants as op
 use Rattle.vic_wire.specs.Texts.{content_text}
 use Rattle.vic_wire.specs.Hashes.{hash}
@@ -36,6 +37,15 @@ refers_more contents more keeps (op.Put k v) r = (r.0, keeps (hash_in v) (length
 refers_more contents more keeps (op.Get k) r = r
 refers_more contents more keeps (op.Del k) r = r
 refers_more contents more keeps (op.List p) r = r
+
+-- what is found is in the list
+pub found_in : (f : List ℕ → Bool) (xs : List (List ℕ)) (c : List ℕ) → find f xs ≡ Some c → IsIn xs c × (f c ≡ true)
+found_in f [] c e = absurd cc
+found_in f (x ∷ xs) c e = by_test (f x) refl (λ k. found_in f xs c k)
+  where
+    by_test : (b : Bool) → f x ≡ b → (find f xs ≡ Some c → IsIn xs c × (f c ≡ true)) → IsIn (x ∷ xs) c × (f c ≡ true)
+    by_test true t rest = let k : Some x ≡ Some c = sym (ap (λ b. if b then Some x else find f xs) t) ∙ e in let same : x ≡ c = cc in (inl same, ap f (sym same) ∙ t)
+    by_test false t rest = let r = rest (sym (ap (λ b. if b then Some x else find f xs) t) ∙ e) in (inr r.0, r.1)
 
 any_found : (f : List ℕ → Bool) (xs : List (List ℕ)) (c : List ℕ) → find f xs ≡ Some c → list_any f xs ≡ true
 any_found f [] c e = absurd cc

@@ -27,8 +27,7 @@ use Rattle.vic_laws.proofs.Words.{some_same}
 use Rattle.vic_honest.specs.Claims.{limit, RefusedAtLimit, has_room_for, ContentRefused, IsKeptSo, IsFetchedSo, IsOrderedBy}
 use Rattle.vic_honest.proofs.Standing.{World, world_of, WorldFits, ClientFits, Doing, Rests, Sends, Gets, up_by}
 use Rattle.vic_honest.proofs.Worlds.{room_left}
-use Rattle.vic_honest.proofs.Referred.{has}
-use Rattle.vic_honest.proofs.Sent.{found_in}
+use Rattle.vic_honest.proofs.Referred.{has, found_in}
 use Rattle.std.proofs.lemmas.Slice.Eq.{bytes_eq-Decides}
 use Rattle.vic_honest.proofs.Knowing.{Keeps, Does}
 use Rattle.vic_honest.proofs.Answering.{Answers}

@@ -19,7 +19,7 @@ use Rattle.vic_rules.specs.Client.{Standing, Sending, Invokes, Commits, Polls, S
 use Rattle.vic_rules.specs.Client.{Keeps as Contains}
 use Rattle.vic_rules.specs.Objects.{content_hash, is_content_of}
 use Rattle.vic_dict.specs.declared.op.Mode.TheVariants as mode
-use Rattle.vic_honest.proofs.Referred.{has, kept_by, IsKept, Refers, refers_more, kept_more, kept_here, kept_wanted, found_there}
+use Rattle.vic_honest.proofs.Referred.{has, kept_by, found_in, IsKept, Refers, refers_more, kept_more, kept_here, kept_wanted, found_there}
 use Rattle.vic_laws.proofs.Words.{all_weaker}
 use Rattle.vic_order.specs.declared.Stage.{Stage}
 use Rattle.vic_order.specs.declared.Stage.TheVariants as stage
@@ -103,6 +103,7 @@ module _ (g : Group) (s : Server) (k : ServerKnows g s) (me : ℕ) (above : 0 < 
         knows = k;
         keeps = keeps;
         does = turn_does g me s k t seen newer keeps.log awaiting calm;
+        still_kept = λ c i. i;
         others = λ j higher apart. same_server j s;
       })
 
@@ -156,6 +157,7 @@ module _ (g : Group) (s : Server) (k : ServerKnows g s) (me : ℕ) (above : 0 < 
           fetching = keeps.fetching;
         };
         does = turn_does g me next knows t seen newer keeps.log go.awaiting (record { ready = ap (λ m. m.stage) member_is; sealed = go.sealed; others = go.others });
+        still_kept = λ c i. i;
         others = λ j higher apart. record {
           new = [];
           grown = refl;
@@ -169,6 +171,7 @@ module _ (g : Group) (s : Server) (k : ServerKnows g s) (me : ℕ) (above : 0 < 
               ] refl;
           kind = refl;
           contents = λ h len kept. kept;
+          still_kept = λ c i. i;
           passes = λ newer2 o2 below2 is theirs low. low;
         };
       })
@@ -234,6 +237,7 @@ module _ (g : Group) (s : Server) (k : ServerKnows g s) (me : ℕ) (above : 0 < 
           fetching = keeps.fetching;
         };
         does = turn_does g me next knows t seen newer keeps.log go.awaiting (record { ready = go.ready; sealed = omega (arith, keeps.sealed, counted); others = go.others });
+        still_kept = λ c i. i;
         others = λ j higher apart. record {
           new = [];
           grown = refl;
@@ -243,6 +247,7 @@ module _ (g : Group) (s : Server) (k : ServerKnows g s) (me : ℕ) (above : 0 < 
           commits = λ newer2 o2 below2 is theirs. refl;
           kind = refl;
           contents = λ h len kept. kept;
+          still_kept = λ c i. i;
           passes = λ newer2 o2 below2 is theirs low. elim (cases_eq (length (o2 ∷ below2)) (length (o ∷ below))) [
             | inl e ↦
                 let same : o2 ∷ below2 ≡ o ∷ below = same_end newer2 (o2 ∷ below2) (newer ++ go.above) (o ∷ below) (sym is ∙ in_log) e in
@@ -296,6 +301,7 @@ module _ (g : Group) (s : Server) (k : ServerKnows g s) (me : ℕ) (above : 0 < 
           calm = calm;
           message = ap (λ y. say.Entries y (entries_above (length t.path) (front e s.log))) seal_is ∙ ap (say.Entries (seal_on g c.base)) told_is;
         };
+        still_kept = λ c i. i;
         others = λ j higher apart. same_server j s;
       })
 
@@ -334,6 +340,7 @@ module _ (g : Group) (s : Server) (k : ServerKnows g s) (me : ℕ) (above : 0 < 
           limit = failing (λ m. (0 < m) × (m ≤ 4)) rest r ((omega arith, omega arith), ((omega arith, omega arith), ((omega arith, omega arith), ((omega arith, omega arith), tt)))) (sym at_rest ∙ e);
           calm = go.calm;
         });
+        still_kept = λ c i. i;
         others = λ j higher apart. same_server j s;
       })
       (λ e.
@@ -396,6 +403,7 @@ module _ (g : Group) (s : Server) (k : ServerKnows g s) (me : ℕ) (above : 0 < 
           message = ap (λ y. say.Reply y (entries_above (length t.path) (x ∷ s.log)) (part_for s.dictionary o)) (top_is g s k)
               ∙ ap (λ ts. say.Reply (seal_on g k.base) ts (part_for s.dictionary o)) told_is ∙ ap (λ d. say.Reply (seal_on g k.base) (told (x ∷ newer)) (part_for d o)) k.dictionary;
         };
+        still_kept = λ c i. i;
         others = λ j higher apart. record {
           new = x ∷ [];
           grown = refl;
@@ -405,6 +413,7 @@ module _ (g : Group) (s : Server) (k : ServerKnows g s) (me : ℕ) (above : 0 < 
           commits = λ newer2 o2 below2 is theirs. refl;
           kind = refl;
           contents = λ h len kept. kept;
+          still_kept = λ c i. i;
           passes = λ newer2 o2 below2 is theirs low. low;
         };
       }))
@@ -457,7 +466,7 @@ module _ (g : Group) (s : Server) (k : ServerKnows g s) (me : ℕ) (above : 0 < 
       ∙ guard_ok s 5 (is_ready (member s me).stage && same_mode s.mode mode.Objects) a (objects_ok go.calm.ready go.objects))) (by_tests (is_kept s.contents (content_hash c)) full refl)
     where
       stays_so : Does g me s t seen newer (Gets say.Kept) → Gives (says s say.Kept)
-      stays_so does = record { new = []; knows = k; keeps = keeps; does = does; others = λ j higher apart. same_server j s }
+      stays_so does = record { new = []; knows = k; keeps = keeps; does = does; still_kept = λ c i. i; others = λ j higher apart. same_server j s }
 
       by_tests : (b full : Bool) → is_kept s.contents (content_hash c) ≡ b → Gives (if b then says s say.Kept else guarded s ((7, full) ∷ []) (becomes (record s { contents = c ∷ s.contents }) say.Kept))
       by_tests true full e =
@@ -468,6 +477,7 @@ module _ (g : Group) (s : Server) (k : ServerKnows g s) (me : ℕ) (above : 0 < 
         knows = k;
         keeps = keeps;
         does = inr (record { awaiting = go.awaiting; full = refl; calm = go.calm });
+        still_kept = λ c i. i;
         others = λ j higher apart. same_server j s;
       }
       by_tests false true e =
@@ -504,6 +514,7 @@ module _ (g : Group) (s : Server) (k : ServerKnows g s) (me : ℕ) (above : 0 < 
               fetching = λ h len is. let f = keeps.fetching h len is in (f.0, more h.bytes len f.1);
             };
             does = kept_does (record s { contents = c ∷ s.contents }) c go refl refl refl (kept_here s.contents c);
+            still_kept = λ x i. inr i;
             others = λ j higher apart. record {
               new = [];
               grown = refl;
@@ -513,6 +524,7 @@ module _ (g : Group) (s : Server) (k : ServerKnows g s) (me : ℕ) (above : 0 < 
               commits = λ newer2 o2 below2 is theirs. refl;
               kind = refl;
               contents = more;
+              still_kept = λ c i. inr i;
               passes = λ newer2 o2 below2 is theirs low. low;
             };
           }
@@ -531,8 +543,11 @@ module _ (g : Group) (s : Server) (k : ServerKnows g s) (me : ℕ) (above : 0 < 
           len = go.len;
           awaiting = go.awaiting;
           is = ap (λ x. is_content_of x go.len go.kept.content) (sym go.is) ∙ kept_wanted s.contents h go.len go.kept;
+          kept = (found_in (has h) s.contents go.kept.content go.kept.found).0;
+          objects = go.objects;
           calm = go.calm;
         };
+        still_kept = λ c i. i;
         others = λ j higher apart. same_server j s;
       })
 

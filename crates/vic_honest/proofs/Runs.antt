@@ -1,9 +1,9 @@
 -- What each honest run shows.
 use Rattle.vic_rules.specs.Trust.{IsForged}
 use Rattle.vic_rules.specs.declared.trace.TraceStep.{TraceStep}
-use Rattle.vic_rules.specs.declared.object.ObjectOutcome.TheVariants as ended
+use Rattle.vic_rules.specs.declared.object.ObjectOutcome.{ObjectOutcome}
 use Rattle.vic_dict.specs.Lists.{IsIn}
-use Rattle.std.proofs.Common.{◌≡◌, ℕ, List, [], ◌∷◌, Option, Some, None, refl, sym, ap, subst, ◌∙◌, ◌<◌, ◌≤◌, ◌⊎◌}
+use Rattle.std.proofs.Common.{◌≡◌, ℕ, List, [], ◌∷◌, Option, Some, None, refl, sym, ap, subst, ◌∙◌, ◌<◌, ◌≤◌}
 use Rattle.std.specs.Prelude.{if◌then◌else◌}
 use Rattle.std.proofs.lemmas.Option.{same_Some}
 use Rattle.vic_dict.specs.declared.op.Outcome.{Outcome}
@@ -28,7 +28,7 @@ use Rattle.vic_honest.proofs.Deciding.{dictionary-next}
 use Rattle.vic_honest.proofs.Checks.{seal_on-root}
 use Rattle.vic_honest.proofs.Answering.{count_is, top_is}
 use Rattle.vic_honest.proofs.Learning.{IsFated, IsFine, EndsFine}
-use Rattle.vic_honest.proofs.Sent.{IsApart}
+use Rattle.vic_honest.proofs.Sent.{IsApart, SceneSent, all_sent}
 use Rattle.vic_honest.proofs.Known.{SceneKnows, all_known}
 
 -- the server that honest events leave is the run's
@@ -48,6 +48,13 @@ run_knows s server events run =
     let know : SceneKnows s (server_after s.group events) =
     subst (λ t. SceneKnows t (server_after s.group events)) (sym run.honest.is) (all_known s.group run.honest.group events run.honest.may (subst IsApart run.honest.is run.apart)) in
     subst (SceneKnows s) (server_left s server (server_after s.group events) events run.honest fit) know
+
+-- what is kept, clients sent
+pub run_sent : (s : Scene) (server : Server) (events : List Event) → IsHonestRun s server events → SceneSent s server
+run_sent s server events run =
+    let fit = scene_fits s server events run in
+    let sent : SceneSent s (server_after s.group events) = subst (λ t. SceneSent t (server_after s.group events)) (sym run.is) (all_sent s.group run.group events run.may) in
+    subst (SceneSent s) (server_left s server (server_after s.group events) events run fit) sent
 
 pub tags_made : (s : Scene) (server : Server) (events : List Event) → IsHonestRun s server events → IsForged s.group s.history → ⊥
 tags_made s server events run = (run_fits s server events run).fits.honest
@@ -78,8 +85,9 @@ all_fated s server events run c there =
 pub all_refusals : (s : Scene) (server : Server) (events : List Event) → IsSafeRun s server events → (x : TraceStep) → IsIn s.history x → (r : ℕ) → x.returned ≡ Some (outcome.Refused r) → (0 < r) × (r ≤ 4)
 all_refusals s server events run x there r e = subst IsFine e (all_at (λ y. IsFine y.returned) s.history x (run_knows s server events run).fine there)
 
-pub all_ends : (s : Scene) (server : Server) (events : List Event) → IsSafeRun s server events → (x : TraceStep) → IsIn s.history x → (r : ℕ) → x.object ≡ Some (ended.Refused r) → ((0 < r) × (r ≤ 4)) ⊎ (r ≡ 7)
-all_ends s server events run x there r e = subst EndsFine e (all_at (λ y. EndsFine y.object) s.history x (run_knows s server events run).ends there)
+pub all_ends : (s : Scene) (server : Server) (events : List Event) → IsSafeRun s server events → (x : TraceStep) → IsIn s.history x → (o : ObjectOutcome) → x.object ≡ Some o → EndsFine s.group.mode server.contents (Some o)
+all_ends s server events run x there o e =
+    subst (EndsFine s.group.mode server.contents) e (all_at (λ y. EndsFine s.group.mode server.contents y.object) s.history x (run_knows s server events run).ends there)
 
 pub all_sealed : (s : Scene) (server : Server) (events : List Event) → IsSafeRun s server events → SealedSo server
 unfolding root_on

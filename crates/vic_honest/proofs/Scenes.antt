@@ -3,6 +3,7 @@ use Rattle.std.proofs.Common.{◌≡◌, ℕ, List, length, ap, ◌∙◌, sym, 
 use Rattle.vic_dict.specs.Lists.{front}
 use Rattle.vic_dict.specs.declared.op.Mode.TheVariants as mode
 use Rattle.vic_wire.specs.Hashes.{Group}
+use Rattle.vic_rules.specs.declared.object.ObjectOutcome.TheVariants as ended
 use Rattle.vic_rules.specs.declared.trace.TraceStep.{TraceStep}
 use Rattle.vic_rules.specs.History.{standing}
 use Rattle.vic_order.specs.Order.{Server}
@@ -16,6 +17,7 @@ use Rattle.vic_honest.proofs.Owns.{front-all}
 use Rattle.vic_honest.proofs.Runs.{tags_made, all_lawful, all_fronts, all_go_on, all_fated, all_refusals, all_ends, all_sealed, aborts_leave_nothing}
 use Rattle.vic_honest.proofs.InTheWay.{aborts_are_conflicts}
 use Rattle.vic_honest.proofs.OneHistory.{one_history, views_are_fronts}
+use Rattle.vic_honest.proofs.Loads.{loads_are_fated}
 use Rattle.vic_honest.proofs.Replies.{replies_return, refusals_return}
 use Rattle.vic_honest.proofs.Refusals.{refusals_are_limits, limits_are_refused, calls_are_ordered, contents_are_kept, contents_are_given}
 use Rattle.vic_honest.proofs.Told.{refusals_are_told}
@@ -49,7 +51,7 @@ honest_runs_hold s server events run = record {
     stands_so = λ i above upto. (all_go_on s server events run i above upto).standing_so;
     returns_so = let count = run.honest.group.count in (all_go_on s server events run 1 (omega arith) (omega (arith, count.0))).returns_so;
     refuses_so = all_refusals s server events run;
-    ends_so = all_ends s server events run;
+    ends_so = λ x there number e. all_ends s server events run x there (ended.Refused number) e;
   };
   paths = λ i above upto. front_is s server i (all_fronts s server events run.honest i above upto);
   aborted = λ newer o below is u. aborts_are_conflicts o below u;
@@ -59,6 +61,7 @@ honest_runs_hold s server events run = record {
   views = views_are_fronts s server events run;
   returned = λ newer x past is payload given. record { reply = replies_return s server events run newer x past is payload given; refusal = refusals_return s server events run newer x past is payload given };
   refused = refusals_are_told s server events run;
+  loads = loads_are_fated s server events run;
   served_so = λ i above upto payload rest waits. record {
     refused = refusals_are_limits s server events run i above upto payload rest waits;
     limited = limits_are_refused s server events run i above upto payload rest waits;

@@ -1,7 +1,7 @@
 -- What waits to be kept, and what the server keeps, clients sent.
 use Rattle.std.proofs.Common.{◌≡◌, ℕ, ◌+◌, ◌-◌, ◌<◌, ◌≤◌, not, ◌&&◌, ◌||◌, length, min, Bool, true, false, List, [], ◌∷◌, ◌++◌, drop, Option, Some, None, is_none, Decides, arith, ◌⊎◌, inl, inr, refl, sym, ap, subst, ◌∙◌}
 use Rattle.std.specs.Prelude.{if◌then◌else◌, nat_eq, nat_lt, nat_le, ◌≢◌}
-use Rattle.std.specs.List.{find, sum_by}
+use Rattle.std.specs.List.{sum_by}
 use Rattle.std.specs.Str.{bytes_eq}
 use Rattle.std.proofs.lemmas.Bool.{cases_eq, and_parts}
 use Rattle.std.proofs.lemmas.Slice.Eq.{bytes_eq-Decides}
@@ -33,7 +33,7 @@ use Rattle.vic_laws.proofs.Words.{in_left, in_right}
 use Rattle.vic_honest.specs.SafeRuns.{contents_sent, AreApart}
 use Rattle.vic_honest.proofs.Queues.{queue-set_same, queue-set_other, queue-fresh}
 use Rattle.vic_honest.proofs.Standing.{World, world_of, HasOne, SceneFits, Doing, Rests, Sends, Gets, Does, up_by, down_by, ClientFits}
-use Rattle.vic_honest.proofs.Referred.{has, kept_by}
+use Rattle.vic_honest.proofs.Referred.{has, kept_by, found_in}
 use Rattle.vic_honest.proofs.Worlds.{step_of, move, idle_rests, server_is, served_next, server_next, server_after, all_fit}
 
 -- in a group with objects no two different contents that were sent have one hash
@@ -228,14 +228,6 @@ all_sent g group [] h = opening_sent g
 all_sent g group (m ∷ before) h = happens_sent (scene_after g before) (server_after g before) (all_fit g group before h.0) (all_sent g group before h.0) m h.1
 
 -- ---- one content of a hash
-
-pub found_in : (f : List ℕ → Bool) (xs : List (List ℕ)) (c : List ℕ) → find f xs ≡ Some c → IsIn xs c × (f c ≡ true)
-found_in f [] c e = absurd cc
-found_in f (x ∷ xs) c e = by_test (f x) refl (λ k. found_in f xs c k)
-  where
-    by_test : (b : Bool) → f x ≡ b → (find f xs ≡ Some c → IsIn xs c × (f c ≡ true)) → IsIn (x ∷ xs) c × (f c ≡ true)
-    by_test true t rest = let k : Some x ≡ Some c = sym (ap (λ b. if b then Some x else find f xs) t) ∙ e in let same : x ≡ c = cc in (inl same, ap f (sym same) ∙ t)
-    by_test false t rest = let r = rest (sym (ap (λ b. if b then Some x else find f xs) t) ∙ e) in (inr r.0, r.1)
 
 bytes_decided : (a b : List ℕ) → (a ≡ b) ⊎ (a ≢ b)
 bytes_decided a b = by_test (bytes_eq a b) (bytes_eq-Decides a b)

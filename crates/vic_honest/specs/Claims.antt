@@ -2,6 +2,8 @@
 use Rattle.std.specs.Prelude.{◌≡◌, ◌≢◌, ◌↔◌, ℕ, ◌+◌, ◌-◌, ◌<◌, ◌≤◌, ◌⊎◌, Bool, true, false, not, ◌&&◌, ◌||◌, List, [], ◌∷◌, ◌++◌, length, Option, Some, None, nat_eq, nat_le, min}
 use Rattle.std.specs.List.{sum_by}
 use Rattle.vic_dict.specs.declared.op.Op.{Op}
+use Rattle.vic_dict.specs.declared.op.Op.TheVariants as op
+use Rattle.vic_dict.specs.declared.op.Answer.TheVariants as answer
 use Rattle.vic_dict.specs.declared.op.Entry.{Entry}
 use Rattle.vic_dict.specs.declared.op.Outcome.TheVariants as outcome
 use Rattle.vic_dict.specs.declared.op.Mode.TheVariants as mode
@@ -17,16 +19,18 @@ use Rattle.vic_wire.specs.Hashes.{Group}
 use Rattle.vic_wire.specs.Conflict.{conflicts}
 use Rattle.vic_wire.specs.Reading.{read_request, read_answer}
 use Rattle.vic_wire.specs.Trees.{dictionary_root}
+use Rattle.vic_rules.specs.declared.object.ObjectCall.TheVariants as object
 use Rattle.vic_rules.specs.declared.object.ObjectOutcome.TheVariants as ended
 use Rattle.vic_rules.specs.declared.state.Awaiting.TheVariants as awaits
 use Rattle.vic_rules.specs.declared.trace.Input.TheVariants as input
 use Rattle.vic_rules.specs.declared.trace.TraceStep.{TraceStep}
 use Rattle.vic_rules.specs.declared.trace.Shown.{Shown}
-use Rattle.vic_rules.specs.Objects.{content_hash, ended_by}
-use Rattle.vic_rules.specs.Client.{Standing, first_failing, is_done, onto}
-use Rattle.vic_rules.specs.History.{IsLawful, standing, Completion, completions}
+use Rattle.vic_rules.specs.Objects.{content_hash, reference_of, ended_by}
+use Rattle.vic_rules.specs.Client.{Standing, Invokes, first_failing, is_done, onto}
+use Rattle.vic_rules.specs.History.{IsLawful, standing, move_of, Completion, completions}
 use Rattle.vic_rules.specs.Views.{confirmed_calls, view_of, IsLegal, left_by, IsInRealTime, HasAll, ShowsOnlyCalls}
 use Rattle.vic_rules.specs.Trust.{IsForged}
+use Rattle.vic_laws.specs.ContentClaims.{IsStore, NoAskOf, last_put}
 use Rattle.vic_order.specs.Order.{Ordered, Server, Answered, size, sealed_count, top_seal, is_put, op_weight, weight, ordered_at, commit_at, is_kept, serve}
 use Rattle.vic_order.specs.Fates.{entries, fate, dictionary_by}
 use Rattle.vic_order.specs.Scenes.{Queue, Scene, SceneOf, queue_of, server_at, Event, Serves}
@@ -185,6 +189,31 @@ pub record IsOneHistory (g : Group) (h : List TraceStep) (v : List Shown) : Type
   pub all : (me : ℕ) → HasAll g me h v
   pub only : ShowsOnlyCalls g h v
 
+-- ---- contents
+
+-- a step after this past that returned a content to a load: the load is the last thing that its client was asked for, its get stands in
+-- the log as done with a reference, and the last done put of that name below it is the put of a store of this content
+pub record LoadIsFated (g : Group) (h past : List TraceStep) (log : List Ordered) (client : ℕ) (content : List ℕ) : Type 0 where
+  pub between : List TraceStep
+  pub asked : TraceStep
+  pub before : List TraceStep
+  pub since : past ≡ between ++ asked ∷ before
+  pub loader : asked.client ≡ client
+  pub alone : NoAskOf client between
+  pub newer : List Ordered
+  pub o : Ordered
+  pub below : List Ordered
+  pub is : log ≡ newer ++ o ∷ below
+  pub own : o.entry.client ≡ client
+  pub name : List ℕ
+  pub loads : asked.input ≡ input.Object (object.Load name)
+  pub called : (move_of g before asked).sends ≡ Some (Invokes o.entry.seq (op.Get name))
+  pub gets : o.entry.op ≡ op.Get name
+  pub found : fate o below ≡ outcome.Done (answer.Found (reference_of content))
+  pub stored : Shown
+  pub last : last_put name (shown_log below) ≡ Some stored
+  pub by_store : IsStore g h stored.entry name content
+
 -- ---- all of it
 
 -- no client has halted, and no step returned that a check failed; a call that is refused names one of four limits, and a call on objects
@@ -307,6 +336,9 @@ pub record HoldsHonestly (g : Group) (h : List TraceStep) (up : List Queue) (eve
   -- a client's next request is refused exactly where it is a call that would pass a limit, or a new content without room; every other
   -- call is ordered, and every other content kept
   pub served_so : (i : ℕ) → 0 < i → i ≤ g.count → (payload : List ℕ) (rest : Queue) → queue_of up i ≡ payload ∷ rest → IsServedSo g server i payload
+  -- a content that a load returned is that of the last done store of its name below the load's get, in the order of the log
+  pub loads : (newer : List TraceStep) (x : TraceStep) (past : List TraceStep) → h ≡ newer ++ x ∷ past
+      → (content : List ℕ) → x.object ≡ Some (ended.Content content) → LoadIsFated g h past server.log x.client content
 
 abbrev pub IsHonestScene : {V : Type 0} → SceneOf V → List Event → Server → Type 0
 IsHonestScene s events server = HoldsHonestly s.group s.history s.up events server

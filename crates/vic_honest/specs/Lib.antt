@@ -1,3 +1,2 @@
 pub mod SafeRuns
 pub mod Claims
-pub mod ObjectClaims
