@@ -75,8 +75,7 @@ pub record MakesCall (g : Group) (past : List TraceStep) (x : TraceStep) (e : En
   pub op : Op
   pub sends : (move_of g past x).sends ≡ Some (Invokes e.seq op)
 
--- what a client is asked for, by its steps, the newest first, that comes to the call of an operation: a call of it, or a call on objects
--- with this operation; of a store it is the step before, which sent the content
+-- what a client is asked for comes to the call of an operation: it is that call, or a call on objects with this operation
 abbrev pub AsksFor : Input → Op → Type 0
 AsksFor (input.Call o) q = o ≡ q
 AsksFor (input.Object c) q = op_of_object c ≡ q
@@ -114,12 +113,12 @@ IsCompleted (outcome.Halted k) = ⊥
 abbrev pub is_call : Entry → Shown → Bool
 is_call e x = nat_eq x.entry.client e.client && nat_eq x.entry.seq e.seq
 
--- each call that the client was asked for and completed stands once, as it was answered
+-- each call that the client made and completed stands once, as it was answered
 abbrev pub HasAll : Group → ℕ → List TraceStep → List Shown → Type 0
 HasAll g me h v = (e : Entry) (o : Outcome) → e.client ≡ me → IsCompleted o → IsAnswered g h e o
     → IsIn v (record { entry = e; outcome = o }) × (count_by (is_call e) v ≡ 1)
 
--- it shows nothing that its owner wasn't asked for and didn't return
+-- it shows nothing that its owner didn't call and didn't return
 abbrev pub ShowsOnlyCalls : Group → List TraceStep → List Shown → Type 0
 ShowsOnlyCalls g h v = (x : Shown) → IsIn v x → IsAnswered g h x.entry x.outcome
 
