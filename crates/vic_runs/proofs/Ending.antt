@@ -1,18 +1,17 @@
 -- The first text that was taken unmade, and what the end of a print has.
-use Rattle.std.specs.Prelude.{◌≡◌, ◌↔◌, ℕ, zero, suc, ◌+◌, ◌-◌, ◌<◌, ◌≤◌, ◌⊎◌, Bool, true, false, List, [], ◌∷◌, ◌++◌, length, Option, Some, None, is_some, if◌then◌else◌}
+use Rattle.std.specs.Prelude.{◌≡◌, ℕ, zero, suc, ◌+◌, ◌-◌, ◌<◌, ◌≤◌, ◌⊎◌, Bool, true, false, List, [], ◌∷◌, ◌++◌, length, Option, Some, None, is_some, if◌then◌else◌}
 use Rattle.std.specs.List.{flat_map}
 use Rattle.std.proofs.Common.{refl, ap, subst, sym, ◌∙◌, inl, inr, arith, append_assoc, true≢false}
-use Rattle.std.proofs.lemmas.Bool.{cases_eq, cases_lt, cases_Bool}
+use Rattle.std.proofs.lemmas.Bool.{cases_eq}
 use Rattle.std.proofs.lemmas.List.{append-nil}
 use Rattle.vic_dict.specs.Lists.{IsIn}
 use Rattle.vic_wire.specs.Hashes.{Group}
 use Rattle.vic_rules.specs.declared.trace.TraceStep.{TraceStep}
 use Rattle.vic_rules.specs.Trust.{IsForged, texts_taken, texts_made}
 use Rattle.vic_laws.proofs.Words.{some_same, none_is_some}
-use Rattle.vic_laws.proofs.RealTime.{in_or_not}
-use Rattle.vic_script.specs.Run.{Bad, Played, run_of, group_in, history_in, group_of, history_of, bad_line_of}
+use Rattle.vic_script.specs.Run.{Played, run_of, group_in, history_in, group_of, history_of}
 use Rattle.vic_script.specs.Print.{is_among, Unmade, first_unmade_of, unmade_at, or_unmade, first_unmade, is_forged, view_lines, numbers_from, all_views, agree_line, all_agreements, tags_line, end_text, print_of}
-use Rattle.vic_script.proofs.Forged.{is_among-in, in-is_among, is_forged-none, is_forged-Decides}
+use Rattle.vic_script.proofs.Forged.{is_among-in, in-is_among, is_forged-Decides}
 use Rattle.vic_runs.specs.Prints.{IsFirstUnmade, FirstUnmadeIs, StandsIn, PrintsHaveViews, PrintsHaveAgreements}
 
 -- ---- the first unmade text

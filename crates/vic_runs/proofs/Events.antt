@@ -27,6 +27,7 @@ asks (m ∷ before) = asks before + asked m
 -- what may be asked is a step that may be made
 pub may-step : {V : Type 0} (s : SceneOf V) (i : ℕ) (given : Input) → MayAsk s i given → MayStep s.group (stands s i) given
 may-step s i (input.Call o) may = may
+may-step s i (input.Object c) may = may
 may-step s i input.Poll may = may
 may-step s i input.Sync may = may
 may-step s i (input.Payload payload) may = absurd may

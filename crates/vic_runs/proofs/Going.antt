@@ -1,18 +1,15 @@
 -- The run behind an honest line is the one before it with the events of the line.
-use Rattle.std.proofs.Common.{◌≡◌, ℕ, ◌+◌, ◌<◌, ◌^◌, true, List, [], ◌∷◌, ◌++◌, Option, Some, None, refl, sym, ap, subst, ◌∙◌}
+use Rattle.std.proofs.Common.{◌≡◌, List, [], ◌∷◌, ◌++◌, Some, None, refl, sym, ap, subst, ◌∙◌}
 use Rattle.std.specs.List.{AllByRecursion}
 use Rattle.vic_wire.specs.Hashes.{Group}
 use Rattle.vic_rules.specs.History.{IsLawful}
 use Rattle.vic_order.specs.Order.{Server}
 use Rattle.vic_order.specs.Serving.{by_rule}
-use Rattle.vic_order.specs.Honest.{IsHonestEvent, scene_after, AreHonest, IsHonestRun, ruled, ComesHonestly, IsSame}
+use Rattle.vic_order.specs.Honest.{IsHonestEvent, scene_after, AreHonest, ruled, ComesHonestly, IsSame}
 use Rattle.vic_order.specs.Scenes.{Scene, Event, after_events, MayHappen, MayAllHappen}
 use Rattle.vic_honest.proofs.Events.{after-group}
 use Rattle.vic_honest.proofs.Runs.{all_lawful}
-use Rattle.vic_script.specs.declared.line.Line.{Line}
-use Rattle.vic_script.specs.Scenes.{events_of, done_line, bad_kind, is_honest_line}
-use Rattle.vic_runs.specs.Claims.{FitsLine}
-use Rattle.vic_runs.specs.Reached.{IsHonestlyReached}
+use Rattle.vic_script.specs.Scenes.{events_of}
 use Rattle.vic_runs.specs.Going.{LinesGoOn}
 use Rattle.vic_runs.proofs.Events.{after-joined}
 use Rattle.vic_runs.proofs.Kept.{same_is_kept}
@@ -62,5 +59,5 @@ pub lines_go_on : LinesGoOn
 lines_go_on s n r few l honest fits good =
     let lawful : IsLawful s.group s.history = all_lawful (ruled s r.comes.server) r.comes.server r.comes.events r.comes.run in
     let left = few_calls s n r.calls few l in
-    goes_on s r.comes (events_of by_rule s l) (line-may by_rule s l (honest-seated IsSame s n r) lawful r.plain left good fits) (line-honest by_rule s l honest)
+    goes_on s r.comes (events_of by_rule s l) (line-may by_rule s l (honest-seated IsSame s n r) lawful left good fits) (line-honest by_rule s l honest)
     (honest-line IsSame by_rule same_is_kept s n l r left good fits honest).comes

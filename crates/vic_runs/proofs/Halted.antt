@@ -8,8 +8,9 @@ use Rattle.vic_script.specs.declared.line.Line.{Line}
 use Rattle.vic_script.specs.declared.line.Line.TheVariants as line
 use Rattle.vic_script.specs.Lines.{line_of}
 use Rattle.vic_order.specs.Scenes.{SceneOf, Scene, opening, stands, is_client, waits_in}
-use Rattle.vic_script.specs.Scenes.{Shown, done_line, is_plain_call, asked_tests, bad_kind, is_honest_line}
-use Rattle.vic_script.specs.Run.{Bad, group_by, Place, Before, Heads, Stands, scene_in, Played, Tried, Fails, Does, tried_by, try_event, try_line, mode_in, bad_end, run_of, is_honest_script}
+use Rattle.vic_script.specs.Scenes.{Shown, done_line, is_plain_call, is_object_call, asked_tests, bad_kind, is_honest_line}
+use Rattle.vic_script.specs.Run.{Bad, group_by, Place, Before, Heads, Stands, scene_in, Played, Tried, Fails, Does, tried_by, try_event, try_line, mode_in, bad_end, run_of, is_honest_script, group_in, history_in, group_of, history_of}
+use Rattle.vic_honest.specs.SafeRuns.{AreApart}
 use Rattle.vic_runs.specs.Claims.{NoLineIsHalted}
 use Rattle.vic_runs.specs.Reached.{IsHonestlyReached}
 use Rattle.vic_runs.proofs.Words.{text_fits}
@@ -40,9 +41,9 @@ one_more : (a : Bool) (others : List (ℕ × Bool)) → (first_failing others �
 one_more false others h e = absurd cc
 one_more true others h e = h e
 
-module _ {V : Type 0} (R : V → Server → Type 0) (s : SceneOf V) (n : ℕ) (r : IsHonestlyReached R s n) where
+module _ {V : Type 0} (R : V → Server → Type 0) (s : SceneOf V) (n : ℕ) (r : IsHonestlyReached R s n) (apart : AreApart s.group s.history) where
   goes_on : (i : ℕ) → is_client s i ≡ true → is_none (stands s i).halted ≡ true
-  goes_on i e = let bounds = client_is s i e in ap is_none ((holds_at R s r.comes).goes_on.stands_so i bounds.0 bounds.1)
+  goes_on i e = let bounds = client_is s i e in ap is_none ((holds_at R s r.comes apart).goes_on.stands_so i bounds.0 bounds.1)
 
   asked_goes : (i : ℕ) → first_failing (asked_tests s i) ≡ Some 3 → ⊥
   asked_goes i e = asked_three (is_client s i) (is_none (stands s i).halted) (awaits_nothing (stands s i).awaiting) (goes_on i) e
@@ -51,9 +52,11 @@ module _ {V : Type 0} (R : V → Server → Type 0) (s : SceneOf V) (n : ℕ) (r
   pub never_three : (l : Line) → is_honest_line l ≡ true → bad_kind s l ≡ Some 3 → ⊥
   unfolding bad_kind
   never_three (line.Clients count) honest e = absurd cc
+  never_three (line.Objects count) honest e = absurd cc
   never_three (line.Key digits) honest e = absurd cc
   never_three (line.Hostile name k) honest e = absurd cc
   never_three (line.Call i o) honest e = one_more (is_plain_call s o) (asked_tests s i) (asked_goes i) e
+  never_three (line.Object i c) honest e = one_more (is_object_call s c) (asked_tests s i) (asked_goes i) e
   never_three (line.Poll i) honest e = asked_goes i e
   never_three (line.Sync i) honest e = asked_goes i e
   never_three (line.Serve i) honest e = queue_three (is_client s i) (waits_in s.up i) e
@@ -81,17 +84,21 @@ fails_by (Some k) shown h = λ e. h (ap (λ n. Some n) e)
 one_is_other : (n : ℕ) → n ≡ 1 → n ≡ 3 → ⊥
 one_is_other n e f = omega (arith, e, f)
 
-fails_event : (s : Scene) (l : Line) (n : ℕ) → IsHonestlyReached IsSame s n → is_honest_line l ≡ true → FailsOtherwise (try_event s l)
-fails_event s l n h honest = fails_by (bad_kind s l) (done_line by_rule s l) (never_three IsSame s n h l honest)
+fails_event : (s : Scene) (l : Line) (n : ℕ) → IsHonestlyReached IsSame s n → AreApart s.group s.history → is_honest_line l ≡ true → FailsOtherwise (try_event s l)
+fails_event s l n h apart honest = fails_by (bad_kind s l) (done_line by_rule s l) (never_three IsSame s n h apart l honest)
 
-fails : (place : Place) (l : Option Line) (n : ℕ) → HonestIn (scene_in place) n → HonestFor (scene_in place) l → FailsOtherwise (try_line place l)
-fails Before None n r honest = one_is_other 1 refl
-fails Before (Some l) n r honest = first_so (λ (x : Line) (t : Tried). FailsOtherwise t) (λ count. tt) tt (λ x. one_is_other 1 refl) l
-fails (Heads h) None n r honest = one_is_other 1 refl
-fails (Heads h) (Some l) n r honest =
-    header_so (λ (x : Line) (t : Tried). is_honest_line x ≡ true → FailsOtherwise t) h (λ digits so. tt) (λ digits so. one_is_other 1 refl) (λ so. tt) (λ x so. fails_event (opening (group_by h)) x n r so) l honest
-fails (Stands s) None n r honest = one_is_other 1 refl
-fails (Stands s) (Some l) n r honest = fails_event s l n r honest
+-- contents are apart where a script stands
+abbrev ApartIn : Option Scene → Type 0
+ApartIn scene = AreApart (group_in scene) (history_in scene)
+
+fails : (place : Place) (l : Option Line) (n : ℕ) → HonestIn (scene_in place) n → HonestFor (scene_in place) l → ApartIn (scene_in place) → FailsOtherwise (try_line place l)
+fails Before None n r honest apart = one_is_other 1 refl
+fails Before (Some l) n r honest apart = first_so (λ (x : Line) (t : Tried). FailsOtherwise t) (λ count. tt) (λ count. tt) tt (λ x. one_is_other 1 refl) l
+fails (Heads h) None n r honest apart = one_is_other 1 refl
+fails (Heads h) (Some l) n r honest apart =
+    header_so (λ (x : Line) (t : Tried). is_honest_line x ≡ true → FailsOtherwise t) h (λ digits so. tt) (λ digits so. one_is_other 1 refl) (λ so. tt) (λ x so. fails_event (opening (group_by h)) x n r apart so) l honest
+fails (Stands s) None n r honest apart = one_is_other 1 refl
+fails (Stands s) (Some l) n r honest apart = fails_event s l n r apart honest
 
 -- ---- all lines
 
@@ -100,29 +107,29 @@ IsOtherwise None = Unit {0}
 IsOtherwise (Some b) = b.kind ≡ 3 → ⊥
 
 abbrev LeavesOtherwise : Place → Played → Type 0
-LeavesOtherwise place p = IsOtherwise p.bad
+LeavesOtherwise place p = ApartIn p.scene → IsOtherwise p.bad
 
 ends_otherwise : (number : ℕ) (place : Place) → IsOtherwise (bad_end number place)
 ends_otherwise number Before = one_is_other 1 refl
 ends_otherwise number (Heads h) = tt
 ends_otherwise number (Stands s) = tt
 
-goes : (n : ℕ) (place : Place) (t : Tried) → TriedHonest t (n + 1) → FailsOtherwise t → GoesSo IsHonestText StandsHonest LeavesOtherwise n place t
+goes : (n : ℕ) (place : Place) (t : Tried) → TriedHonest t (n + 1) → (ApartIn (scene_in place) → FailsOtherwise t) → GoesSo IsHonestText StandsHonest LeavesOtherwise n place t
 goes n place (Fails kind) r h = λ number. h
 goes n place (Does next text) r h = (r, λ p claim. claim)
 
 each_line : EachLine IsHonestText StandsHonest LeavesOtherwise
 each_line = record {
-  done = λ n number place h. ends_otherwise number place;
-  long = λ n number place h. λ e. absurd (omega (arith, e));
+  done = λ n number place h apart. ends_otherwise number place;
+  long = λ n number place h apart. λ e. absurd (omega (arith, e));
   line = λ n place text h few good.
       let l : Option Line = line_of (mode_in (scene_in place)) text in
       let honest : HonestFor (scene_in place) l = honest_for (scene_in place) n text h good in
       goes n place (try_line place l) (honest_tried place l n h few (text_fits (mode_in (scene_in place)) text) honest) (fails place l n h honest);
 }
 
-bad-run : (script : List ℕ) → is_honest_script script ≡ true → IsOtherwise (run_of script).bad
+bad-run : (script : List ℕ) → is_honest_script script ≡ true → AreApart (group_of script) (history_of script) → IsOtherwise (run_of script).bad
 bad-run script honest = claimed-run IsHonestText StandsHonest LeavesOtherwise each_line tt script (honest-texts script honest)
 
 pub none_for_halting : NoLineIsHalted
-none_for_halting script honest b is = subst IsOtherwise is (bad-run script honest)
+none_for_halting script honest apart b is = subst IsOtherwise is (bad-run script honest apart)

@@ -1,5 +1,5 @@
 -- Lines before a header and in it, and the group that a header tells.
-use Rattle.std.proofs.Common.{◌≡◌, ℕ, ◌%◌, ◌<◌, ◌≤◌, Bool, true, false, ◌&&◌, List, [], length, Option, None, Result, refl, sym, subst, arith}
+use Rattle.std.proofs.Common.{◌≡◌, ℕ, ◌%◌, ◌<◌, ◌≤◌, Bool, true, false, ◌&&◌, List, [], length, None, Result, sym, subst, arith}
 use Rattle.std.specs.Prelude.{if◌then◌else◌, is_none, unwrap_or, nat_eq, nat_le}
 use Rattle.std.specs.List.{list_all}
 use Rattle.std.specs.Result.{result_ok}
@@ -8,42 +8,45 @@ use Rattle.std.proofs.lemmas.List.Sums.{AllPass-from_list_all}
 use Rattle.hex.specs.Hex.{decode_of, is_hex_digit}
 use Rattle.hex.specs.declared.error.FromHexError.{FromHexError}
 use Rattle.hex.proofs.HexLemmas.{decode_of-ok, decode_of-digits}
+use Rattle.vic_dict.specs.declared.op.Mode.{Mode}
 use Rattle.vic_dict.specs.declared.op.Mode.TheVariants as mode
 use Rattle.vic_wire.specs.Hashes.{IsGroup}
 use Rattle.vic_order.specs.Scenes.{opening}
 use Rattle.vic_script.specs.declared.line.Line.{Line}
 use Rattle.vic_script.specs.declared.line.Line.TheVariants as line
 use Rattle.vic_script.specs.Lines.{is_key_digits}
-use Rattle.vic_script.specs.Run.{zero_key, plain_group, Header, group_by, Before, Heads, Tried, Fails, Does, try_event, try_first, try_header}
+use Rattle.vic_script.specs.Run.{zero_key, Header, group_by, Before, Heads, Tried, Fails, Does, try_event, try_first, try_header}
 
 -- ---- lines
 
 -- the header of so many clients, before it names a key
-abbrev pub begun : ℕ → Header
-begun count = record { mode = mode.Plain; count = count; key = None }
+abbrev pub begun : Mode → ℕ → Header
+begun kind count = record { mode = kind; count = count; key = None }
 
 -- the header with the key that digits spell
 abbrev pub keyed : Header → List ℕ → Header
 keyed h digits = record h { key = result_ok (decode_of digits) }
 
 -- a line before the header begins it, is skipped, or is bad
-pub first_so : (P : Line → Tried → Type 0) → ((count : ℕ) → P (line.Clients count) (Does (Heads (begun count)) [])) → P line.Skip (Does Before []) → ((l : Line) → P l (Fails 1)) → (l : Line) → P l (try_first l)
-first_so P begins skips fails (line.Clients count) = begins count
-first_so P begins skips fails (line.Key digits) = fails (line.Key digits)
-first_so P begins skips fails (line.Hostile name k) = fails (line.Hostile name k)
-first_so P begins skips fails (line.Call i o) = fails (line.Call i o)
-first_so P begins skips fails (line.Poll i) = fails (line.Poll i)
-first_so P begins skips fails (line.Sync i) = fails (line.Sync i)
-first_so P begins skips fails (line.Serve i) = fails (line.Serve i)
-first_so P begins skips fails (line.Take i) = fails (line.Take i)
-first_so P begins skips fails (line.Run i) = fails (line.Run i)
-first_so P begins skips fails (line.Give i payload) = fails (line.Give i payload)
-first_so P begins skips fails (line.Again i) = fails (line.Again i)
-first_so P begins skips fails (line.Flip i k) = fails (line.Flip i k)
-first_so P begins skips fails (line.Resend i) = fails (line.Resend i)
-first_so P begins skips fails (line.Copy k t) = fails (line.Copy k t)
-first_so P begins skips fails (line.Move i k) = fails (line.Move i k)
-first_so P begins skips fails line.Skip = skips
+pub first_so : (P : Line → Tried → Type 0) → ((count : ℕ) → P (line.Clients count) (Does (Heads (begun mode.Plain count)) [])) → ((count : ℕ) → P (line.Objects count) (Does (Heads (begun mode.Objects count)) [])) → P line.Skip (Does Before []) → ((l : Line) → P l (Fails 1)) → (l : Line) → P l (try_first l)
+first_so P plain objects skips fails (line.Clients count) = plain count
+first_so P plain objects skips fails (line.Objects count) = objects count
+first_so P plain objects skips fails (line.Key digits) = fails (line.Key digits)
+first_so P plain objects skips fails (line.Hostile name k) = fails (line.Hostile name k)
+first_so P plain objects skips fails (line.Call i o) = fails (line.Call i o)
+first_so P plain objects skips fails (line.Object i c) = fails (line.Object i c)
+first_so P plain objects skips fails (line.Poll i) = fails (line.Poll i)
+first_so P plain objects skips fails (line.Sync i) = fails (line.Sync i)
+first_so P plain objects skips fails (line.Serve i) = fails (line.Serve i)
+first_so P plain objects skips fails (line.Take i) = fails (line.Take i)
+first_so P plain objects skips fails (line.Run i) = fails (line.Run i)
+first_so P plain objects skips fails (line.Give i payload) = fails (line.Give i payload)
+first_so P plain objects skips fails (line.Again i) = fails (line.Again i)
+first_so P plain objects skips fails (line.Flip i k) = fails (line.Flip i k)
+first_so P plain objects skips fails (line.Resend i) = fails (line.Resend i)
+first_so P plain objects skips fails (line.Copy k t) = fails (line.Copy k t)
+first_so P plain objects skips fails (line.Move i k) = fails (line.Move i k)
+first_so P plain objects skips fails line.Skip = skips
 
 key-either : (P : Tried → Type 0) (b : Bool) (t : Tried) → P t → P (Fails 1) → P (if b then t else Fails 1)
 key-either P true t names fails = names
@@ -54,8 +57,10 @@ pub header_so : (P : Line → Tried → Type 0) (h : Header) → ((digits : List
     → ((l : Line) → P l (try_event (opening (group_by h)) l)) → (l : Line) → P l (try_header h l)
 header_so P h names again skips ends (line.Key digits) = key-either (P (line.Key digits)) (is_none h.key) (Does (Heads (keyed h digits)) []) (names digits) (again digits)
 header_so P h names again skips ends (line.Clients count) = ends (line.Clients count)
+header_so P h names again skips ends (line.Objects count) = ends (line.Objects count)
 header_so P h names again skips ends (line.Hostile name k) = ends (line.Hostile name k)
 header_so P h names again skips ends (line.Call i o) = ends (line.Call i o)
+header_so P h names again skips ends (line.Object i c) = ends (line.Object i c)
 header_so P h names again skips ends (line.Poll i) = ends (line.Poll i)
 header_so P h names again skips ends (line.Sync i) = ends (line.Sync i)
 header_so P h names again skips ends (line.Serve i) = ends (line.Serve i)
@@ -84,8 +89,8 @@ key_spelled digits e =
     subst (λ (d : Result (List ℕ) FromHexError). (0 < length (unwrap_or (result_ok d) zero_key)) × (length (unwrap_or (result_ok d) zero_key) ≤ 64)) (sym r.1)
     (omega (arith, twice, leb-true 2 (length digits) some.0), omega (arith, twice, leb-true (length digits) 128 most.0))
 
-pub plain_is_group : (count : ℕ) → 0 < count → count ≤ 64 → IsGroup (plain_group count)
-plain_is_group count above upto = record { count = (above, upto); key = (omega arith, omega arith) }
+pub begun_is_group : (kind : Mode) (count : ℕ) → 0 < count → count ≤ 64 → IsGroup (group_by (begun kind count))
+begun_is_group kind count above upto = record { count = (above, upto); key = (omega arith, omega arith) }
 
 -- a header stays one of a group with the key that digits spell
 pub keyed_is_group : (h : Header) (digits : List ℕ) → IsGroup (group_by h) → is_key_digits digits ≡ true → IsGroup (group_by (keyed h digits))

@@ -1,7 +1,6 @@
 -- Scenes of clients with one honest server: how one leads to another.
 use Rattle.std.proofs.Common.{◌≡◌, ℕ, ◌+◌, ◌<◌, ◌≤◌, true, List, [], ◌∷◌, ◌++◌, length, Option, Some, None, is_some, refl, sym, ap, subst, ◌∙◌, arith}
 use Rattle.std.specs.List.{AllByRecursion}
-use Rattle.vic_dict.specs.declared.op.Mode.TheVariants as mode
 use Rattle.std.proofs.lemmas.List.{length-replicate}
 use Rattle.std.proofs.lemmas.Option.{same_Some}
 use Rattle.vic_wire.specs.Hashes.{Group, IsGroup}
@@ -34,6 +33,7 @@ use Rattle.vic_runs.proofs.Sent.{sent-bytes}
 -- what may be asked in a scene may be so whatever its server is
 may-ask : {V : Type 0} (s : SceneOf V) (server : Server) (i : ℕ) (given : Input) → MayAsk s i given → MayAsk (ruled s server) i given
 may-ask s server i (input.Call o) may = may
+may-ask s server i (input.Object c) may = may
 may-ask s server i input.Poll may = may
 may-ask s server i input.Sync may = may
 may-ask s server i (input.Payload payload) may = absurd may
@@ -51,12 +51,12 @@ one_more s server events run m may next after is same one = record {
 module _ {V : Type 0} (R : V → Server → Type 0) where
   -- so few calls are at most more
   pub honest-more : (s : SceneOf V) (n m : ℕ) → n ≤ m → IsHonestlyReached R s n → IsHonestlyReached R s m
-  honest-more s n m more r = record { comes = r.comes; plain = r.plain; calls = λ i. omega (arith, more, r.calls i); up_bytes = r.up_bytes }
+  honest-more s n m more r = record { comes = r.comes; calls = λ i. omega (arith, more, r.calls i); up_bytes = r.up_bytes }
 
-  -- a group without objects opens with a server that is a fresh one, as far as R says
-  pub honest-opening : (g : Group) (server : V) → IsGroup g → g.mode ≡ mode.Plain → R server (fresh_server g.mode g.count ready) → IsHonestlyReached R (opening_with g server) 0
+  -- a group opens with a server that is a fresh one, as far as R says
+  pub honest-opening : (g : Group) (server : V) → IsGroup g → R server (fresh_server g.mode g.count ready) → IsHonestlyReached R (opening_with g server) 0
   unfolding standing
-  honest-opening g server group plain same = record {
+  honest-opening g server group same = record {
     comes = record {
       events = [];
       server = fresh_server g.mode g.count ready;
@@ -65,7 +65,6 @@ module _ {V : Type 0} (R : V → Server → Type 0) where
       only = refl;
       same = same;
     };
-    plain = plain;
     calls = λ i. omega arith;
     up_bytes = all-replicate HoldsBytes g.count [] tt;
   }
@@ -96,8 +95,7 @@ module _ {V : Type 0} (R : V → Server → Type 0) where
           only = r.comes.only;
           same = r.comes.same;
         };
-        plain = r.plain;
-        calls = λ j. omega (arith, r.calls j, calls-step g s.history (step_by g i given s.history) lawful.steps j);
+        calls = λ j. omega (arith, r.calls j, calls-step g s.history (step_by g i given s.history) j);
         up_bytes = sent_joins s r.up_bytes i given lawful;
       }
 
@@ -139,7 +137,6 @@ module _ {V : Type 0} (R : V → Server → Type 0) where
           only = ap (λ k. set_server s.servers k (Some a.1)) one ∙ ap (λ l. set_server l 1 (Some a.1)) r.comes.only;
           same = alike.1;
         };
-        plain = r.plain;
         calls = r.calls;
         up_bytes = all-set HoldsBytes s.up _ rest r.up_bytes bytes.1;
       }
@@ -171,8 +168,7 @@ module _ {V : Type 0} (R : V → Server → Type 0) where
           only = r.comes.only;
           same = r.comes.same;
         };
-        plain = r.plain;
-        calls = λ j. omega (arith, r.calls j, calls-payload g s.history (step_by g i (input.Payload payload) s.history) lawful.steps payload refl j);
+        calls = λ j. omega (arith, r.calls j, calls-payload g s.history (step_by g i (input.Payload payload) s.history) payload refl j);
         up_bytes = sent_joins s r.up_bytes i (input.Payload payload) lawful;
       }
 
@@ -224,4 +220,4 @@ module _ {V : Type 0} (R : V → Server → Type 0) where
   honest-line rule kept s n l r left good fits honest =
       let lawful : IsLawful s.group s.history = all_lawful (ruled s r.comes.server) r.comes.server r.comes.events r.comes.run in
       honest-more _ _ (n + 1) (omega (arith, line-asks rule s l))
-      (honest-after rule kept s n (events_of rule s l) r (line-may rule s l (honest-seated s n r) lawful r.plain left good fits) (line-honest rule s l honest))
+      (honest-after rule kept s n (events_of rule s l) r (line-may rule s l (honest-seated s n r) lawful left good fits) (line-honest rule s l honest))

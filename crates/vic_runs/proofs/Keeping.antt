@@ -19,9 +19,9 @@ use Rattle.vic_wire.specs.declared.message.ToClient.TheVariants as say
 use Rattle.vic_wire.specs.Texts.{content_text}
 use Rattle.vic_wire.specs.Hashes.{hash}
 use Rattle.vic_wire.specs.Messages.{HasRequestSpelling, answer_text, seal_field, entries_field}
-use Rattle.vic_wire.specs.Parts.{part_for, bare_part}
+use Rattle.vic_wire.specs.Parts.{part_for}
 use Rattle.vic_wire.specs.Reading.{read_request}
-use Rattle.vic_rules.specs.Client.{first_failing, is_write}
+use Rattle.vic_rules.specs.Client.{first_failing}
 use Rattle.vic_spellings.specs.Spellings.{RequestHoldsBytes}
 use Rattle.vic_spellings.proofs.Bytes.{bytes-cons, bytes-append, bytes-replicate, bytes-sha256}
 use Rattle.vic_spellings.proofs.Steps.{bytes-nil}

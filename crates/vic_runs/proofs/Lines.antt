@@ -3,7 +3,6 @@ use Rattle.std.proofs.Common.{◌≡◌, ℕ, zero, suc, ◌+◌, ◌<◌, ◌�
 use Rattle.std.specs.Prelude.{if◌then◌else◌, nat_eq}
 use Rattle.std.specs.List.{AllByRecursion}
 use Rattle.vic_dict.specs.Lists.{AreBytes}
-use Rattle.vic_dict.specs.declared.op.Mode.TheVariants as mode
 use Rattle.vic_rules.specs.History.{IsLawful}
 use Rattle.vic_order.specs.Serving.{Serving}
 use Rattle.vic_order.specs.Scenes.{SceneOf, queue_of, stands, last_taken, last_sent, is_client, is_server, waits_in, has_byte, serves, Event, Serves, Takes, after_events, MayAllHappen}
@@ -14,8 +13,8 @@ use Rattle.vic_script.specs.declared.line.Line.TheVariants as line
 use Rattle.vic_script.specs.Lines.{is_place}
 use Rattle.vic_script.specs.Scenes.{hears_if, turns, most_turns, events_of, bad_kind, is_honest_line}
 use Rattle.vic_runs.specs.Claims.{FitsLine}
-use Rattle.vic_runs.specs.Reached.{IfThere}
-use Rattle.vic_runs.proofs.Tests.{client_first, passed_last, asked_is, called_is, waits_is, full, has_byte_waits}
+use Rattle.vic_runs.specs.Reached.{IfThere, calls_in}
+use Rattle.vic_runs.proofs.Tests.{client_first, passed_last, asked_is, called_is, plain_is, object_called_is, objects_is, waits_is, full, has_byte_waits}
 use Rattle.vic_runs.proofs.Scenes.{serves-waits}
 use Rattle.vic_runs.proofs.Seats.{IsSeated, seated-server, seated-after}
 use Rattle.vic_runs.proofs.Sent.{last_taken-bytes}
@@ -24,14 +23,17 @@ use Rattle.vic_runs.proofs.Events.{asks, may-joined, good-joined, asks-joined}
 -- the client of a line that calls may call once more
 abbrev pub HasCallLeft : {V : Type 0} → SceneOf V → Line → Type 0
 HasCallLeft s (line.Call i o) = (stands s i).calls + 1 < 2 ^ 32
+HasCallLeft s (line.Object i c) = (stands s i).calls + 1 < 2 ^ 32
 HasCallLeft s _ = Unit {0}
 
--- and so it may where no client was called more than so few times
-pub few_calls : {V : Type 0} (s : SceneOf V) (n : ℕ) → ((i : ℕ) → (stands s i).calls ≤ n) → n + 1 < 2 ^ 32 → (l : Line) → HasCallLeft s l
+-- and so it may where no client was asked for more than so few calls
+pub few_calls : {V : Type 0} (s : SceneOf V) (n : ℕ) → ((i : ℕ) → calls_in (stands s i) ≤ n) → n + 1 < 2 ^ 32 → (l : Line) → HasCallLeft s l
 few_calls s n calls few (line.Clients count) = tt
+few_calls s n calls few (line.Objects count) = tt
 few_calls s n calls few (line.Key digits) = tt
 few_calls s n calls few (line.Hostile name k) = tt
 few_calls s n calls few (line.Call i o) = omega (arith, few, calls i)
+few_calls s n calls few (line.Object i c) = omega (arith, few, calls i)
 few_calls s n calls few (line.Poll i) = tt
 few_calls s n calls few (line.Sync i) = tt
 few_calls s n calls few (line.Serve i) = tt
@@ -87,30 +89,32 @@ module _ {V : Type 0} (rule : Serving V) where
   hears-may s i above upto None bytes = tt
   hears-may s i above upto (Some payload) bytes = (tt, (above, upto, bytes))
 
-  -- in a group without objects whose clients step by the rules
-  pub line-may : (s : SceneOf V) (l : Line) → IsSeated s → IsLawful s.group s.history → s.group.mode ≡ mode.Plain → HasCallLeft s l → bad_kind s l ≡ None → FitsLine l → MayAllHappen rule s (events_of rule s l)
+  -- in a group whose clients step by the rules
+  pub line-may : (s : SceneOf V) (l : Line) → IsSeated s → IsLawful s.group s.history → HasCallLeft s l → bad_kind s l ≡ None → FitsLine l → MayAllHappen rule s (events_of rule s l)
   unfolding bad_kind
-  line-may s (line.Clients count) h lawful plain left good fits = tt
-  line-may s (line.Key digits) h lawful plain left good fits = tt
-  line-may s (line.Hostile name k) h lawful plain left good fits = tt
-  line-may s (line.Call i o) h lawful plain left good fits = let a = called_is s i o good in (tt, (a.above, a.upto, (a.idle, (plain, (fits.0, (fits.1, left))))))
-  line-may s (line.Poll i) h lawful plain left good fits = let a = asked_is s i good in (tt, (a.above, a.upto, a.idle))
-  line-may s (line.Sync i) h lawful plain left good fits = let a = asked_is s i good in (tt, (a.above, a.upto, a.idle))
-  line-may s (line.Serve i) h lawful plain left good fits =
+  line-may s (line.Clients count) h lawful left good fits = tt
+  line-may s (line.Objects count) h lawful left good fits = tt
+  line-may s (line.Key digits) h lawful left good fits = tt
+  line-may s (line.Hostile name k) h lawful left good fits = tt
+  line-may s (line.Call i o) h lawful left good fits = let a = called_is s i o good in (tt, (a.above, a.upto, (a.idle, (plain_is s i o good, (fits.0, (fits.1, left))))))
+  line-may s (line.Object i c) h lawful left good fits = let a = object_called_is s i c good in (tt, (a.above, a.upto, (a.idle, (objects_is s i c good, (fits.0, (fits.1, left))))))
+  line-may s (line.Poll i) h lawful left good fits = let a = asked_is s i good in (tt, (a.above, a.upto, a.idle))
+  line-may s (line.Sync i) h lawful left good fits = let a = asked_is s i good in (tt, (a.above, a.upto, a.idle))
+  line-may s (line.Serve i) h lawful left good fits =
       let bounds = client_first s i ((5, waits_in s.up i) ∷ []) good in (tt, (bounds.0, bounds.1, waits_is (queue_of s.up i) (passed_last 2 (is_client s i) 5 (waits_in s.up i) good)))
-  line-may s (line.Take i) h lawful plain left good fits =
+  line-may s (line.Take i) h lawful left good fits =
       let bounds = client_first s i ((5, waits_in s.down i) ∷ []) good in (tt, (bounds.0, bounds.1, waits_is (queue_of s.down i) (passed_last 2 (is_client s i) 5 (waits_in s.down i) good)))
-  line-may s (line.Run i) h lawful plain left good fits = let bounds = client_first s i [] good in turns-may most_turns s h i bounds.0 bounds.1
-  line-may s (line.Give i payload) h lawful plain left good fits = let bounds = client_first s i [] good in (tt, (bounds.0, bounds.1, fits))
-  line-may s (line.Again i) h lawful plain left good fits =
+  line-may s (line.Run i) h lawful left good fits = let bounds = client_first s i [] good in turns-may most_turns s h i bounds.0 bounds.1
+  line-may s (line.Give i payload) h lawful left good fits = let bounds = client_first s i [] good in (tt, (bounds.0, bounds.1, fits))
+  line-may s (line.Again i) h lawful left good fits =
       let bounds = client_first s i ((5, is_some (last_taken i s.history)) ∷ []) good in hears-may s i bounds.0 bounds.1 (last_taken i s.history) (last_taken-bytes s.group s.history lawful i)
-  line-may s (line.Flip i k) h lawful plain left good fits =
+  line-may s (line.Flip i k) h lawful left good fits =
       let bounds = client_first s i ((5, has_byte s.down i k) ∷ []) good in (tt, (bounds.0, bounds.1, has_byte_waits (queue_of s.down i) k (passed_last 2 (is_client s i) 5 (has_byte s.down i k) good)))
-  line-may s (line.Resend i) h lawful plain left good fits = let bounds = client_first s i ((5, is_some (last_sent i s.history)) ∷ []) good in (tt, (bounds.0, bounds.1))
-  line-may s (line.Copy k t) h lawful plain left good fits = (tt, passed_last 1 (is_place t) 6 (is_server s k) good)
-  line-may s (line.Move i k) h lawful plain left good fits =
+  line-may s (line.Resend i) h lawful left good fits = let bounds = client_first s i ((5, is_some (last_sent i s.history)) ∷ []) good in (tt, (bounds.0, bounds.1))
+  line-may s (line.Copy k t) h lawful left good fits = (tt, passed_last 1 (is_place t) 6 (is_server s k) good)
+  line-may s (line.Move i k) h lawful left good fits =
       let bounds = client_first s i ((6, is_server s k) ∷ []) good in (tt, (bounds.0, bounds.1, passed_last 2 (is_client s i) 6 (is_server s k) good))
-  line-may s line.Skip h lawful plain left good fits = tt
+  line-may s line.Skip h lawful left good fits = tt
 
   hears-ask : (i : ℕ) (o : Option (List ℕ)) → asks (hears_if i o) ≤ 1
   hears-ask i None = omega arith
@@ -119,9 +123,11 @@ module _ {V : Type 0} (rule : Serving V) where
   -- a line asks at most once
   pub line-asks : (s : SceneOf V) (l : Line) → asks (events_of rule s l) ≤ 1
   line-asks s (line.Clients count) = omega arith
+  line-asks s (line.Objects count) = omega arith
   line-asks s (line.Key digits) = omega arith
   line-asks s (line.Hostile name k) = omega arith
   line-asks s (line.Call i o) = omega arith
+  line-asks s (line.Object i c) = omega arith
   line-asks s (line.Poll i) = omega arith
   line-asks s (line.Sync i) = omega arith
   line-asks s (line.Serve i) = omega arith
@@ -138,9 +144,11 @@ module _ {V : Type 0} (rule : Serving V) where
   -- an honest line makes honest events
   pub line-honest : (s : SceneOf V) (l : Line) → is_honest_line l ≡ true → AllByRecursion IsHonestEvent (events_of rule s l)
   line-honest s (line.Clients count) e = tt
+  line-honest s (line.Objects count) e = tt
   line-honest s (line.Key digits) e = tt
   line-honest s (line.Hostile name k) e = tt
   line-honest s (line.Call i o) e = (tt, tt)
+  line-honest s (line.Object i c) e = (tt, tt)
   line-honest s (line.Poll i) e = (tt, tt)
   line-honest s (line.Sync i) e = (tt, tt)
   line-honest s (line.Serve i) e = (tt, tt)

@@ -8,9 +8,9 @@ use Rattle.vic_runs.specs.Claims.{OutcomesAreFates, NobodyHalts}
 use Rattle.vic_runs.proofs.Runs.{holds_at, all_honest}
 
 pub all_fates : OutcomesAreFates
-all_fates script honest s e server is c there =
+all_fates script honest s e apart server is c there =
     let r = all_honest script honest s e in
-    let same = sym r.same ∙ same_Some r.own server (sym (ap (λ l. server_at l 1) r.only) ∙ is) in subst (λ v. StandsAsFated v.log c) same ((holds_at IsSame s r).fated c there)
+    let same = sym r.same ∙ same_Some r.own server (sym (ap (λ l. server_at l 1) r.only) ∙ is) in subst (λ v. StandsAsFated v.log c) same ((holds_at IsSame s r apart).fated c there)
 
 pub none_halts : NobodyHalts
-none_halts script honest s e = (holds_at IsSame s (all_honest script honest s e)).goes_on
+none_halts script honest s e apart = (holds_at IsSame s (all_honest script honest s e) apart).goes_on

@@ -10,7 +10,7 @@ use Rattle.vic_order.specs.Serving.{Serving, by_rule}
 use Rattle.vic_script.specs.declared.line.Line.{Line}
 use Rattle.vic_script.specs.Lines.{lines_of, line_of}
 use Rattle.vic_order.specs.Scenes.{Queue, SceneOf, Scene, opening, queue_of, set_queue, server_at, server_of, steps, served, serves, taken, takes, unchanged, flipped, Event, Asks, Serves, Takes, Flips, Hears, Resends, Copies, Joins, happens, after_events, MayAsk, MayHappen, MayAllHappen}
-use Rattle.vic_script.specs.Scenes.{returned_in, said, print_of_event, print_of_events, Shown, events_of, done_line, bad_kind}
+use Rattle.vic_script.specs.Scenes.{returned_in, object_in, said, print_of_event, print_of_events, Shown, events_of, done_line, bad_kind}
 use Rattle.vic_script.specs.Run.{limit, group_by, Place, Before, Heads, Stands, scene_in, Played, Tried, Fails, Does, tried_by, try_event, try_line, mode_in, history_in}
 use Rattle.vic_runs.specs.Claims.{FitsLine, line_of_step, PrintsAreReturns}
 use Rattle.vic_runs.specs.Reached.{IsReached}
@@ -43,12 +43,13 @@ module _ {V : Type 0} (rule : Serving V) where
   told-asked : (s : SceneOf V) (i : ℕ) (given : Input) → MayAsk s i given → told (steps s i given).history ≡ told s.history ++ []
   unfolding steps
   told-asked s i (input.Call o) may = told-next (step_by s.group i (input.Call o) s.history) s.history
+  told-asked s i (input.Object c) may = told-next (step_by s.group i (input.Object c) s.history) s.history
   told-asked s i input.Poll may = told-next (step_by s.group i input.Poll s.history) s.history
   told-asked s i input.Sync may = told-next (step_by s.group i input.Sync s.history) s.history
   told-asked s i (input.Payload payload) may = absurd may
 
   -- a client takes a payload
-  told-heard : (s : SceneOf V) (i : ℕ) (payload : List ℕ) → told (steps s i (input.Payload payload)).history ≡ told s.history ++ said i (returned_in (steps s i (input.Payload payload)).history)
+  told-heard : (s : SceneOf V) (i : ℕ) (payload : List ℕ) → told (steps s i (input.Payload payload)).history ≡ told s.history ++ said i (returned_in (steps s i (input.Payload payload)).history) (object_in (steps s i (input.Payload payload)).history)
   unfolding steps
   told-heard s i payload = told-next (step_by s.group i (input.Payload payload) s.history) s.history
 
@@ -62,11 +63,11 @@ module _ {V : Type 0} (rule : Serving V) where
   told-serves s i = told-served s i (queue_of s.up i) (server_at s.servers (server_of s.served_by i))
 
   -- a client takes an answer that waits
-  told-taken : (change : List ℕ → List ℕ) (s : SceneOf V) (i : ℕ) (queue : Queue) → (queue ≡ [] → ⊥) → told (taken change s i queue).history ≡ told s.history ++ said i (returned_in (taken change s i queue).history)
+  told-taken : (change : List ℕ → List ℕ) (s : SceneOf V) (i : ℕ) (queue : Queue) → (queue ≡ [] → ⊥) → told (taken change s i queue).history ≡ told s.history ++ said i (returned_in (taken change s i queue).history) (object_in (taken change s i queue).history)
   told-taken change s i [] waits = absurd (waits refl)
   told-taken change s i (payload ∷ rest) waits = told-heard (record s { down = set_queue s.down i rest }) i (change payload)
 
-  told-takes : (change : List ℕ → List ℕ) (s : SceneOf V) (i : ℕ) → (queue_of s.down i ≡ [] → ⊥) → told (takes change s i).history ≡ told s.history ++ said i (returned_in (takes change s i).history)
+  told-takes : (change : List ℕ → List ℕ) (s : SceneOf V) (i : ℕ) → (queue_of s.down i ≡ [] → ⊥) → told (takes change s i).history ≡ told s.history ++ said i (returned_in (takes change s i).history) (object_in (takes change s i).history)
   unfolding takes
   told-takes change s i waits = told-taken change s i (queue_of s.down i) waits
 
@@ -101,11 +102,11 @@ tells-by s (Some k) shown h = tt
 tells-event : (s : Scene) (l : Line) (n : ℕ) → IsReached s n → n + 1 < 2 ^ 32 → FitsLine l → TriedTells (Some s) (try_event s l)
 tells-event s l n h few fits =
     tells-by s (bad_kind s l) (done_line by_rule s l) (λ good.
-    told-after by_rule s (events_of by_rule s l) (line-may by_rule s l (reached-seated s n h) h.lawful h.plain (few_calls s n h.calls few l) good fits))
+    told-after by_rule s (events_of by_rule s l) (line-may by_rule s l (reached-seated s n h) h.lawful (few_calls s n h.calls few l) good fits))
 
 tells : (place : Place) (l : Option Line) (n : ℕ) → ReachedIn (scene_in place) n → n + 1 < 2 ^ 32 → FitsIn l → TriedTells (scene_in place) (try_line place l)
 tells Before None n r few fits = tt
-tells Before (Some l) n r few fits = first_so (λ (x : Line) (t : Tried). TriedTells None t) (λ count. refl) refl (λ x. tt) l
+tells Before (Some l) n r few fits = first_so (λ (x : Line) (t : Tried). TriedTells None t) (λ count. refl) (λ count. refl) refl (λ x. tt) l
 tells (Heads h) None n r few fits = tt
 tells (Heads h) (Some l) n r few fits =
     header_so (λ (x : Line) (t : Tried). FitsLine x → TriedTells (Some (opening (group_by h))) t) h (λ digits is. refl) (λ digits is. tt) (λ is. refl) (λ x is. tells-event (opening (group_by h)) x n r few is) l fits

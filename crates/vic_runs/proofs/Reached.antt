@@ -3,7 +3,6 @@ use Rattle.std.proofs.Common.{◌≡◌, ℕ, ◌+◌, ◌<◌, ◌≤◌, true,
 use Rattle.std.specs.List.{AllByRecursion}
 use Rattle.std.proofs.lemmas.List.{length-set}
 use Rattle.vic_dict.specs.Lists.{AreBytes}
-use Rattle.vic_dict.specs.declared.op.Mode.TheVariants as mode
 use Rattle.vic_wire.specs.Hashes.{Group, IsGroup}
 use Rattle.vic_wire.specs.Messages.{answer_text}
 use Rattle.vic_rules.specs.declared.trace.Input.{Input}
@@ -17,7 +16,7 @@ use Rattle.vic_order.specs.Scenes.{Queue, Scene, opening, queue_of, set_queue, s
 use Rattle.vic_script.specs.declared.line.Line.{Line}
 use Rattle.vic_script.specs.Scenes.{events_of, done_line, bad_kind}
 use Rattle.vic_runs.specs.Claims.{FitsLine}
-use Rattle.vic_runs.specs.Reached.{ServerHolds, IfThere, HoldsBytes, IsReached}
+use Rattle.vic_runs.specs.Reached.{ServerHolds, IfThere, HoldsBytes, calls_in, IsReached}
 use Rattle.vic_runs.proofs.Lists.{all-set, all-replicate}
 use Rattle.vic_honest.proofs.Queues.{length-set_queue}
 use Rattle.vic_runs.proofs.Queues.{queue-bytes, joined-bytes, queued-bytes}
@@ -54,7 +53,6 @@ reached-server s n r k = there-at ServerHolds s.servers k r.servers
 -- so few calls are at most more
 pub reached-more : (s : Scene) (n m : ℕ) → n ≤ m → IsReached s n → IsReached s m
 reached-more s n m more r = record {
-  plain = r.plain;
   lawful = r.lawful;
   calls = λ i. omega (arith, more, r.calls i);
   up_count = r.up_count;
@@ -69,13 +67,12 @@ reached-more s n m more r = record {
 
 -- ---- the opening
 
--- any group without objects
-pub reached-opening : (g : Group) → IsGroup g → g.mode ≡ mode.Plain → IsReached (opening g) 0
+-- any group
+pub reached-opening : (g : Group) → IsGroup g → IsReached (opening g) 0
 unfolding standing
-reached-opening g is plain =
+reached-opening g is =
     let seats : IsSeated (opening g) = seated-opening g _ in
     record {
-      plain = plain;
       lawful = record { group = is; steps = tt };
       calls = λ i. omega arith;
       up_count = seats.up_count;
@@ -92,16 +89,15 @@ reached-opening g is plain =
 
 -- the steps so far, and one that may be next
 lawful-next : (s : Scene) (n : ℕ) → IsReached s n → (i : ℕ) → 0 < i → i ≤ s.group.count → (given : Input) → MayStep s.group (stands s i) given → IsLawful s.group (step_by s.group i given s.history ∷ s.history)
-lawful-next s n r i above upto given may = record { group = r.lawful.group; steps = (r.lawful.steps, record { member = (above, upto); may = may; sent = refl; returned = refl }) }
+lawful-next s n r i above upto given may = record { group = r.lawful.group; steps = (r.lawful.steps, record { member = (above, upto); may = may; sent = refl; returned = refl; object = refl }) }
 
 reached-step : (s : Scene) (n m : ℕ) → IsReached s n → (i : ℕ) → 0 < i → i ≤ s.group.count → (given : Input) → MayStep s.group (stands s i) given
-    → ((j : ℕ) → (standing s.group j (step_by s.group i given s.history ∷ s.history)).calls ≤ m) → IsReached (steps s i given) m
+    → ((j : ℕ) → calls_in (standing s.group j (step_by s.group i given s.history ∷ s.history)) ≤ m) → IsReached (steps s i given) m
 unfolding steps
 reached-step s n m r i above upto given may calls =
     let x : TraceStep = step_by s.group i given s.history in
     let lawful : IsLawful s.group (x ∷ s.history) = lawful-next s n r i above upto given may in
     record {
-      plain = r.plain;
       lawful = lawful;
       calls = calls;
       up_count = length-set_queue s.up i _ ∙ r.up_count;
@@ -118,14 +114,14 @@ reached-step s n m r i above upto given may calls =
 pub reached-steps : (s : Scene) (n : ℕ) → IsReached s n → (i : ℕ) → 0 < i → i ≤ s.group.count → (given : Input) → MayStep s.group (stands s i) given → IsReached (steps s i given) (n + 1)
 reached-steps s n r i above upto given may =
     let x : TraceStep = step_by s.group i given s.history in
-    reached-step s n (n + 1) r i above upto given may (λ j. omega (arith, r.calls j, calls-step s.group s.history x (lawful-next s n r i above upto given may).steps j))
+    reached-step s n (n + 1) r i above upto given may (λ j. omega (arith, r.calls j, calls-step s.group s.history x j))
 
 -- a payload calls nothing
 pub reached-payload : (s : Scene) (n : ℕ) → IsReached s n → (i : ℕ) → 0 < i → i ≤ s.group.count → (payload : List ℕ) → AreBytes payload → IsReached (steps s i (input.Payload payload)) n
 reached-payload s n r i above upto payload bytes =
     let given : Input = input.Payload payload in
     let x : TraceStep = step_by s.group i given s.history in
-    reached-step s n n r i above upto given bytes (λ j. omega (arith, r.calls j, calls-payload s.group s.history x (lawful-next s n r i above upto given bytes).steps payload refl j))
+    reached-step s n n r i above upto given bytes (λ j. omega (arith, r.calls j, calls-payload s.group s.history x payload refl j))
 
 -- ---- a server serves
 
@@ -137,7 +133,6 @@ reached-served s n r i above upto (payload ∷ rest) bytes (Some server) holds =
     let kept : ServerHolds (serve server i payload).next × AreBytes (answer_text (serve server i payload).answer) = holds-serve server i payload holds above (omega (arith, upto, r.lawful.group.count.1)) bytes.0 in
     let seats : IsSeated (served by_rule s i (payload ∷ rest) (Some server)) = seated-served by_rule s (reached-seated s n r) i (payload ∷ rest) (Some server) in
     record {
-      plain = r.plain;
       lawful = r.lawful;
       calls = r.calls;
       up_count = seats.up_count;
@@ -163,7 +158,6 @@ KeepsBytes change = (payload : List ℕ) → AreBytes payload → AreBytes (chan
 
 reached-fewer : (s : Scene) (n : ℕ) → IsReached s n → (i : ℕ) (rest : Queue) → HoldsBytes rest → IsReached (record s { down = set_queue s.down i rest }) n
 reached-fewer s n r i rest bytes = record {
-  plain = r.plain;
   lawful = r.lawful;
   calls = r.calls;
   up_count = r.up_count;
@@ -189,7 +183,6 @@ reached-takes change keeps s n r i above upto = reached-taken change keeps s n r
 
 pub reached-resends : (s : Scene) (n : ℕ) → IsReached s n → (i : ℕ) → IsReached (resends s i) n
 reached-resends s n r i = record {
-  plain = r.plain;
   lawful = r.lawful;
   calls = r.calls;
   up_count = length-set_queue s.up i _ ∙ r.up_count;
@@ -208,7 +201,6 @@ pub reached-copies : (s : Scene) (n : ℕ) → IsReached s n → (k t : ℕ) →
 reached-copies s n r k t there =
     let seats : IsSeated (copies s k t) = seated-copies s (reached-seated s n r) k t there in
     record {
-      plain = r.plain;
       lawful = r.lawful;
       calls = r.calls;
       up_count = r.up_count;
@@ -225,7 +217,6 @@ pub reached-joins : (s : Scene) (n : ℕ) → IsReached s n → (i k : ℕ) → 
 reached-joins s n r i k there =
     let seats : IsSeated (joins s i k) = seated-joins s (reached-seated s n r) i k there in
     record {
-      plain = r.plain;
       lawful = r.lawful;
       calls = r.calls;
       up_count = r.up_count;
@@ -264,4 +255,4 @@ reached-after s n events r may = kept-after by_rule IsReached Any reached-happen
 -- a line that isn't bad leads on to a scene that is reached
 pub reached-line : (s : Scene) (n : ℕ) (l : Line) → IsReached s n → HasCallLeft s l → bad_kind s l ≡ None → FitsLine l → IsReached (done_line by_rule s l).scene (n + 1)
 reached-line s n l r left good fits =
-    reached-more _ _ (n + 1) (omega (arith, line-asks by_rule s l)) (reached-after s n (events_of by_rule s l) r (line-may by_rule s l (reached-seated s n r) r.lawful r.plain left good fits))
+    reached-more _ _ (n + 1) (omega (arith, line-asks by_rule s l)) (reached-after s n (events_of by_rule s l) r (line-may by_rule s l (reached-seated s n r) r.lawful left good fits))

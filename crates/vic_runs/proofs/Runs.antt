@@ -1,13 +1,14 @@
 -- The run of a script reaches its scene, and that of an honest script one of an honest run.
-use Rattle.std.proofs.Common.{◌≡◌, ℕ, ◌+◌, ◌<◌, ◌≤◌, ◌^◌, true, List, length, take, Option, Some, None, refl, sym, subst, arith}
+use Rattle.std.proofs.Common.{◌≡◌, ℕ, ◌+◌, ◌<◌, ◌≤◌, ◌^◌, true, List, length, take, Option, Some, None, refl, subst, ◌∙◌, arith}
 use Rattle.std.specs.List.{AllByRecursion}
 use Rattle.std.proofs.lemmas.List.{length-take}
 use Rattle.vic_dict.specs.declared.op.Mode.TheVariants as mode
 use Rattle.vic_wire.specs.Hashes.{Group, IsGroup}
 use Rattle.vic_rules.specs.History.{IsLawful}
 use Rattle.vic_rules.specs.Trust.{IsForged}
-use Rattle.vic_honest.specs.Claims.{IsHonestScene}
-use Rattle.vic_honest.proofs.Scenes.{honest_runs_hold}
+use Rattle.vic_honest.specs.SafeRuns.{AreApart}
+use Rattle.vic_honest.specs.Claims.{IsHonestScene, HoldsAnyway}
+use Rattle.vic_honest.proofs.Scenes.{honest_runs_hold, honest_runs_are_lawful}
 use Rattle.vic_laws.proofs.EveryHistory.{every_history_holds}
 use Rattle.vic_laws.proofs.Words.{all_true}
 use Rattle.vic_order.specs.Order.{Server, fresh_server, ready}
@@ -17,13 +18,13 @@ use Rattle.vic_script.specs.declared.line.Line.{Line}
 use Rattle.vic_script.specs.Lines.{lines_of, line_of}
 use Rattle.vic_order.specs.Scenes.{Scene, SceneOf, opening}
 use Rattle.vic_script.specs.Scenes.{Shown, done_line, bad_kind, is_honest_line}
-use Rattle.vic_script.specs.Run.{limit, plain_group, group_by, Place, Before, Heads, Stands, scene_in, Played, Tried, Fails, Does, tried_by, try_event, try_line, mode_in, run_of, is_honest, is_honest_script, group_in, history_in, group_of, history_of}
+use Rattle.vic_script.specs.Run.{limit, group_by, Place, Before, Heads, Stands, scene_in, Played, Tried, Fails, Does, tried_by, try_event, try_line, mode_in, run_of, is_honest, is_honest_script, group_in, history_in, group_of, history_of}
 use Rattle.vic_runs.specs.Claims.{FitsLine, RunsAreLawful, NothingIsForged, RunsAreHonest, ClaimsHold}
 use Rattle.vic_runs.specs.Reached.{IsReached, IsHonestlyReached}
 use Rattle.vic_script.proofs.Forged.{is_forged-none}
 use Rattle.vic_runs.proofs.Lists.{all_each}
-use Rattle.vic_runs.proofs.Words.{FitsIn, text_fits}
-use Rattle.vic_runs.proofs.Headers.{keyed, first_so, header_so, plain_is_group, keyed_is_group}
+use Rattle.vic_runs.proofs.Words.{FitsIn, text_fits, in_each_mode}
+use Rattle.vic_runs.proofs.Headers.{begun, keyed, first_so, header_so, begun_is_group, keyed_is_group}
 use Rattle.vic_runs.proofs.Reached.{reached-more, reached-opening, reached-lawful, reached-line}
 use Rattle.vic_runs.proofs.Lines.{few_calls}
 use Rattle.vic_runs.proofs.Kept.{same_is_kept}
@@ -53,19 +54,20 @@ tried-by (Some k) shown n h = tt
 tried-event : (s : Scene) (l : Line) (n : ℕ) → IsReached s n → n + 1 < 2 ^ 32 → FitsLine l → TriedReaches (try_event s l) (n + 1)
 tried-event s l n h few fits = tried-by (bad_kind s l) (done_line by_rule s l) (n + 1) (λ good. reached-line s n l h (few_calls s n h.calls few l) good fits)
 
--- a group without objects opens so
-pub opens_reached : (g : Group) (n : ℕ) → IsGroup g → g.mode ≡ mode.Plain → IsReached (opening g) n
-opens_reached g n is plain = reached-more (opening g) 0 n (omega arith) (reached-opening g is plain)
+-- a group opens so
+pub opens_reached : (g : Group) (n : ℕ) → IsGroup g → IsReached (opening g) n
+opens_reached g n is = reached-more (opening g) 0 n (omega arith) (reached-opening g is)
 
 -- a line that fits leads on to a scene that is reached, or is bad
 pub tried : (place : Place) (l : Option Line) (n : ℕ) → ReachedIn (scene_in place) n → n + 1 < 2 ^ 32 → FitsIn l → TriedReaches (try_line place l) (n + 1)
 tried Before None n r few fits = tt
 tried Before (Some l) n r few fits =
-    first_so (λ (x : Line) (t : Tried). FitsLine x → TriedReaches t (n + 1)) (λ count is. opens_reached (plain_group count) (n + 1) (plain_is_group count is.0 is.1) refl) (λ is. tt) (λ x is. tt) l fits
+    first_so (λ (x : Line) (t : Tried). FitsLine x → TriedReaches t (n + 1)) (λ count is. opens_reached (group_by (begun mode.Plain count)) (n + 1) (begun_is_group mode.Plain count is.0 is.1))
+    (λ count is. opens_reached (group_by (begun mode.Objects count)) (n + 1) (begun_is_group mode.Objects count is.0 is.1)) (λ is. tt) (λ x is. tt) l fits
 tried (Heads h) None n r few fits = tt
 tried (Heads h) (Some l) n r few fits =
     header_so (λ (x : Line) (t : Tried). FitsLine x → TriedReaches t (n + 1)) h
-    (λ digits is. opens_reached (group_by (keyed h digits)) (n + 1) (keyed_is_group h digits r.lawful.group is) r.plain) (λ digits is. tt)
+    (λ digits is. opens_reached (group_by (keyed h digits)) (n + 1) (keyed_is_group h digits r.lawful.group is)) (λ digits is. tt)
     (λ is. reached-more (opening (group_by h)) n (n + 1) (omega arith) r) (λ x is. tried-event (opening (group_by h)) x n r few is) l fits
 tried (Stands s) None n r few fits = tt
 tried (Stands s) (Some l) n r few fits = tried-event s l n r few fits
@@ -136,18 +138,19 @@ honest_tried-event : (s : Scene) (l : Line) (n : ℕ) → IsHonestlyReached IsSa
 honest_tried-event s l n h few fits honest =
     honest_tried-by (bad_kind s l) (done_line by_rule s l) (n + 1) (λ good. honest-line IsSame by_rule same_is_kept s n l h (few_calls s n h.calls few l) good fits honest)
 
-honest_opens : (g : Group) (n : ℕ) → IsGroup g → g.mode ≡ mode.Plain → IsHonestlyReached IsSame (opening g) n
-honest_opens g n is plain = honest-more IsSame (opening g) 0 n (omega arith) (honest-opening IsSame g (fresh_server g.mode g.count ready) is plain refl)
+honest_opens : (g : Group) (n : ℕ) → IsGroup g → IsHonestlyReached IsSame (opening g) n
+honest_opens g n is = honest-more IsSame (opening g) 0 n (omega arith) (honest-opening IsSame g (fresh_server g.mode g.count ready) is refl)
 
 -- an honest line that fits leads on to such a scene, or is bad
 pub honest_tried : (place : Place) (l : Option Line) (n : ℕ) → HonestIn (scene_in place) n → n + 1 < 2 ^ 32 → FitsIn l → HonestFor (scene_in place) l → TriedHonest (try_line place l) (n + 1)
 honest_tried Before None n r few fits honest = tt
 honest_tried Before (Some l) n r few fits honest =
-    first_so (λ (x : Line) (t : Tried). FitsLine x → TriedHonest t (n + 1)) (λ count is. honest_opens (plain_group count) (n + 1) (plain_is_group count is.0 is.1) refl) (λ is. tt) (λ x is. tt) l fits
+    first_so (λ (x : Line) (t : Tried). FitsLine x → TriedHonest t (n + 1)) (λ count is. honest_opens (group_by (begun mode.Plain count)) (n + 1) (begun_is_group mode.Plain count is.0 is.1))
+    (λ count is. honest_opens (group_by (begun mode.Objects count)) (n + 1) (begun_is_group mode.Objects count is.0 is.1)) (λ is. tt) (λ x is. tt) l fits
 honest_tried (Heads h) None n r few fits honest = tt
 honest_tried (Heads h) (Some l) n r few fits honest =
     header_so (λ (x : Line) (t : Tried). FitsLine x → is_honest_line x ≡ true → TriedHonest t (n + 1)) h
-    (λ digits is so. honest_opens (group_by (keyed h digits)) (n + 1) (keyed_is_group h digits r.comes.run.group is) r.plain) (λ digits is so. tt)
+    (λ digits is so. honest_opens (group_by (keyed h digits)) (n + 1) (keyed_is_group h digits r.comes.run.group is)) (λ digits is so. tt)
     (λ is so. honest-more IsSame (opening (group_by h)) n (n + 1) (omega arith) r) (λ x is so. honest_tried-event (opening (group_by h)) x n r few is so) l fits honest
 honest_tried (Stands s) None n r few fits honest = tt
 honest_tried (Stands s) (Some l) n r few fits honest = honest_tried-event s l n r few fits honest
@@ -159,7 +162,7 @@ IsHonestText text = is_honest (line_of (Some mode.Plain) text) ≡ true
 -- it is honest in the mode that the script has
 pub honest_for : (scene : Option Scene) (n : ℕ) (text : List ℕ) → HonestIn scene n → is_honest (line_of (Some mode.Plain) text) ≡ true → HonestFor scene (line_of (mode_in scene) text)
 honest_for None n text h honest = tt
-honest_for (Some s) n text h honest = subst (λ m. is_honest (line_of (Some m) text) ≡ true) (sym h.plain) honest
+honest_for (Some s) n text h honest = in_each_mode s.group.mode text ∙ honest
 
 -- each line of an honest script
 pub honest-texts : (script : List ℕ) → is_honest_script script ≡ true → AllByRecursion IsHonestText (lines_of (take (limit + 1) script))
@@ -192,12 +195,16 @@ honest-run script honest = claimed-run IsHonestText StandsHonest LeavesHonest ea
 -- ---- what each honest run is
 
 -- what holds where honest events lead
-pub holds_at : {V : Type 0} (R : V → Server → Type 0) (s : SceneOf V) (c : ComesHonestly R s) → IsHonestScene s c.events c.server
-holds_at R s c = honest_runs_hold (ruled s c.server) c.server c.events c.run
+pub holds_at : {V : Type 0} (R : V → Server → Type 0) (s : SceneOf V) (c : ComesHonestly R s) → AreApart s.group s.history → IsHonestScene s c.events c.server
+holds_at R s c apart = honest_runs_hold (ruled s c.server) c.server c.events (record { honest = c.run; apart = apart })
+
+-- and what holds there also where two contents have one hash
+pub holds_anyway : {V : Type 0} (R : V → Server → Type 0) (s : SceneOf V) (c : ComesHonestly R s) → HoldsAnyway s.group s.history c.server
+holds_anyway R s c = honest_runs_are_lawful (ruled s c.server) c.server c.events c.run
 
 unforged-in : (scene : Option Scene) (n : ℕ) → HonestIn scene n → IsForged (group_in scene) (history_in scene) → ⊥
 unforged-in None n h forged = forged
-unforged-in (Some s) n h forged = (holds_at IsSame s h.comes).unforged forged
+unforged-in (Some s) n h forged = (holds_anyway IsSame s h.comes).unforged forged
 
 pub none_forged : NothingIsForged
 none_forged script honest =

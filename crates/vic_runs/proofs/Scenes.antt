@@ -17,7 +17,7 @@ sent_by g i given h = let v = step g i (standing g i h) given in payload_of g i 
 abbrev pub step_by : Group → ℕ → Input → List TraceStep → TraceStep
 step_by g i given h =
     let v = step g i (standing g i h) given in
-    record { client = i; input = given; sent = payload_of g i v.next v.sends; returned = v.returns }
+    record { client = i; input = given; sent = payload_of g i v.next v.sends; returned = v.returns; object = v.object }
 
 module _ {V : Type 0} where
   -- ---- what waits

@@ -1,5 +1,5 @@
 -- The lines that aren't honest are those that tamper.
-use Rattle.std.specs.Prelude.{◌≡◌, ◌↔◌, true, false}
+use Rattle.std.specs.Prelude.{◌≡◌, false}
 use Rattle.std.proofs.Common.{refl, true≢false}
 use Rattle.vic_script.specs.declared.line.Line.{Line}
 use Rattle.vic_script.specs.declared.line.Line.TheVariants as line
@@ -8,9 +8,11 @@ use Rattle.vic_runs.specs.Tampering.{Tampers, gives, repeats, flips, resends, co
 
 tampers : (l : Line) → is_honest_line l ≡ false → Tampers l
 tampers (line.Clients n) e = absurd (true≢false e)
+tampers (line.Objects n) e = absurd (true≢false e)
 tampers (line.Key digits) e = absurd (true≢false e)
 tampers (line.Hostile name n) e = turns_hostile name n
 tampers (line.Call i o) e = absurd (true≢false e)
+tampers (line.Object i c) e = absurd (true≢false e)
 tampers (line.Poll i) e = absurd (true≢false e)
 tampers (line.Sync i) e = absurd (true≢false e)
 tampers (line.Serve i) e = absurd (true≢false e)

@@ -5,9 +5,15 @@ use Rattle.std.proofs.lemmas.Bool.{and_parts, and_from, ltb-true, leb-true, lt-l
 use Rattle.vic_dict.specs.declared.op.Op.{Op}
 use Rattle.vic_dict.specs.declared.op.Op.TheVariants as op
 use Rattle.vic_dict.specs.Dictionary.{IsKey, Fits}
+use Rattle.vic_dict.specs.declared.op.Mode.{Mode}
+use Rattle.vic_dict.specs.declared.op.Mode.TheVariants as mode
+use Rattle.vic_rules.specs.declared.object.ObjectCall.{ObjectCall}
+use Rattle.vic_rules.specs.declared.object.ObjectCall.TheVariants as object
+use Rattle.vic_rules.specs.Objects.{FitsObject}
+use Rattle.vic_order.specs.Order.{same_mode}
 use Rattle.vic_rules.specs.Client.{first_failing, awaits_nothing, IsIdle}
 use Rattle.vic_order.specs.Scenes.{Queue, SceneOf, stands, is_client, oldest}
-use Rattle.vic_script.specs.Scenes.{is_key, fits_op, is_plain_call, asked_tests}
+use Rattle.vic_script.specs.Scenes.{is_key, fits_op, is_plain_call, fits_object, is_object_call, asked_tests}
 
 -- a test before others was passed, and so were they
 pub passed : (k : ℕ) (b : Bool) (others : List (ℕ × Bool)) → first_failing ((k, b) ∷ others) ≡ None → (b ≡ true) × (first_failing others ≡ None)
@@ -70,6 +76,42 @@ fits_op_is o = (fits_op-true o, op-passes o)
 -- a client that passes the tests of a line by which it calls
 pub called_is : {V : Type 0} (s : SceneOf V) (i : ℕ) (o : Op) → first_failing ((1, is_plain_call s o) ∷ asked_tests s i) ≡ None → Asked s i
 called_is s i o e = asked_is s i (passed 1 (is_plain_call s o) (asked_tests s i) e).1
+
+-- its group has no objects
+pub plain_is : {V : Type 0} (s : SceneOf V) (i : ℕ) (o : Op) → first_failing ((1, is_plain_call s o) ∷ asked_tests s i) ≡ None → s.group.mode ≡ mode.Plain
+plain_is s i o e = mode_plain s.group.mode (and_parts (same_mode s.group.mode mode.Plain) (fits_op o) (passed 1 (is_plain_call s o) (asked_tests s i) e).0).0
+  where
+    mode_plain : (m : Mode) → same_mode m mode.Plain ≡ true → m ≡ mode.Plain
+    mode_plain mode.Plain e = refl
+    mode_plain mode.Objects e = absurd cc
+
+-- a client that passes the tests of a line by which it makes a call on objects
+pub object_called_is : {V : Type 0} (s : SceneOf V) (i : ℕ) (c : ObjectCall) → first_failing ((1, is_object_call s c) ∷ asked_tests s i) ≡ None → Asked s i
+object_called_is s i c e = asked_is s i (passed 1 (is_object_call s c) (asked_tests s i) e).1
+
+-- its group has objects
+pub objects_is : {V : Type 0} (s : SceneOf V) (i : ℕ) (c : ObjectCall) → first_failing ((1, is_object_call s c) ∷ asked_tests s i) ≡ None → s.group.mode ≡ mode.Objects
+objects_is s i c e = mode_objects s.group.mode (and_parts (same_mode s.group.mode mode.Objects) (fits_object c) (passed 1 (is_object_call s c) (asked_tests s i) e).0).0
+  where
+    mode_objects : (m : Mode) → same_mode m mode.Objects ≡ true → m ≡ mode.Objects
+    mode_objects mode.Objects e = refl
+    mode_objects mode.Plain e = absurd cc
+
+-- the test of the lengths of a call's texts passes exactly those that fit
+object-true : (c : ObjectCall) → fits_object c ≡ true → FitsObject c
+object-true (object.Store k c) e = let p = and_parts (is_key k) (nat_le (length c) 8388608) e in (is_key-true k p.0, omega (arith, leb-true (length c) 8388608 p.1))
+object-true (object.Load k) e = is_key-true k e
+object-true (object.Erase k) e = is_key-true k e
+object-true (object.Names p) e = omega (arith, leb-true (length p) 255 e)
+
+object-passes : (c : ObjectCall) → FitsObject c → fits_object c ≡ true
+object-passes (object.Store k c) h = and_from _ _ (key-passes k h.0) (le-leb (length c) 8388608 (omega (arith, h.1)))
+object-passes (object.Load k) h = key-passes k h
+object-passes (object.Erase k) h = key-passes k h
+object-passes (object.Names p) h = le-leb (length p) 255 (omega (arith, h))
+
+pub fits_object_is : (c : ObjectCall) → (fits_object c ≡ true) ↔ FitsObject c
+fits_object_is c = (object-true c, object-passes c)
 
 -- ---- what waits in a queue that passed
 

@@ -1,11 +1,12 @@
 -- A script has few lines, byte words spell bytes, and the lines that texts spell fit.
-use Rattle.std.proofs.Common.{◌≡◌, ℕ, suc, ◌<◌, ◌≤◌, Bool, true, false, ◌&&◌, List, [], ◌∷◌, length, Option, Some, None, Result, Ok, Err, refl, subst, arith}
-use Rattle.std.specs.Prelude.{if◌then◌else◌, nat_eq, nat_lt, nat_le, option_map, codes}
+use Rattle.std.proofs.Common.{◌≡◌, ℕ, zero, suc, ◌<◌, ◌≤◌, Bool, true, false, ◌&&◌, List, [], ◌∷◌, length, Option, Some, None, Result, Ok, Err, refl, sym, subst, ◌∙◌, arith}
+use Rattle.std.specs.Prelude.{if◌then◌else◌, nat_eq, nat_lt, nat_le, option_map, codes, drop, replicate}
 use Rattle.std.specs.Str.{bytes_eq}
-use Rattle.std.specs.List.{list_all}
+use Rattle.std.specs.List.{list_all, starts_with}
 use Rattle.std.specs.Result.{result_ok}
 use Rattle.std.proofs.lemmas.Bool.{and_parts, ltb-true, leb-true}
 use Rattle.std.proofs.lemmas.Bool.Decides.{nat_tests}
+use Rattle.std.proofs.lemmas.List.{length-replicate}
 use Rattle.hex.specs.Hex.{decode_of}
 use Rattle.hex.specs.declared.error.FromHexError.{FromHexError}
 use Rattle.hex.proofs.HexLemmas.{decode_of-ok}
@@ -17,10 +18,14 @@ use Rattle.vic_dict.specs.Lists.{AreBytes}
 use Rattle.vic_dict.specs.Dictionary.{Fits, AreBytesIn}
 use Rattle.vic_spellings.proofs.Steps.{bytes-nil}
 use Rattle.vic_spellings.proofs.Bytes.{bytes-cons}
+use Rattle.vic_rules.specs.declared.object.ObjectCall.{ObjectCall}
+use Rattle.vic_rules.specs.declared.object.ObjectCall.TheVariants as object
+use Rattle.vic_rules.specs.Objects.{FitsObject, AreBytesInObject}
 use Rattle.vic_script.specs.declared.line.Line.{Line}
 use Rattle.vic_script.specs.declared.line.Line.TheVariants as line
 use Rattle.vic_script.specs.Words.{is_plain, is_lower_hex, is_percent, hex_word, word_bytes, word_number, word_capped}
-use Rattle.vic_script.specs.Lines.{put_first, lines_of, words_of, within, key_of, value_of, prefix_of, put_of, op_of, call_of, clients_of, named, give_of, pair_of, is_place, copy_of, paired, header_of, is_key_digits, key_line, next_header_of, called, event_of, or_line, line_in, is_skipped, line_of}
+use Rattle.vic_script.specs.Lines.{put_first, lines_of, words_of, within, key_of, value_of, prefix_of, put_of, op_of, call_of, group_line, at_most, zeros_of, content_of, store_of, object_of, object_call_of, named, give_of, pair_of, is_place, copy_of, paired, header_of, is_key_digits, key_line, next_header_of, called, event_of, or_line, line_in, is_skipped, line_of}
+use Rattle.vic_script.specs.Run.{is_honest}
 use Rattle.vic_runs.specs.Claims.{FitsLine}
 
 -- ---- the lines of a script
@@ -195,18 +200,94 @@ call-fits (Some i) (Some o) h = h
 call-fits (Some i) None h = tt
 call-fits None o h = tt
 
-clients-in : (n : ℕ) (b : Bool) → (b ≡ true → (0 < n) × (n ≤ 64)) → FitsIn (if b then Some (line.Clients n) else None)
-clients-in n true h = h refl
-clients-in n false h = tt
+-- ---- calls on objects
 
-clients-fit : (o : Option ℕ) → FitsIn (clients_of o)
-clients-fit None = tt
-clients-fit (Some n) = clients-in n (nat_lt 0 n && nat_le n 64) (λ e. let p = and_parts _ _ e in (ltb-true _ _ p.0, leb-true _ _ p.1))
+abbrev FitsObjectIn : Option ObjectCall → Type 0
+FitsObjectIn None = Unit {0}
+FitsObjectIn (Some c) = FitsObject c × AreBytesInObject c
+
+object-either : (b : Bool) (x y : Option ObjectCall) → FitsObjectIn x → FitsObjectIn y → FitsObjectIn (if b then x else y)
+object-either true x y h k = h
+object-either false x y h k = k
+
+-- a content has few enough bytes
+zeros-bytes : (n : ℕ) → AreBytes (replicate n 0)
+zeros-bytes zero = bytes-nil
+zeros-bytes (suc n) = bytes-cons 0 (replicate n 0) (omega arith) (zeros-bytes n)
+
+zeros-few : (o : Option ℕ) → FewIn 0 8388608 (option_map (λ n. replicate n 0) (at_most 8388608 o))
+zeros-few None = tt
+zeros-few (Some n) = now (nat_le n 8388608) (leb-true n 8388608)
+  where
+    now : (b : Bool) → (b ≡ true → n ≤ 8388608) → FewIn 0 8388608 (option_map (λ n. replicate n 0) (if b then Some n else None))
+    now true few = let upto = few refl in (zeros-bytes n, (omega arith, omega (arith, upto, length-replicate {A = ℕ} n 0)))
+    now false few = tt
+
+few-either-way : (least most : ℕ) (b : Bool) (x y : Option (List ℕ)) → FewIn least most x → FewIn least most y → FewIn least most (if b then x else y)
+few-either-way least most true x y h k = h
+few-either-way least most false x y h k = k
+
+content-few : (word : List ℕ) → FewIn 0 8388608 (content_of word)
+content-few word =
+    few-either-way 0 8388608 (starts_with nat_eq word (codes "zeros:")) (zeros_of (drop 6 word)) (within 0 8388608 (word_bytes word)) (zeros-few (word_number (drop 6 word)))
+    (within-few 0 8388608 (word_bytes word) (word-bytes word))
+
+load-fits : (k : Option (List ℕ)) → FewIn 1 255 k → FitsObjectIn (option_map object.Load k)
+load-fits None h = tt
+load-fits (Some k) h = ((omega (arith, h.1.0), omega (arith, h.1.1)), h.0)
+
+erase-fits : (k : Option (List ℕ)) → FewIn 1 255 k → FitsObjectIn (option_map object.Erase k)
+erase-fits None h = tt
+erase-fits (Some k) h = ((omega (arith, h.1.0), omega (arith, h.1.1)), h.0)
+
+names-fits : (p : Option (List ℕ)) → FewIn 0 255 p → FitsObjectIn (option_map object.Names p)
+names-fits None h = tt
+names-fits (Some p) h = (h.1.1, h.0)
+
+store-fits : (k c : Option (List ℕ)) → FewIn 1 255 k → FewIn 0 8388608 c → FitsObjectIn (store_of k c)
+store-fits (Some k) (Some c) h l = (((omega (arith, h.1.0), omega (arith, h.1.1)), l.1.1), (h.0, l.0))
+store-fits (Some k) None h l = tt
+store-fits None c h l = tt
+
+object-fits : (words : List (List ℕ)) → FitsObjectIn (object_of words)
+object-fits [] = tt
+object-fits (name ∷ []) = tt
+object-fits (name ∷ a ∷ []) =
+    let key = within-few 1 255 (word_bytes a) (word-bytes a) in
+    let prefix = within-few 0 255 (word_bytes a) (word-bytes a) in
+    let lists : Option ObjectCall = if bytes_eq name (codes "names") then option_map object.Names (prefix_of a) else None in
+    let erases : Option ObjectCall = if bytes_eq name (codes "erase") then option_map object.Erase (key_of a) else lists in
+    object-either (bytes_eq name (codes "load")) (option_map object.Load (key_of a)) erases (load-fits (key_of a) key)
+    (object-either (bytes_eq name (codes "erase")) (option_map object.Erase (key_of a)) lists (erase-fits (key_of a) key)
+    (object-either (bytes_eq name (codes "names")) (option_map object.Names (prefix_of a)) None (names-fits (prefix_of a) prefix) tt))
+object-fits (name ∷ a ∷ b ∷ []) =
+    object-either (bytes_eq name (codes "store")) (store_of (key_of a) (content_of b)) None
+    (store-fits (key_of a) (content_of b) (within-few 1 255 (word_bytes a) (word-bytes a)) (content-few b)) tt
+object-fits (name ∷ a ∷ b ∷ c ∷ others) = tt
+
+object_call-fits : (i : Option ℕ) (c : Option ObjectCall) → FitsObjectIn c → FitsIn (object_call_of i c)
+object_call-fits (Some i) (Some c) h = h
+object_call-fits (Some i) None h = tt
+object_call-fits None c h = tt
+
+-- ---- headers
+
+group-in : (make : ℕ → Line) (n : ℕ) (b : Bool) → (b ≡ true → FitsLine (make n)) → FitsIn (if b then Some (make n) else None)
+group-in make n true h = h refl
+group-in make n false h = tt
+
+-- a header's first line has 1 to 64 clients
+group-fits : (make : ℕ → Line) → ((n : ℕ) → 0 < n → n ≤ 64 → FitsLine (make n)) → (o : Option ℕ) → FitsIn (group_line make o)
+group-fits make each None = tt
+group-fits make each (Some n) = group-in make n (nat_lt 0 n && nat_le n 64) (λ e. let p = and_parts _ _ e in each n (ltb-true _ _ p.0) (leb-true _ _ p.1))
 
 header-fits : (words : List (List ℕ)) → FitsIn (header_of words)
 header-fits [] = tt
 header-fits (name ∷ []) = tt
-header-fits (name ∷ a ∷ []) = line-either (bytes_eq name (codes "clients")) (clients_of (word_number a)) None (clients-fit (word_number a)) tt
+header-fits (name ∷ a ∷ []) =
+    let objects : Option Line = if bytes_eq name (codes "objects") then group_line line.Objects (word_number a) else None in
+    line-either (bytes_eq name (codes "clients")) (group_line line.Clients (word_number a)) objects (group-fits line.Clients (λ n above upto. (above, upto)) (word_number a))
+    (line-either (bytes_eq name (codes "objects")) (group_line line.Objects (word_number a)) None (group-fits line.Objects (λ n above upto. (above, upto)) (word_number a)) tt)
 header-fits (name ∷ a ∷ b ∷ others) = tt
 
 key-in : (word : List ℕ) (b : Bool) → (b ≡ true → FitsLine (line.Key word)) → FitsIn (if b then Some (line.Key word) else None)
@@ -224,7 +305,8 @@ next_header-fits (name ∷ a ∷ b ∷ others) = tt
 
 called-fits : (kind : Mode) (name a : List ℕ) (others : List (List ℕ)) → FitsIn (called kind name a others)
 called-fits mode.Plain name a others = line-either (bytes_eq name (codes "call")) (call_of (word_capped a) (op_of others)) None (call-fits (word_capped a) (op_of others) (op-fits others)) tt
-called-fits mode.Objects name a others = tt
+called-fits mode.Objects name a others =
+    line-either (bytes_eq name (codes "call")) (object_call_of (word_capped a) (object_of others)) None (object_call-fits (word_capped a) (object_of others) (object-fits others)) tt
 
 event-fits : (kind : Mode) (words : List (List ℕ)) → FitsIn (event_of kind words)
 event-fits kind [] = tt
@@ -250,3 +332,46 @@ text_fits kind text = line-either (is_skipped text) (Some line.Skip) (line_in ki
 
 pub line_fits : (kind : Option Mode) (text : List ℕ) (l : Line) → line_of kind text ≡ Some l → FitsLine l
 line_fits kind text l e = subst FitsIn e (text_fits kind text)
+
+-- ---- whether a line is honest is the same in each mode
+
+honest-either : (b : Bool) (x y : Option Line) → is_honest x ≡ true → is_honest y ≡ true → is_honest (if b then x else y) ≡ true
+honest-either true x y h k = h
+honest-either false x y h k = k
+
+call-honest : (i : Option ℕ) (o : Option Op) → is_honest (call_of i o) ≡ true
+call-honest (Some i) (Some o) = refl
+call-honest (Some i) None = refl
+call-honest None o = refl
+
+object_call-honest : (i : Option ℕ) (c : Option ObjectCall) → is_honest (object_call_of i c) ≡ true
+object_call-honest (Some i) (Some c) = refl
+object_call-honest (Some i) None = refl
+object_call-honest None c = refl
+
+called-honest : (kind : Mode) (name a : List ℕ) (others : List (List ℕ)) → is_honest (called kind name a others) ≡ true
+called-honest mode.Plain name a others = honest-either (bytes_eq name (codes "call")) (call_of (word_capped a) (op_of others)) None (call-honest (word_capped a) (op_of others)) refl
+called-honest mode.Objects name a others = honest-either (bytes_eq name (codes "call")) (object_call_of (word_capped a) (object_of others)) None (object_call-honest (word_capped a) (object_of others)) refl
+
+event-alike : (kind : Mode) (words : List (List ℕ)) → is_honest (event_of kind words) ≡ is_honest (event_of mode.Plain words)
+event-alike kind [] = refl
+event-alike kind (name ∷ []) = refl
+event-alike kind (name ∷ a ∷ []) = refl
+event-alike kind (name ∷ a ∷ b ∷ []) = refl
+event-alike kind (name ∷ a ∷ b ∷ c ∷ others) = called-honest kind name a (b ∷ c ∷ others) ∙ sym (called-honest mode.Plain name a (b ∷ c ∷ others))
+
+or-alike : (x y z : Option Line) → is_honest y ≡ is_honest z → is_honest (or_line x y) ≡ is_honest (or_line x z)
+or-alike (Some l) y z e = refl
+or-alike None y z e = e
+
+either-alike : (b : Bool) (x y z : Option Line) → is_honest y ≡ is_honest z → is_honest (if b then x else y) ≡ is_honest (if b then x else z)
+either-alike true x y z e = refl
+either-alike false x y z e = e
+
+pub in_each_mode : (kind : Mode) (text : List ℕ) → is_honest (line_of (Some kind) text) ≡ is_honest (line_of (Some mode.Plain) text)
+unfolding line_of
+in_each_mode kind text =
+    let words : List (List ℕ) = words_of text in
+    either-alike (is_skipped text) (Some line.Skip) (line_in (Some kind) words) (line_in (Some mode.Plain) words)
+    (or-alike (header_of words) (or_line (next_header_of words) (event_of kind words)) (or_line (next_header_of words) (event_of mode.Plain words))
+    (or-alike (next_header_of words) (event_of kind words) (event_of mode.Plain words) (event-alike kind words)))

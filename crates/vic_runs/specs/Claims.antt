@@ -7,11 +7,13 @@ use Rattle.vic_wire.specs.Hashes.{Group}
 use Rattle.vic_rules.specs.declared.trace.Input.{Input}
 use Rattle.vic_rules.specs.declared.trace.Input.TheVariants as input
 use Rattle.vic_rules.specs.declared.trace.TraceStep.{TraceStep}
+use Rattle.vic_rules.specs.Objects.{FitsObject, AreBytesInObject}
 use Rattle.vic_rules.specs.History.{IsLawful, Completion, completions}
 use Rattle.vic_rules.specs.Trust.{IsForged}
 use Rattle.vic_rules.specs.Headline.{Headline}
 use Rattle.vic_order.specs.Order.{Server}
 use Rattle.vic_order.specs.Honest.{ComesHonestly, IsSame}
+use Rattle.vic_honest.specs.SafeRuns.{AreApart}
 use Rattle.vic_honest.specs.Claims.{StandsAsFated, NoneHalts}
 use Rattle.vic_script.specs.declared.line.Line.{Line}
 use Rattle.vic_script.specs.declared.line.Line.TheVariants as line
@@ -21,13 +23,15 @@ use Rattle.vic_script.specs.Scenes.{said}
 use Rattle.vic_script.specs.Run.{Bad, run_of, is_honest_script, group_of, history_of, bad_line_of}
 use Rattle.vic_script.specs.Print.{is_forged}
 
--- the operation of a call is within its lengths and is bytes, a group has 1 to 64 clients, its key is spelled by as many digits as it
+-- the texts of a call are within their lengths and are bytes, a group has 1 to 64 clients, its key is spelled by as many digits as it
 -- may have, and a payload is bytes
 abbrev pub FitsLine : Line → Type 0
 FitsLine (line.Clients n) = (0 < n) × (n ≤ 64)
+FitsLine (line.Objects n) = (0 < n) × (n ≤ 64)
 FitsLine (line.Key digits) = is_key_digits digits ≡ true
 FitsLine (line.Hostile name n) = Unit {0}
 FitsLine (line.Call i o) = Fits o × AreBytesIn o
+FitsLine (line.Object i c) = FitsObject c × AreBytesInObject c
 FitsLine (line.Poll i) = Unit {0}
 FitsLine (line.Sync i) = Unit {0}
 FitsLine (line.Serve i) = Unit {0}
@@ -62,9 +66,10 @@ ClaimsHold = (script : List ℕ) → IsGood script
 -- what a step prints, by what its client was given
 abbrev pub line_of_input : Input → TraceStep → List ℕ
 line_of_input (input.Call o) x = []
+line_of_input (input.Object c) x = []
 line_of_input input.Poll x = []
 line_of_input input.Sync x = []
-line_of_input (input.Payload payload) x = said x.client x.returned
+line_of_input (input.Payload payload) x = said x.client x.returned x.object
 
 -- the line of a step in which a client took an answer; the other steps print nothing
 abbrev pub line_of_step : TraceStep → List ℕ
@@ -74,7 +79,7 @@ line_of_step x = line_of_input x.input x
 abbrev pub PrintsAreReturns : Type 0
 PrintsAreReturns = (script : List ℕ) → (run_of script).text ≡ flat_map line_of_step (reverse (history_of script))
 
--- ---- every honest script: no line tampers with what its one server answers
+-- ---- every honest script: no line tampers with what its one server answers. In a plain group contents are apart, since none is sent
 
 -- every tag that a client takes was made before, and the print says so
 abbrev pub NothingIsForged : Type 0
@@ -84,15 +89,15 @@ NothingIsForged = (script : List ℕ) → is_honest_script script ≡ true
 abbrev pub RunsAreHonest : Type 0
 RunsAreHonest = (script : List ℕ) → is_honest_script script ≡ true → (s : Scene) → (run_of script).scene ≡ Some s → ComesHonestly IsSame s
 
--- every completed call is an entry of the server's log, and its outcome is what becomes of that entry
+-- where contents are apart, every completed call is an entry of the server's log, and its outcome is what becomes of that entry
 abbrev pub OutcomesAreFates : Type 0
-OutcomesAreFates = (script : List ℕ) → is_honest_script script ≡ true → (s : Scene) → (run_of script).scene ≡ Some s
+OutcomesAreFates = (script : List ℕ) → is_honest_script script ≡ true → (s : Scene) → (run_of script).scene ≡ Some s → AreApart s.group s.history
     → (server : Server) → server_at s.servers 1 ≡ Some server → (c : Completion) → IsIn (completions s.group s.history) c → StandsAsFated server.log c
 
--- no client halts
+-- where contents are apart, no client halts
 abbrev pub NobodyHalts : Type 0
-NobodyHalts = (script : List ℕ) → is_honest_script script ≡ true → (s : Scene) → (run_of script).scene ≡ Some s → NoneHalts s.group s.history
+NobodyHalts = (script : List ℕ) → is_honest_script script ≡ true → (s : Scene) → (run_of script).scene ≡ Some s → AreApart s.group s.history → NoneHalts s.group s.history
 
--- no line is bad for that its client has halted
+-- where contents are apart, no line is bad for that its client has halted
 abbrev pub NoLineIsHalted : Type 0
-NoLineIsHalted = (script : List ℕ) → is_honest_script script ≡ true → (b : Bad) → bad_line_of script ≡ Some b → b.kind ≡ 3 → ⊥
+NoLineIsHalted = (script : List ℕ) → is_honest_script script ≡ true → AreApart (group_of script) (history_of script) → (b : Bad) → bad_line_of script ≡ Some b → b.kind ≡ 3 → ⊥

@@ -1,11 +1,13 @@
 -- Scenes that lines of a script reach, and what holds of each of them.
-use Rattle.std.specs.Prelude.{◌≡◌, ℕ, ◌≤◌, true, length, Option, Some, None}
+use Rattle.std.specs.Prelude.{◌≡◌, ℕ, ◌+◌, ◌≤◌, true, length, Option, Some, None}
 use Rattle.std.specs.List.{AllByRecursion}
 use Rattle.vic_dict.specs.Lists.{AreBytes}
 use Rattle.vic_dict.specs.Dictionary.{IsProper}
-use Rattle.vic_dict.specs.declared.op.Mode.TheVariants as mode
 use Rattle.vic_wire.specs.declared.message.Seal.{Seal}
 use Rattle.vic_wire.specs.Messages.{IsEntry}
+use Rattle.vic_rules.specs.declared.object.Phase.{Phase}
+use Rattle.vic_rules.specs.declared.object.Phase.TheVariants as phase
+use Rattle.vic_rules.specs.Client.{Standing}
 use Rattle.vic_rules.specs.History.{IsLawful}
 use Rattle.vic_order.specs.Order.{Ordered, Server}
 use Rattle.vic_order.specs.Honest.{ComesHonestly}
@@ -36,12 +38,22 @@ IfThere P (Some v) = P v
 abbrev pub HoldsBytes : Queue → Type 0
 HoldsBytes queue = AllByRecursion AreBytes queue
 
--- the clients of a group without objects have stepped by the rules, none was called more than n times, each has its queues and a
--- server that exists, and all that waits or is kept is bytes
+-- a store that waits for its content to be kept calls once more
+abbrev pub to_call : Phase → ℕ
+to_call (phase.Keeping k h len) = 1
+to_call phase.Closed = 0
+to_call phase.Calling = 0
+to_call (phase.Fetching h len) = 0
+
+-- how many calls a client was asked for: those that it called, and that of its store
+abbrev pub calls_in : Standing → ℕ
+calls_in t = t.calls + to_call t.phase
+
+-- the clients have stepped by the rules, none was asked for more than n calls, each has its queues and a server that exists, and all that
+-- waits or is kept is bytes
 pub record IsReached (s : Scene) (n : ℕ) : Type 0 where
-  pub plain : s.group.mode ≡ mode.Plain
   pub lawful : IsLawful s.group s.history
-  pub calls : (i : ℕ) → (stands s i).calls ≤ n
+  pub calls : (i : ℕ) → calls_in (stands s i) ≤ n
   pub up_count : length s.up ≡ s.group.count
   pub down_count : length s.down ≡ s.group.count
   pub up_bytes : AllByRecursion HoldsBytes s.up
@@ -53,9 +65,8 @@ pub record IsReached (s : Scene) (n : ℕ) : Type 0 where
 
 -- ---- scenes of clients with one honest server
 
--- so it is of a group without objects, no client was called more than n times, and the requests that wait are bytes
+-- so it is, no client was asked for more than n calls, and the requests that wait are bytes
 pub record IsHonestlyReached {V : Type 0} (R : V → Server → Type 0) (s : SceneOf V) (n : ℕ) : Type 0 where
   pub comes : ComesHonestly R s
-  pub plain : s.group.mode ≡ mode.Plain
-  pub calls : (i : ℕ) → (stands s i).calls ≤ n
+  pub calls : (i : ℕ) → calls_in (stands s i) ≤ n
   pub up_bytes : AllByRecursion HoldsBytes s.up

@@ -1,6 +1,7 @@
 //! The laws of scripts: in the run of every script the clients step by the rules, whatever its lines do to payloads and servers,
 //! so what holds of lawful histories holds of it. Where no line tampers with what the one server answers, it is a run of clients
-//! with one honest server, and what holds of those holds of it.
+//! with one honest server, and what holds of those holds of it. In a group with objects most of that asks that no two different
+//! contents that clients sent have one hash.
 //!
 //! This crate has no code of its own. `specs/Claims.antt` and `specs/Agreements.antt` state the laws over the definitions of
 //! `vic_script`, and each is the contract of a function without parameters and with an empty body. The contract of [`claims_hold`]
@@ -39,17 +40,17 @@ pub fn claims_hold()
     ensures { ClaimsHold }
 {}
 
-/// Each call that an honest script completes returns what becomes of it in the server's log.
+/// Each call that an honest script completes returns what becomes of it in the server's log, where contents are apart.
 pub fn outcomes_are_fates()
     ensures { OutcomesAreFates }
 {}
 
-/// In the run of an honest script no client halts.
+/// In the run of an honest script no client halts, where contents are apart.
 pub fn nobody_halts()
     ensures { NobodyHalts }
 {}
 
-/// No line of an honest script is bad for that its client has halted.
+/// No line of an honest script is bad for that its client has halted, where contents are apart.
 pub fn no_line_is_halted()
     ensures { NoLineIsHalted }
 {}
