@@ -17,6 +17,7 @@ use Rattle.vic_rules.specs.declared.state.Awaiting.{Awaiting}
 use Rattle.vic_rules.specs.declared.state.Awaiting.TheVariants as awaits
 use Rattle.vic_rules.specs.Client.{Standing, Sending, Invokes, Commits, Polls, Seals, Syncs, request_of, tag_for, Fetches}
 use Rattle.vic_rules.specs.Client.{Keeps as Contains}
+use Rattle.vic_rules.specs.declared.object.Phase.TheVariants as phase
 use Rattle.vic_rules.specs.Objects.{content_hash}
 use Rattle.std.specs.List.{sum_by}
 use Rattle.vic_rules.specs.History.{standing}
@@ -195,8 +196,14 @@ module _ (g : Group) (w : World) (fit : WorldFits g w) (know : WorldKnows g w) (
   awaited_by seen newer (Contains c) d known seq o tag e = absurd cc
   awaited_by seen newer (Fetches h) d known seq o tag e = absurd cc
 
-  kept_by_whom : (seen newer : List Ordered) → (sending : Sending) → Does g me w.server t seen newer (Sends sending) → (c : List ℕ) → request_of g me t sending ≡ ask.Keep c → t.awaiting ≡ awaits.Kept
-  kept_by_whom seen newer (Contains x) d c e = d.awaiting
+  -- a client awaits that its store's content is kept
+  pub record AwaitsKept (c : List ℕ) : Type 0 where
+    pub awaiting : t.awaiting ≡ awaits.Kept
+    pub key : List ℕ
+    pub at : t.phase ≡ phase.Keeping key (record { bytes = content_hash c }) (length c)
+
+  kept_by_whom : (seen newer : List Ordered) → (sending : Sending) → Does g me w.server t seen newer (Sends sending) → (c : List ℕ) → request_of g me t sending ≡ ask.Keep c → AwaitsKept c
+  kept_by_whom seen newer (Contains x) d c e = let same : x ≡ c = cc in subst AwaitsKept same (record { awaiting = d.awaiting; key = d.key; at = d.at })
   kept_by_whom seen newer (Invokes n o) d c e = absurd cc
   kept_by_whom seen newer (Commits done) d c e = absurd cc
   kept_by_whom seen newer Polls d c e = absurd cc
@@ -205,7 +212,7 @@ module _ (g : Group) (w : World) (fit : WorldFits g w) (know : WorldKnows g w) (
   kept_by_whom seen newer (Fetches h) d c e = absurd cc
 
   -- the client of a content that waits to be kept awaits that
-  pub world_keeps : (payload : List ℕ) (rest : List (List ℕ)) → w.up me ≡ payload ∷ rest → (c : List ℕ) → read_request payload ≡ Some (ask.Keep c) → t.awaiting ≡ awaits.Kept
+  pub world_keeps : (payload : List ℕ) (rest : List (List ℕ)) → w.up me ≡ payload ∷ rest → (c : List ℕ) → read_request payload ≡ Some (ask.Keep c) → AwaitsKept c
   world_keeps payload rest up_is c read =
       let x : IsSent g w me payload = sent_by payload rest up_is in kept_by_whom x.seen x.newer x.sending x.does c (some_same (sym x.read ∙ read))
 

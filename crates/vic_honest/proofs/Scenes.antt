@@ -20,7 +20,7 @@ use Rattle.vic_honest.proofs.OneHistory.{one_history, views_are_fronts}
 use Rattle.vic_honest.proofs.Loads.{loads_are_fated}
 use Rattle.vic_honest.proofs.Replies.{replies_return, refusals_return}
 use Rattle.vic_honest.proofs.Refusals.{refusals_are_limits, limits_are_refused, calls_are_ordered, contents_are_kept, contents_are_given}
-use Rattle.vic_honest.proofs.Told.{refusals_are_told}
+use Rattle.vic_honest.proofs.Told.{refusals_are_told, stores_are_told}
 use Rattle.vic_honest.proofs.Turned.{syncs_are_answered, turns_are_told}
 
 -- a client's path is the oldest entries of the log
@@ -61,6 +61,7 @@ honest_runs_hold s server events run = record {
   views = views_are_fronts s server events run;
   returned = λ newer x past is payload given. record { reply = replies_return s server events run newer x past is payload given; refusal = refusals_return s server events run newer x past is payload given };
   refused = refusals_are_told s server events run;
+  stores_refused = stores_are_told s server events run;
   loads = loads_are_fated s server events run;
   served_so = λ i above upto payload rest waits. record {
     refused = refusals_are_limits s server events run i above upto payload rest waits;

@@ -21,6 +21,7 @@ use Rattle.vic_wire.specs.Reading.{read_request, read_answer}
 use Rattle.vic_wire.specs.Trees.{dictionary_root}
 use Rattle.vic_rules.specs.declared.object.ObjectCall.TheVariants as object
 use Rattle.vic_rules.specs.declared.object.ObjectOutcome.TheVariants as ended
+use Rattle.vic_rules.specs.declared.object.Phase.TheVariants as phase
 use Rattle.vic_rules.specs.declared.state.Awaiting.TheVariants as awaits
 use Rattle.vic_rules.specs.declared.trace.Input.TheVariants as input
 use Rattle.vic_rules.specs.declared.trace.TraceStep.{TraceStep}
@@ -139,6 +140,22 @@ pub record WasRefused (g : Group) (events : List Event) (me : ℕ) (t : Standing
   pub refused : RefusedAtLimit server payload r
   pub load : Bool
   pub awaited : t.awaiting ≡ awaits.Reply refused.seq refused.op load
+
+-- the server refused a client's content when it served it, and the client awaits that this content of its store is kept
+pub record StoreWasRefused (g : Group) (events : List Event) (me : ℕ) (t : Standing) (r : ℕ) : Type 0 where
+  pub later : List Event
+  pub before : List Event
+  pub payload : List ℕ
+  pub rest : Queue
+  pub server : Server
+  pub is : events ≡ later ++ Serves me ∷ before
+  pub waited : queue_of (scene_after g before).up me ≡ payload ∷ rest
+  pub one : server_at (scene_after g before).servers 1 ≡ Some server
+  pub answer : (serve server me payload).answer ≡ say.Refused r
+  pub refused : ContentRefused g server payload r
+  pub awaited : t.awaiting ≡ awaits.Kept
+  pub key : List ℕ
+  pub keeping : t.phase ≡ phase.Keeping key (record { bytes = content_hash refused.content }) (length refused.content)
 
 -- the sealed dictionary is what the done entries up to the sealed count leave, and the highest seal has its root
 pub record SealedSo (s : Server) : Type 0 where
@@ -333,6 +350,9 @@ pub record HoldsHonestly (g : Group) (h : List TraceStep) (up : List Queue) (eve
   -- a call that returned refused was refused when the run's server served it, at the limit whose number it returned
   pub refused : (newer : List TraceStep) (x : TraceStep) (past : List TraceStep) → h ≡ newer ++ x ∷ past
       → (number : ℕ) → x.returned ≡ Some (outcome.Refused number) → WasRefused g events x.client (standing g x.client past) number
+  -- a call on objects that ended refused did so with its call, or its content was refused when the run's server served it
+  pub stores_refused : (newer : List TraceStep) (x : TraceStep) (past : List TraceStep) → h ≡ newer ++ x ∷ past → (number : ℕ) → x.object ≡ Some (ended.Refused number)
+      → (x.returned ≡ Some (outcome.Refused number)) ⊎ StoreWasRefused g events x.client (standing g x.client past) number
   -- a client's next request is refused exactly where it is a call that would pass a limit, or a new content without room; every other
   -- call is ordered, and every other content kept
   pub served_so : (i : ℕ) → 0 < i → i ≤ g.count → (payload : List ℕ) (rest : Queue) → queue_of up i ≡ payload ∷ rest → IsServedSo g server i payload
