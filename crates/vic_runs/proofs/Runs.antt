@@ -10,6 +10,7 @@ use Rattle.vic_honest.specs.SafeRuns.{AreApart}
 use Rattle.vic_honest.specs.Claims.{IsHonestScene, HoldsAnyway}
 use Rattle.vic_honest.proofs.Scenes.{honest_runs_hold, honest_runs_are_lawful}
 use Rattle.vic_laws.proofs.EveryHistory.{every_history_holds}
+use Rattle.vic_laws.proofs.Contents.{loads_get_the_last}
 use Rattle.vic_laws.proofs.Words.{all_true}
 use Rattle.vic_order.specs.Order.{Server, fresh_server, ready}
 use Rattle.vic_order.specs.Serving.{by_rule}
@@ -111,7 +112,7 @@ all_lawful script = let r = reached-run script in lawful-in (run_of script).scen
 pub all_hold : ClaimsHold
 all_hold script =
     let lawful = all_lawful script in
-    record { lawful = lawful; views = every_history_holds (group_of script) (history_of script) lawful }
+    record { lawful = lawful; views = every_history_holds (group_of script) (history_of script) lawful; loads = loads_get_the_last (group_of script) (history_of script) lawful }
 
 -- ---- honest scripts
 

@@ -1,9 +1,10 @@
 -- The laws of scripts, one by one.
-use Rattle.std.specs.Prelude.{◌≡◌, ℕ, ◌<◌, ◌≤◌, ◌↔◌, true, false, List, [], reverse, Some}
+use Rattle.std.specs.Prelude.{◌≡◌, ℕ, ◌<◌, ◌≤◌, ◌↔◌, true, false, List, [], ◌∷◌, ◌++◌, reverse, Some}
 use Rattle.std.specs.List.{flat_map}
 use Rattle.vic_dict.specs.Lists.{IsIn, AreBytes}
 use Rattle.vic_dict.specs.Dictionary.{Fits, AreBytesIn}
 use Rattle.vic_wire.specs.Hashes.{Group}
+use Rattle.vic_rules.specs.declared.object.ObjectOutcome.TheVariants as ended
 use Rattle.vic_rules.specs.declared.trace.Input.{Input}
 use Rattle.vic_rules.specs.declared.trace.Input.TheVariants as input
 use Rattle.vic_rules.specs.declared.trace.TraceStep.{TraceStep}
@@ -11,10 +12,11 @@ use Rattle.vic_rules.specs.Objects.{FitsObject, AreBytesInObject}
 use Rattle.vic_rules.specs.History.{IsLawful, Completion, completions}
 use Rattle.vic_rules.specs.Trust.{IsForged}
 use Rattle.vic_rules.specs.Headline.{Headline}
+use Rattle.vic_laws.specs.ContentClaims.{LoadsGetTheLastIn}
 use Rattle.vic_order.specs.Order.{Server}
 use Rattle.vic_order.specs.Honest.{ComesHonestly, IsSame}
 use Rattle.vic_honest.specs.SafeRuns.{AreApart}
-use Rattle.vic_honest.specs.Claims.{StandsAsFated, NoneHalts}
+use Rattle.vic_honest.specs.Claims.{StandsAsFated, LoadIsFated, NoneHalts}
 use Rattle.vic_script.specs.declared.line.Line.{Line}
 use Rattle.vic_script.specs.declared.line.Line.TheVariants as line
 use Rattle.vic_order.specs.Scenes.{Scene, server_at}
@@ -55,10 +57,11 @@ RunsAreLawful = (script : List ℕ) → IsLawful (group_of script) (history_of s
 abbrev pub ForgedIs : Type 0
 ForgedIs = (g : Group) (h : List TraceStep) → (is_forged g h ≡ true) ↔ IsForged g h
 
--- what is claimed of a script's run
+-- what is claimed of a script's run: of its views, and of what its loads return
 pub record IsGood (script : List ℕ) : Type 0 where
   pub lawful : IsLawful (group_of script) (history_of script)
   pub views : Headline (group_of script) (history_of script)
+  pub loads : LoadsGetTheLastIn (group_of script) (history_of script)
 
 abbrev pub ClaimsHold : Type 0
 ClaimsHold = (script : List ℕ) → IsGood script
@@ -93,6 +96,13 @@ RunsAreHonest = (script : List ℕ) → is_honest_script script ≡ true → (s 
 abbrev pub OutcomesAreFates : Type 0
 OutcomesAreFates = (script : List ℕ) → is_honest_script script ≡ true → (s : Scene) → (run_of script).scene ≡ Some s → AreApart s.group s.history
     → (server : Server) → server_at s.servers 1 ≡ Some server → (c : Completion) → IsIn (completions s.group s.history) c → StandsAsFated server.log c
+
+-- where contents are apart, a content that a load returned is that of the last done store of its name below the load's get, in the order
+-- of the server's log
+abbrev pub LoadsAreFated : Type 0
+LoadsAreFated = (script : List ℕ) → is_honest_script script ≡ true → (s : Scene) → (run_of script).scene ≡ Some s → AreApart s.group s.history
+    → (server : Server) → server_at s.servers 1 ≡ Some server → (newer : List TraceStep) (x : TraceStep) (past : List TraceStep) → s.history ≡ newer ++ x ∷ past
+    → (content : List ℕ) → x.object ≡ Some (ended.Content content) → LoadIsFated s.group s.history past server.log x.client content
 
 -- where contents are apart, no client halts
 abbrev pub NobodyHalts : Type 0

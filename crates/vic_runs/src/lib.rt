@@ -8,7 +8,7 @@
 //! carries the claim on a group's views to every script. `specs/Reached.antt` says what holds of the scenes that lines reach.
 #![tactic(auto)]
 
-ghost use Rattle.vic_runs.specs.Claims.{RunsAreLawful, NothingIsForged, ForgedIs, RunsAreHonest, ClaimsHold, OutcomesAreFates, NobodyHalts, NoLineIsHalted, PrintsAreReturns};
+ghost use Rattle.vic_runs.specs.Claims.{RunsAreLawful, NothingIsForged, ForgedIs, RunsAreHonest, ClaimsHold, OutcomesAreFates, LoadsAreFated, NobodyHalts, NoLineIsHalted, PrintsAreReturns};
 ghost use Rattle.vic_runs.specs.Going.{LinesGoOn};
 ghost use Rattle.vic_runs.specs.Prints.{FirstUnmadeIs, PrintsHaveAgreements, PrintsHaveViews};
 ghost use Rattle.vic_runs.specs.Tampering.{HonestLineIs};
@@ -35,7 +35,7 @@ pub fn runs_are_honest()
     ensures { RunsAreHonest }
 {}
 
-/// The claim on a group's views, of every script.
+/// The claim on a group's views, of every script, and on what its loads return.
 pub fn claims_hold()
     ensures { ClaimsHold }
 {}
@@ -43,6 +43,12 @@ pub fn claims_hold()
 /// Each call that an honest script completes returns what becomes of it in the server's log, where contents are apart.
 pub fn outcomes_are_fates()
     ensures { OutcomesAreFates }
+{}
+
+/// Each content that a load returns in the run of an honest script is that of the last done store of its name, in the order of the
+/// server's log, where contents are apart.
+pub fn loads_are_fated()
+    ensures { LoadsAreFated }
 {}
 
 /// In the run of an honest script no client halts, where contents are apart.
