@@ -1,15 +1,19 @@
 -- The events of an honest script's lines are a run of clients with one honest server.
-use Rattle.std.proofs.Common.{◌≡◌, true, List, [], ◌∷◌, Option, Some, None, refl, sym, ap, ◌∙◌}
+use Rattle.std.proofs.Common.{◌≡◌, ℕ, true, List, [], ◌∷◌, Option, Some, None, refl, sym, ap, ◌∙◌}
 use Rattle.std.specs.List.{AllByRecursion}
+use Rattle.vic_dict.specs.declared.op.Mode.{Mode}
+use Rattle.vic_dict.specs.declared.op.Mode.TheVariants as mode
 use Rattle.vic_wire.specs.Hashes.{Group}
 use Rattle.vic_order.specs.Order.{Server}
 use Rattle.vic_order.specs.Serving.{by_rule}
 use Rattle.vic_order.specs.Honest.{IsHonestEvent, AreHonest, ruled, ComesHonestly, IsSame}
 use Rattle.vic_order.specs.Scenes.{Scene, opening, Event, MayAllHappen}
 use Rattle.vic_script.specs.declared.line.Line.{Line}
+use Rattle.vic_script.specs.Lines.{line_of}
 use Rattle.vic_script.specs.Scenes.{events_of}
 use Rattle.vic_script.specs.Run.{is_honest}
 use Rattle.vic_runs.proofs.Lines.{line-honest}
+use Rattle.vic_runs.proofs.Words.{in_each_mode}
 use Rattle.vic_runs.proofs.Runs.{all_honest, honest-texts}
 use Rattle.vic_script_runs.specs.Events.{script_events}
 use Rattle.vic_script_runs.specs.Claims.{HonestRunsAreTheirLines}
@@ -32,10 +36,13 @@ IsHonestLine l = is_honest l ≡ true
 makes_honest : (s : Scene) (l : Line) → IsHonestLine (Some l) → AllByRecursion IsHonestEvent (events_of by_rule s l)
 makes_honest s l honest = line-honest by_rule s l honest
 
+in_each : (kind : Mode) (text : List ℕ) → IsHonestLine (line_of (Some mode.Plain) text) → IsHonestLine (line_of (Some kind) text)
+in_each kind text honest = in_each_mode kind text ∙ honest
+
 pub honest_runs : HonestRunsAreTheirLines
 honest_runs script honest s is =
     let c : ComesHonestly IsSame s = all_honest script honest s is in
-    let h : ComesOfEach IsHonestEvent IsHonestLine makes_honest s (script_events script) = script_comes IsHonestEvent IsHonestLine makes_honest script (honest-texts script honest) s is in (
+    let h : ComesOfEach IsHonestEvent IsHonestLine makes_honest in_each s (script_events script) = script_comes IsHonestEvent IsHonestLine makes_honest in_each script (honest-texts script honest) s is in (
       record {
         events = script_events script;
         server = c.server;

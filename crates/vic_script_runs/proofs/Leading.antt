@@ -3,6 +3,7 @@ use Rattle.std.proofs.Common.{◌≡◌, ℕ, ◌+◌, ◌<◌, ◌^◌, Bool, t
 use Rattle.std.specs.Prelude.{if◌then◌else◌, nat_lt}
 use Rattle.std.specs.List.{AllByRecursion}
 use Rattle.std.proofs.lemmas.List.{length-take, append-nil, append_assoc}
+use Rattle.vic_dict.specs.declared.op.Mode.{Mode}
 use Rattle.vic_dict.specs.declared.op.Mode.TheVariants as mode
 use Rattle.vic_wire.specs.Hashes.{Group}
 use Rattle.vic_honest.proofs.Events.{after-group}
@@ -25,8 +26,9 @@ use Rattle.vic_runs.proofs.Words.{FitsIn, text_fits, length-lines_of}
 use Rattle.vic_script_runs.specs.Events.{line_events, events_then, events_from, script_events}
 use Rattle.vic_script_runs.specs.Claims.{ComesOf, ScriptsComeOfTheirLines}
 
--- what holds of each event, and of a line that makes only such events
-module _ (Each : Event → Type 0) (Good : Option Line → Type 0) (makes : (s : Scene) (l : Line) → Good (Some l) → AllByRecursion Each (events_of by_rule s l)) where
+-- what holds of each event, and of a line that makes only such events, of each text in both modes or in none
+module _ (Each : Event → Type 0) (Good : Option Line → Type 0) (makes : (s : Scene) (l : Line) → Good (Some l) → AllByRecursion Each (events_of by_rule s l))
+    (in_each : (kind : Mode) (text : List ℕ) → Good (line_of (Some mode.Plain) text) → Good (line_of (Some kind) text)) where
   -- a scene comes of such events
   pub record ComesOfEach (s : Scene) (events : List Event) : Type 0 where
     pub comes : ComesOf s events
@@ -78,7 +80,7 @@ module _ (Each : Event → Type 0) (Good : Option Line → Type 0) (makes : (s :
   leads-event : (s : Scene) (l : Line) (n : ℕ) (before : List Event) → IsReached s n → n + 1 < 2 ^ 32 → FitsLine l → Good (Some l) → ComesOfEach s before → LeadsOn (try_event s l) (events_of by_rule s l ++ before)
   leads-event s l n before r few fits good h =
       leads-by (bad_kind s l) s l (events_of by_rule s l ++ before) (λ right.
-      more s (events_of by_rule s l) before (line-may by_rule s l (reached-seated s n r) r.lawful r.plain (few_calls s n r.calls few l) right fits) (makes s l good) h)
+      more s (events_of by_rule s l) before (line-may by_rule s l (reached-seated s n r) r.lawful (few_calls s n r.calls few l) right fits) (makes s l good) h)
 
   -- once a script has opened its lines are good
   abbrev GoodFor : Option Scene → Option Line → Type 0
@@ -88,7 +90,7 @@ module _ (Each : Event → Type 0) (Good : Option Line → Type 0) (makes : (s :
   leads : (place : Place) (l : Option Line) (n : ℕ) (before : List Event) → ReachedIn (scene_in place) n → n + 1 < 2 ^ 32 → FitsIn l → GoodFor (scene_in place) l → StandsBehind place before
       → LeadsOn (try_line place l) (line_events (scene_in place) l ++ before)
   leads Before None n before r few fits good h = tt
-  leads Before (Some l) n before r few fits good h = first_so (λ (x : Line) (t : Tried). LeadsOn t before) (λ count. h) h (λ x. tt) l
+  leads Before (Some l) n before r few fits good h = first_so (λ (x : Line) (t : Tried). LeadsOn t before) (λ count. h) (λ count. h) h (λ x. tt) l
   leads (Heads k) None n before r few fits good h = tt
   leads (Heads k) (Some l) n before r few fits good h =
       header_so (λ (x : Line) (t : Tried). FitsLine x → Good (Some x) → LeadsOn t (events_of by_rule (opening (group_by k)) x ++ before)) k
@@ -98,13 +100,13 @@ module _ (Each : Event → Type 0) (Good : Option Line → Type 0) (makes : (s :
 
   -- ---- all lines
 
-  -- a good line in the mode that a script has
+  -- a good line, in the mode plain as in that of the script
   abbrev IsGoodText : List ℕ → Type 0
   IsGoodText text = Good (line_of (Some mode.Plain) text)
 
   good_for : (scene : Option Scene) (n : ℕ) (text : List ℕ) → ReachedIn scene n → IsGoodText text → GoodFor scene (line_of (mode_in scene) text)
   good_for None n text r good = tt
-  good_for (Some s) n text r good = subst (λ m. Good (line_of (Some m) text)) (sym r.plain) good
+  good_for (Some s) n text r good = in_each s.group.mode text good
 
   either : (b : Bool) (x y : Played) (events others before : List Event) → EndsBehind x.scene (events ++ before) → EndsBehind y.scene (others ++ before)
       → EndsBehind (if b then x else y).scene ((if b then events else others) ++ before)
@@ -164,4 +166,4 @@ makes_any : (s : Scene) (l : Line) → AnyLine (Some l) → AllByRecursion Any (
 makes_any s l good = any (events_of by_rule s l)
 
 pub scripts_come : ScriptsComeOfTheirLines
-scripts_come script s is = (script_comes Any AnyLine makes_any script (all_each (λ text. Unit {0}) (λ text. tt) (lines_of (take (limit + 1) script))) s is).comes
+scripts_come script s is = (script_comes Any AnyLine makes_any (λ kind text good. tt) script (all_each (λ text. Unit {0}) (λ text. tt) (lines_of (take (limit + 1) script))) s is).comes

@@ -1,4 +1,4 @@
--- The events of the small script, computed.
+-- The events of the small scripts, computed.
 use Rattle.std.proofs.Common.{refl}
 use Rattle.vic_wire.specs.Reading.{read_request, request_of_kind, read_answer, answer_of_kind}
 use Rattle.vic_rules.specs.Client.{step, verdict}
@@ -8,8 +8,12 @@ use Rattle.vic_order.specs.Scenes.{steps, serves, takes}
 use Rattle.vic_script.specs.Lines.{lines_of, line_of, words_of}
 use Rattle.vic_script.specs.Scenes.{bad_kind, turns}
 use Rattle.vic_script_runs.specs.Events.{events_from, script_events}
-use Rattle.vic_script_runs.specs.Rows.{SmallScriptIs}
+use Rattle.vic_script_runs.specs.Rows.{SmallScriptIs, SmallObjectsScriptIs}
 
 pub small_script_is : SmallScriptIs
 unfolding script_events events_from lines_of words_of line_of bad_kind turns standing step verdict steps serves takes serve read_request request_of_kind read_answer answer_of_kind
 small_script_is = refl
+
+pub small_objects_script_is : SmallObjectsScriptIs
+unfolding script_events events_from lines_of words_of line_of bad_kind turns standing step verdict steps serves takes serve read_request request_of_kind read_answer answer_of_kind
+small_objects_script_is = refl

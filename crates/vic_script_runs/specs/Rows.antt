@@ -1,5 +1,6 @@
--- A small script and its events, both written by hand.
+-- Small scripts and their events, both written by hand.
 use Rattle.std.specs.Prelude.{◌≡◌, ℕ, List, [], ◌∷◌, codes}
+use Rattle.vic_rules.specs.declared.object.ObjectCall.TheVariants as object
 use Rattle.vic_rules.specs.declared.trace.Input.TheVariants as input
 use Rattle.vic_order.specs.Scenes.{Asks, Serves, Takes}
 use Rattle.vic_script_runs.specs.Events.{script_events}
@@ -14,3 +15,12 @@ small_script = text_of (
 -- its events, the last first
 abbrev pub SmallScriptIs : Type 0
 SmallScriptIs = script_events small_script ≡ Serves 2 ∷ Takes 1 ∷ Serves 1 ∷ Asks 1 input.Poll ∷ Asks 2 input.Poll ∷ []
+
+-- a client of a group with objects, whose store isn't over when it is asked for more. So that line is bad, and the last isn't done
+abbrev pub small_objects_script : List ℕ
+small_objects_script = text_of (
+    codes "objects 1" ∷ codes "call 1 store a zeros:2" ∷ codes "serve 1" ∷ codes "call 1 load a" ∷ codes "take 1" ∷ [])
+
+-- its events, the last first
+abbrev pub SmallObjectsScriptIs : Type 0
+SmallObjectsScriptIs = script_events small_objects_script ≡ Serves 1 ∷ Asks 1 (input.Object (object.Store (codes "a") (0 ∷ 0 ∷ []))) ∷ []

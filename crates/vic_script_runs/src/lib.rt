@@ -1,11 +1,11 @@
 //! The events of a script: what its lines do, one line after the other, and nothing else.
 //!
 //! `specs/Events.antt` defines them. This crate has no code of its own: `specs/Claims.antt` states the laws, and each is the contract
-//! of a function without parameters and with an empty body. `specs/Rows.antt` has a script with its events beside it.
+//! of a function without parameters and with an empty body. `specs/Rows.antt` has two scripts with their events beside them.
 #![tactic(auto)]
 
 ghost use Rattle.vic_script_runs.specs.Claims.{HonestRunsAreTheirLines, LinesAddTheirOwn, NoLinesAddNone, ScriptsComeOfTheirLines};
-ghost use Rattle.vic_script_runs.specs.Rows.{SmallScriptIs};
+ghost use Rattle.vic_script_runs.specs.Rows.{SmallScriptIs, SmallObjectsScriptIs};
 
 /// Every script comes of the events of its lines, whatever these do.
 pub fn scripts_come_of_their_lines()
@@ -24,7 +24,8 @@ pub fn lines_add_their_own()
     ensures adds { LinesAddTheirOwn }
 {}
 
-/// The events of a small script are those that were written beside it.
+/// The events of small scripts, of a plain group and of one with objects, are those that were written beside them.
 pub fn small_script_is()
-    ensures { SmallScriptIs }
+    ensures plain { SmallScriptIs }
+    ensures objects { SmallObjectsScriptIs }
 {}
