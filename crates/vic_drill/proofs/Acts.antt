@@ -4,11 +4,9 @@ use Rattle.std.specs.Fmt.{decimal}
 use Rattle.std.proofs.lemmas.List.{length-set}
 use Rattle.std.proofs.lemmas.Fmt.{length-decimal-le, IsAscii-decimal}
 use Rattle.vic_dict.specs.Lists.{AreBytes}
-use Rattle.vic_dict.specs.Dictionary.{Fits, AreBytesIn}
 use Rattle.vic_dict.specs.declared.op.Op.{Op}
 use Rattle.vic_dict.specs.declared.op.Op.TheVariants as op
 use Rattle.vic_spellings.proofs.Bytes.{bytes-cons}
-use Rattle.vic_gen.specs.declared.Act.{Act}
 use Rattle.vic_gen.specs.declared.Act.TheVariants as act
 use Rattle.vic_drill.specs.MayBe.{MayCall, MayAct}
 use Rattle.vic_gen.specs.Drawing.{Drawing, drawn, next_of, picked, op_drawn, key_drawn, prefix_drawn, two_digits, three_digits, is_poll, act_of, acted, acted_once, moved}

@@ -4,7 +4,7 @@ use Rattle.std.specs.List.{AllByRecursion}
 use Rattle.vic_wire.specs.Hashes.{Group}
 use Rattle.vic_order.specs.Order.{Ordered, Server, sealed_count, ordered_at}
 use Rattle.vic_order.specs.Scenes.{Scene}
-use Rattle.vic_order.specs.Honest.{IsHonestRun}
+use Rattle.vic_honest.specs.SafeRuns.{IsSafeRun}
 use Rattle.vic_rules.specs.Trust.{texts_made}
 use Rattle.vic_honest.proofs.Standing.{EntryFits}
 use Rattle.vic_honest.proofs.Owns.{AllOn}
@@ -17,7 +17,7 @@ use Rattle.vic_drill.specs.Drills.{Drill, begun, acts_next, goes_on, waits_for, 
 use Rattle.vic_drill.specs.Laws.{RunsHonestly, DrillsAreHonest}
 use Rattle.vic_drill.proofs.Acts.{act-may, acted-acts, picked-member}
 use Rattle.vic_drill.proofs.Waiting.{IsFirst, first_is, at-holds}
-use Rattle.vic_drill.proofs.Honest.{drawn-runs, more-runs, begun-runs, goes_on-runs, polls-runs, acts-runs}
+use Rattle.vic_drill.proofs.Honest.{drawn-runs, runs-safe, more-runs, begun-runs, goes_on-runs, polls-runs, acts-runs}
 
 -- ---- the main phase
 
@@ -70,9 +70,9 @@ some_client made [] h = tt
 some_client made (o ∷ below) h = (h.0.spelled.client.0, some_client made below h.1)
 
 -- an entry's owner is a client of the group
-pub owner-member : (s : Scene) (server : Server) (d : Drill) → IsHonestRun s server d.events → (n : ℕ) (o : Ordered) → ordered_at server n ≡ Some o → (0 < o.entry.client) × (o.entry.client ≤ s.group.count)
+pub owner-member : (s : Scene) (server : Server) (d : Drill) → IsSafeRun s server d.events → (n : ℕ) (o : Ordered) → ordered_at server n ≡ Some o → (0 < o.entry.client) × (o.entry.client ≤ s.group.count)
 owner-member s server d run n o there = (
-  at-holds (λ o. 0 < o.entry.client) server n o there (some_client (texts_made s.group s.history) server.log (run_fits s server d.events run).fits.server.log),
+  at-holds (λ o. 0 < o.entry.client) server n o there (some_client (texts_made s.group s.history) server.log (run_fits s server d.events run.honest).fits.server.log),
   at-holds (λ o. o.entry.client ≤ s.group.count) server n o there (members s.group server.log (run_knows s server d.events run).server.ordered),
 )
 
@@ -83,7 +83,7 @@ module _ (clients : ℕ) (d : Drill) (n : ℕ) (r : RunsHonestly clients d n) wh
   polls_by : ((j : ℕ) → 1 ≤ j → j < 1 + d.scene.group.count → waits_for d.scene j ≡ false) → (o : Option Ordered) → ordered_at r.server (sealed_count r.server + 1) ≡ o → RunsHonestly clients (polls o d) (n + 1)
   polls_by none None there = more-runs clients d n (n + 1) (omega arith) r
   polls_by none (Some o) there =
-      let who = owner-member d.scene r.server d r.run (sealed_count r.server + 1) o there in
+      let who = owner-member d.scene r.server d (runs-safe clients d n r) (sealed_count r.server + 1) o there in
       polls-runs clients d n r o.entry.client who.0 (omega (arith, who.1, count_is)) (none o.entry.client (omega (arith, who.0)) (omega (arith, who.1)))
 
   closes_on : (o : Option ℕ) → IsFirst d.scene 1 d.scene.group.count o → RunsHonestly clients (closes_by o d) (n + 1)
@@ -107,4 +107,4 @@ pub drills_are_honest : DrillsAreHonest
 drills_are_honest number clients calls some few bound =
     let r = drill-runs number clients calls some few bound in
     let d : Drill = drill number clients calls in
-    record { server = r.server; run = r.run; holds = honest_runs_hold d.scene r.server d.events r.run }
+    record { server = r.server; run = r.run; holds = honest_runs_hold d.scene r.server d.events (runs-safe clients d (most_turns calls + most_events clients calls) r) }

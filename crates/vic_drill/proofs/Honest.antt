@@ -19,8 +19,9 @@ use Rattle.vic_honest.proofs.Worlds.{server_after, all_fit}
 use Rattle.vic_honest.proofs.Standing.{Doing, Rests, Sends, Gets, up_by, down_by}
 use Rattle.vic_honest.proofs.Knowing.{Does}
 use Rattle.vic_honest.proofs.Known.{no_item}
+use Rattle.vic_honest.specs.SafeRuns.{IsSafeRun}
+use Rattle.vic_honest.proofs.Scenes.{plain_safe}
 use Rattle.vic_honest.proofs.Runs.{run_knows, all_lawful}
-use Rattle.vic_runs.proofs.Counting.{calls-step}
 use Rattle.vic_runs.proofs.Scenes.{step_by}
 use Rattle.vic_runs.proofs.Tests.{waits_is}
 use Rattle.vic_gen.specs.Drawing.{Drawing}
@@ -30,6 +31,7 @@ use Rattle.vic_drill.specs.Drills.{Drill, begun, makes, acts, waits_for, goes_on
 use Rattle.vic_drill.specs.Laws.{RunsHonestly}
 use Rattle.vic_drill.specs.MayBe.{MayAct}
 use Rattle.vic_drill.proofs.Waiting.{waits_not}
+use Rattle.vic_drill.proofs.Called.{called-step}
 
 -- ---- counts
 
@@ -39,7 +41,7 @@ Counts s n = ((i : ℕ) → (stands s i).calls ≤ n) × (length s.history ≤ n
 
 counts-steps : (s : Scene) (i : ℕ) (given : Input) (n : ℕ) → IsLawful (steps s i given).group (steps s i given).history → Counts s n → Counts (steps s i given) (n + 1)
 unfolding steps
-counts-steps s i given n lawful c = (λ j. omega (arith, c.0 j, calls-step s.group s.history (step_by s.group i given s.history) lawful.steps j), omega (arith, c.1))
+counts-steps s i given n lawful c = (λ j. omega (arith, c.0 j, called-step s.group s.history (step_by s.group i given s.history) lawful.steps j), omega (arith, c.1))
 
 counts-same : (s : Scene) (n : ℕ) → Counts s n → Counts s (n + 1)
 counts-same s n c = (λ j. omega (arith, c.0 j), omega (arith, c.1))
@@ -112,6 +114,10 @@ begun-runs number clients some few = record {
   steps = omega arith;
 }
 
+-- a drill's group has no objects, so all laws of honest runs hold of it
+pub runs-safe : (clients : ℕ) (d : Drill) (n : ℕ) (r : RunsHonestly clients d n) → IsSafeRun d.scene r.server d.events
+runs-safe clients d n r = plain_safe d.scene r.server d.events (ap (λ g. g.mode) r.group) r.run
+
 -- ---- a client for whom nothing waits is idle
 
 rests-awaiting : (g : Group) (me : ℕ) (s : Server) (t : Standing) (seen newer : List Ordered) (up down : List (List ℕ)) (doing : Doing) → up ≡ [] → down ≡ [] → up ≡ up_by g me t doing → down ≡ down_by doing
@@ -123,7 +129,7 @@ rests-awaiting g me s t seen newer up down (Gets m) e f up_is down_is does = abs
 idle_by : (t : Standing) → t.awaiting ≡ awaits.Nothing → t.halted ≡ None → IsIdle t
 idle_by t e f = ap (λ a. awaits_nothing a && is_none t.halted) e ∙ ap (λ h. true && is_none h) f
 
-pub rests_idle : (s : Scene) (server : Server) (events : List Event) → IsHonestRun s server events → (me : ℕ) → 0 < me → me ≤ s.group.count → queue_of s.up me ≡ [] → queue_of s.down me ≡ [] → IsIdle (stands s me)
+pub rests_idle : (s : Scene) (server : Server) (events : List Event) → IsSafeRun s server events → (me : ℕ) → 0 < me → me ≤ s.group.count → queue_of s.up me ≡ [] → queue_of s.down me ≡ [] → IsIdle (stands s me)
 rests_idle s server events run me above upto none_up none_down =
     let c = (run_knows s server events run).clients me above upto in
     idle_by (stands s me) (rests-awaiting s.group me server (stands s me) c.seen c.newer (queue_of s.up me) (queue_of s.down me) c.doing none_up none_down c.up_is c.down_is c.does) c.keeps.going
@@ -145,7 +151,7 @@ module _ (clients : ℕ) (d : Drill) (n : ℕ) (r : RunsHonestly clients d n) (m
   pub rests-idle : waits_for d.scene me ≡ false → IsIdle (stands d.scene me)
   rests-idle none =
       let parts = or_parts (waits_in d.scene.up me) (waits_in d.scene.down me) none in
-      rests_idle d.scene r.server d.events r.run me above upto_count (waits_not d.scene.up me parts.0) (waits_not d.scene.down me parts.1)
+      rests_idle d.scene r.server d.events (runs-safe clients d n r) me above upto_count (waits_not d.scene.up me parts.0) (waits_not d.scene.down me parts.1)
 
   pub polls-runs : waits_for d.scene me ≡ false → RunsHonestly clients (makes (Asks me input.Poll) d) (n + 1)
   polls-runs none = makes-runs clients d n r (Asks me input.Poll) (tt, (above, upto_count, rests-idle none))

@@ -1,4 +1,5 @@
 pub mod Acts
 pub mod Waiting
+mod Called
 pub mod Honest
 pub mod Drilled
