@@ -4,6 +4,7 @@ use Rattle.std.proofs.Common.{refl, ap, subst, sym, ◌∙◌, inl, inr, arith, 
 use Rattle.std.proofs.lemmas.List.{length-append}
 use Rattle.std.proofs.lemmas.Bool.{and_parts, cases_eq, eq-eqb, ne_eqb}
 use Rattle.vic_dict.specs.declared.op.Op.{Op}
+use Rattle.vic_dict.specs.declared.op.Op.TheVariants as op
 use Rattle.vic_dict.specs.declared.op.Entry.{Entry}
 use Rattle.vic_dict.specs.declared.op.Answer.TheVariants as answer
 use Rattle.vic_dict.specs.declared.op.Outcome.{Outcome}
@@ -36,6 +37,9 @@ use Rattle.vic_laws.proofs.Steps.{Passes}
 use Rattle.vic_laws.proofs.StepKinds.{all_passed}
 use Rattle.vic_laws.proofs.Standings.{standing_moved, standing_kept}
 use Rattle.vic_laws.proofs.Phases.{wait_awaited, update_awaited, awaits_entries, idle_nothing}
+use Rattle.vic_laws.proofs.Contents.{decision_found}
+use Rattle.vic_laws.specs.AskedClaims.{calls_made}
+use Rattle.vic_laws.proofs.Asked.{calls_are_made}
 
 -- a call that is open may still send its Commit and its Seal
 abbrev pub for_reply : Awaiting → ℕ
@@ -46,11 +50,23 @@ for_reply awaits.Entries = 0
 for_reply awaits.Kept = 0
 for_reply (awaits.Content h len) = 0
 
+-- a get may find a reference
+abbrev pub for_get : Op → ℕ
+for_get (op.Get k) = 1
+for_get (op.Put k v) = 0
+for_get (op.Del k) = 0
+for_get (op.List p) = 0
+
 -- a call on objects may still send its Fetch
 abbrev pub for_fetch : Phase → Awaiting → ℕ
 for_fetch phase.Closed a = 0
-for_fetch (phase.Keeping k h len) a = 1
-for_fetch phase.Calling a = 1
+for_fetch (phase.Keeping k h len) a = 0
+for_fetch phase.Calling (awaits.Reply n o load) = for_get o
+for_fetch phase.Calling awaits.Nothing = 0
+for_fetch phase.Calling awaits.Turn = 0
+for_fetch phase.Calling awaits.Entries = 0
+for_fetch phase.Calling awaits.Kept = 0
+for_fetch phase.Calling (awaits.Content h len) = 0
 for_fetch (phase.Fetching h len) (awaits.Content g l) = 0
 for_fetch (phase.Fetching h len) (awaits.Reply n o load) = 1
 for_fetch (phase.Fetching h len) awaits.Nothing = 1
@@ -81,34 +97,39 @@ at_most_one h len awaits.Turn = omega arith
 at_most_one h len awaits.Entries = omega arith
 at_most_one h len awaits.Kept = omega arith
 
--- without an awaited content the awaiting doesn't matter
-fetch_same : (p : Phase) (a b : Awaiting) → ((h : Digest32) (len : ℕ) → a ≡ awaits.Content h len → ⊥) → for_fetch p b ≤ for_fetch p a
-fetch_same phase.Closed a b apart = omega arith
-fetch_same (phase.Keeping k h len) a b apart = omega arith
-fetch_same phase.Calling a b apart = omega arith
-fetch_same (phase.Fetching h len) (awaits.Content g l) b apart = absurd (apart g l refl)
-fetch_same (phase.Fetching h len) (awaits.Reply n o load) b apart = at_most_one h len b
-fetch_same (phase.Fetching h len) awaits.Nothing b apart = at_most_one h len b
-fetch_same (phase.Fetching h len) awaits.Entries b apart = at_most_one h len b
-fetch_same (phase.Fetching h len) awaits.Kept b apart = at_most_one h len b
-fetch_same (phase.Fetching h len) awaits.Turn b apart = at_most_one h len b
+-- without an awaited content the awaiting doesn't matter, if no Reply is awaited then
+fetch_same : (p : Phase) (a b : Awaiting) → ((h : Digest32) (len : ℕ) → a ≡ awaits.Content h len → ⊥) → for_fetch phase.Calling b ≡ 0 → for_fetch p b ≤ for_fetch p a
+fetch_same phase.Closed a b apart none = omega arith
+fetch_same (phase.Keeping k h len) a b apart none = omega arith
+fetch_same phase.Calling a b apart none = omega arith
+fetch_same (phase.Fetching h len) (awaits.Content g l) b apart none = absurd (apart g l refl)
+fetch_same (phase.Fetching h len) (awaits.Reply n o load) b apart none = at_most_one h len b
+fetch_same (phase.Fetching h len) awaits.Nothing b apart none = at_most_one h len b
+fetch_same (phase.Fetching h len) awaits.Entries b apart none = at_most_one h len b
+fetch_same (phase.Fetching h len) awaits.Kept b apart none = at_most_one h len b
+fetch_same (phase.Fetching h len) awaits.Turn b apart none = at_most_one h len b
 
-decided_fetch : (p : Phase) (o : Outcome) (a : Awaiting) → ((h : Digest32) (len : ℕ) → a ≡ awaits.Content h len → ⊥) → (b : Awaiting) → for_fetch (after_decision p o) b ≤ for_fetch p a
-decided_fetch phase.Closed o a apart b = omega arith
-decided_fetch (phase.Keeping k h len) o a apart b = omega arith
-decided_fetch (phase.Fetching h len) o a apart b = fetch_same (phase.Fetching h len) a b apart
-decided_fetch phase.Calling (outcome.Aborted u) a apart b = omega arith
-decided_fetch phase.Calling (outcome.Refused r) a apart b = omega arith
-decided_fetch phase.Calling (outcome.Halted c) a apart b = omega arith
-decided_fetch phase.Calling (outcome.Done answer.Stored) a apart b = omega arith
-decided_fetch phase.Calling (outcome.Done answer.NotFound) a apart b = omega arith
-decided_fetch phase.Calling (outcome.Done answer.Removed) a apart b = omega arith
-decided_fetch phase.Calling (outcome.Done answer.Absent) a apart b = omega arith
-decided_fetch phase.Calling (outcome.Done (answer.Names names)) a apart b = omega arith
-decided_fetch phase.Calling (outcome.Done (answer.Found v)) a apart b = chosen (is_reference v) _ _
+-- only a get is decided so that a content is to be fetched
+decided_fetch : (p : Phase) (o : Outcome) (a : Awaiting) → ((h : Digest32) (len : ℕ) → a ≡ awaits.Content h len → ⊥)
+    → ((v : List ℕ) → o ≡ outcome.Done (answer.Found v) → for_fetch phase.Calling a ≡ 1) → (b : Awaiting) → for_fetch phase.Calling b ≡ 0 → for_fetch (after_decision p o) b ≤ for_fetch p a
+decided_fetch phase.Closed o a apart gets b none = omega arith
+decided_fetch (phase.Keeping k h len) o a apart gets b none = omega arith
+decided_fetch (phase.Fetching h len) o a apart gets b none = fetch_same (phase.Fetching h len) a b apart none
+decided_fetch phase.Calling (outcome.Aborted u) a apart gets b none = omega arith
+decided_fetch phase.Calling (outcome.Refused r) a apart gets b none = omega arith
+decided_fetch phase.Calling (outcome.Halted c) a apart gets b none = omega arith
+decided_fetch phase.Calling (outcome.Done answer.Stored) a apart gets b none = omega arith
+decided_fetch phase.Calling (outcome.Done answer.NotFound) a apart gets b none = omega arith
+decided_fetch phase.Calling (outcome.Done answer.Removed) a apart gets b none = omega arith
+decided_fetch phase.Calling (outcome.Done answer.Absent) a apart gets b none = omega arith
+decided_fetch phase.Calling (outcome.Done (answer.Names names)) a apart gets b none = omega arith
+decided_fetch phase.Calling (outcome.Done (answer.Found v)) a apart gets b none =
+    let one : for_fetch phase.Calling a ≡ 1 = gets v refl in
+    let most : for_fetch (after_decision phase.Calling (outcome.Done (answer.Found v))) b ≤ 1 = chosen (is_reference v) _ _ in
+    omega (arith, one, most)
   where
     chosen : (c : Bool) (x y : Next) → for_fetch (if◌then◌else◌ {A = Stepped} c (phase.Fetching (record { bytes = hash_in v }) (length_in v), x) (phase.Closed, y)).0 b ≤ 1
-    chosen true x y = fetch_same (phase.Fetching (record { bytes = hash_in v }) (length_in v)) awaits.Turn b (λ g l e. cc)
+    chosen true x y = at_most_one (record { bytes = hash_in v }) (length_in v) b
     chosen false x y = omega arith
 
 -- ---- each kind of step
@@ -130,7 +151,9 @@ pays_reply me s b seal (e ∷ below) (Some part) (awaits.Reply n o load) same =
     let ends : Outcome = decision me s below seal.position part o in
     let own : Own = record { position = length (e ∷ below); op = o; done = is_done ends } in
     let l : length (s.own ++ own ∷ []) ≡ length s.own + 1 = length-append s.own (own ∷ []) in
-    let f : for_fetch (after_decision s.phase ends) awaits.Turn ≤ for_fetch s.phase s.awaiting = decided_fetch s.phase ends s.awaiting (reply_apart s.awaiting n o load same) awaits.Turn in
+    let gets : (w : List ℕ) → ends ≡ outcome.Done (answer.Found w) → for_fetch phase.Calling s.awaiting ≡ 1 =
+    λ w e. ap (for_fetch phase.Calling) same ∙ ap for_get (decision_found me s below seal.position part o w e).1 in
+    let f : for_fetch (after_decision s.phase ends) awaits.Turn ≤ for_fetch s.phase s.awaiting = decided_fetch s.phase ends s.awaiting (reply_apart s.awaiting n o load same) gets awaits.Turn refl in
     let r : for_reply s.awaiting ≡ 2 = ap for_reply same in
     omega arith
 pays_reply me s b seal [] part a same = pays_halt s (input.Payload b) 1
@@ -145,15 +168,15 @@ pays_update : (s : Standing) (b : List ℕ) (seal : Seal) (part : Option Part) (
 pays_update s b seal (Some part) (o ∷ others) is same =
     let whole : length s.own ≡ length {A = Own} (o ∷ others) = ap length is in
     let one : length {A = Own} (o ∷ others) ≡ length others + 1 = omega arith in
-    let f : for_fetch s.phase awaits.Turn ≤ for_fetch s.phase s.awaiting = fetch_same s.phase s.awaiting awaits.Turn (turn_apart s.awaiting same) in
+    let f : for_fetch s.phase awaits.Turn ≤ for_fetch s.phase s.awaiting = fetch_same s.phase s.awaiting awaits.Turn (turn_apart s.awaiting same) refl in
     omega arith
 pays_update s b seal None own is same = pays_halt s (input.Payload b) 1
 pays_update s b seal (Some part) [] is same = pays_halt s (input.Payload b) 1
 
 pays_wait : (s : Standing) (b : List ℕ) (p : Phase) → s.phase ≡ p → s.awaiting ≡ awaits.Turn → Pays s (input.Payload b) (waited s p)
-pays_wait s b phase.Closed is same = let f : for_fetch s.phase awaits.Nothing ≤ for_fetch s.phase s.awaiting = fetch_same s.phase s.awaiting awaits.Nothing (turn_apart s.awaiting same) in omega arith
-pays_wait s b (phase.Keeping k h len) is same = let f : for_fetch s.phase awaits.Nothing ≤ for_fetch s.phase s.awaiting = fetch_same s.phase s.awaiting awaits.Nothing (turn_apart s.awaiting same) in omega arith
-pays_wait s b phase.Calling is same = let f : for_fetch s.phase awaits.Nothing ≤ for_fetch s.phase s.awaiting = fetch_same s.phase s.awaiting awaits.Nothing (turn_apart s.awaiting same) in omega arith
+pays_wait s b phase.Closed is same = let f : for_fetch s.phase awaits.Nothing ≤ for_fetch s.phase s.awaiting = fetch_same s.phase s.awaiting awaits.Nothing (turn_apart s.awaiting same) refl in omega arith
+pays_wait s b (phase.Keeping k h len) is same = let f : for_fetch s.phase awaits.Nothing ≤ for_fetch s.phase s.awaiting = fetch_same s.phase s.awaiting awaits.Nothing (turn_apart s.awaiting same) refl in omega arith
+pays_wait s b phase.Calling is same = let f : for_fetch s.phase awaits.Nothing ≤ for_fetch s.phase s.awaiting = fetch_same s.phase s.awaiting awaits.Nothing (turn_apart s.awaiting same) refl in omega arith
 pays_wait s b (phase.Fetching h len) is same =
     let now : for_fetch s.phase (awaits.Content h len) ≡ 0 = ap (λ p. for_fetch p (awaits.Content h len)) is in
     let before : for_fetch s.phase s.awaiting ≡ 1 = ap (λ p. for_fetch p s.awaiting) is ∙ ap (for_fetch (phase.Fetching h len)) same in
@@ -162,7 +185,7 @@ pays_wait s b (phase.Fetching h len) is same =
 pays_refused : (s : Standing) (b : List ℕ) (r : ℕ) (a : Awaiting) → s.awaiting ≡ a → is_awaited a (say.Refused r) ≡ true → Pays s (input.Payload b) (refused_at s r a)
 pays_refused s b r awaits.Kept same form = omega arith
 pays_refused s b r (awaits.Reply n o load) same form =
-    let f : for_fetch (after_decision s.phase (outcome.Refused r)) awaits.Nothing ≤ for_fetch s.phase s.awaiting = decided_fetch s.phase (outcome.Refused r) s.awaiting (reply_apart s.awaiting n o load same) awaits.Nothing in
+    let f : for_fetch (after_decision s.phase (outcome.Refused r)) awaits.Nothing ≤ for_fetch s.phase s.awaiting = decided_fetch s.phase (outcome.Refused r) s.awaiting (reply_apart s.awaiting n o load same) (λ w e. absurd cc) awaits.Nothing refl in
     omega arith
 pays_refused s b r awaits.Nothing same form = absurd (true≢false (sym form))
 pays_refused s b r awaits.Turn same form = absurd (true≢false (sym form))
@@ -170,7 +193,7 @@ pays_refused s b r awaits.Entries same form = absurd (true≢false (sym form))
 pays_refused s b r (awaits.Content h len) same form = absurd (true≢false (sym form))
 
 pays_kept : (s : Standing) (b : List ℕ) (p : Phase) → s.phase ≡ p → Pays s (input.Payload b) (goes_to s false (kept_at p))
-pays_kept s b (phase.Keeping k h len) is = let f : for_fetch s.phase s.awaiting ≡ 1 = ap (λ p. for_fetch p s.awaiting) is in omega arith
+pays_kept s b (phase.Keeping k h len) is = let f : for_fetch s.phase s.awaiting ≡ 0 = ap (λ p. for_fetch p s.awaiting) is in omega arith
 pays_kept s b phase.Closed is = pays_halt s (input.Payload b) 1
 pays_kept s b phase.Calling is = pays_halt s (input.Payload b) 1
 pays_kept s b (phase.Fetching h len) is = pays_halt s (input.Payload b) 1
@@ -182,7 +205,7 @@ pays_taken g me s b say.Wait passes = pays_wait s b s.phase refl (wait_awaited s
 pays_taken g me s b (say.Update seal part) passes = pays_update s b seal (read_part part) s.own refl (update_awaited s.awaiting seal part (and_parts (is_awaited s.awaiting (say.Update seal part)) _ passes.form).0)
 pays_taken g me s b (say.Entries seal entries) passes =
     let same : s.awaiting ≡ awaits.Entries = awaits_entries s.awaiting seal entries (and_parts (is_awaited s.awaiting (say.Entries seal entries)) _ passes.form).0 in
-    let f : for_fetch s.phase awaits.Nothing ≤ for_fetch s.phase s.awaiting = fetch_same s.phase s.awaiting awaits.Nothing (entries_apart s.awaiting same) in
+    let f : for_fetch s.phase awaits.Nothing ≤ for_fetch s.phase s.awaiting = fetch_same s.phase s.awaiting awaits.Nothing (entries_apart s.awaiting same) refl in
     omega arith
 pays_taken g me s b (say.Refused r) passes = pays_refused s b r s.awaiting refl passes.form
 pays_taken g me s b say.Kept passes = pays_kept s b s.phase refl
@@ -213,11 +236,11 @@ pays g me s (input.Call o) may = omega arith
 pays g me s (input.Object c) may = pays_object s c
 pays g me s input.Poll may =
     let same : s.awaiting ≡ awaits.Nothing = idle_nothing s.awaiting _ may in
-    let f : for_fetch s.phase awaits.Turn ≤ for_fetch s.phase s.awaiting = fetch_same s.phase s.awaiting awaits.Turn (nothing_apart s.awaiting same) in
+    let f : for_fetch s.phase awaits.Turn ≤ for_fetch s.phase s.awaiting = fetch_same s.phase s.awaiting awaits.Turn (nothing_apart s.awaiting same) refl in
     omega arith
 pays g me s input.Sync may =
     let same : s.awaiting ≡ awaits.Nothing = idle_nothing s.awaiting _ may in
-    let f : for_fetch s.phase awaits.Entries ≤ for_fetch s.phase s.awaiting = fetch_same s.phase s.awaiting awaits.Entries (nothing_apart s.awaiting same) in
+    let f : for_fetch s.phase awaits.Entries ≤ for_fetch s.phase s.awaiting = fetch_same s.phase s.awaiting awaits.Entries (nothing_apart s.awaiting same) refl in
     omega arith
 pays g me s (input.Payload b) may = pays_payload g me s b s.halted may
 
@@ -267,4 +290,7 @@ sends_balance g (x ∷ past) steps me = elim (cases_eq x.client me) [
 ]
 
 pub sends_are_few : SendsAreFew
-sends_are_few g h lawful me = let w = sends_balance g h lawful.steps me in omega arith
+sends_are_few g h lawful me =
+    let w = sends_balance g h lawful.steps me in
+    let same : (standing g me h).calls ≡ calls_made g me h = calls_are_made g h lawful.steps me in
+    omega (arith, w, same)

@@ -47,7 +47,7 @@ use Rattle.vic_laws.proofs.Phases.{at_rest, idle_nothing, same_key, Together, Fi
 
 -- ---- along a history
 
-start_together : Together phase.Closed awaits.Nothing
+pub start_together : Together phase.Closed awaits.Nothing
 start_together = ((λ h len e. cc), (λ e. cc))
 
 -- what each client awaits goes with how far its call on objects has come
@@ -79,7 +79,7 @@ found_is d (op.Del k) v e = absurd (gone_apart (map.get d k) e)
     gone_apart (Some w) e = cc
 found_is d (op.List p) v e = absurd cc
 
-mode_apart : {m : Mode} → m ≡ mode.Objects → m ≡ mode.Plain → ⊥
+pub mode_apart : {m : Mode} → m ≡ mode.Objects → m ≡ mode.Plain → ⊥
 mode_apart a b = let e : mode.Objects ≡ mode.Plain = sym a ∙ b in cc
 
 plain_call : (g : Group) (s : Standing) (o : Op) (i : Input) → i ≡ input.Call o → MayStep g s i → g.mode ≡ mode.Plain
@@ -145,7 +145,7 @@ decided_found : (u : Option ℕ) (d : Dictionary) (o : Op) (v : List ℕ) → de
 decided_found (Some u) d o v e = absurd cc
 decided_found None d o v e = let f : reply d o ≡ answer.Found v = cc in let w = found_is d o v (sym f) in (w.0, w.1)
 
-decision_found : (me : ℕ) (s : Standing) (below : List Entry) (base : ℕ) (part : Part) (o : Op) (v : List ℕ) → decision me s below base part o ≡ outcome.Done (answer.Found v) → (k : List ℕ) × (o ≡ op.Get k)
+pub decision_found : (me : ℕ) (s : Standing) (below : List Entry) (base : ℕ) (part : Part) (o : Op) (v : List ℕ) → decision me s below base part o ≡ outcome.Done (answer.Found v) → (k : List ℕ) × (o ≡ op.Get k)
 unfolding decision
 decision_found me s below base part o v e = decided_found _ _ o v e
 
@@ -188,7 +188,7 @@ found_now g x past objects steps d len f =
     }
 
 -- a client that is fetching a content is asked for nothing
-fetching_takes : (g : Group) (s : Standing) (i : Input) (d : Digest32) (len : ℕ) → MayStep g s i → Together s.phase s.awaiting → s.phase ≡ phase.Fetching d len → IsTaken i
+pub fetching_takes : (g : Group) (s : Standing) (i : Input) (d : Digest32) (len : ℕ) → MayStep g s i → Together s.phase s.awaiting → s.phase ≡ phase.Fetching d len → IsTaken i
 fetching_takes g s (input.Payload b) d len may t e = tt
 fetching_takes g s (input.Call o) d len may t e = absurd (never s d len may.0 t e)
 fetching_takes g s (input.Object c) d len may t e = absurd (never s d len may.0 t e)
@@ -230,15 +230,15 @@ known_later : (g : Group) (x : TraceStep) (past : List TraceStep) (c : List ℕ)
 unfolding contents_known
 known_later g x past c i = in_right (content_sent (move_of g past x).sends) _ c (in_right (content_in (took g past x)) (contents_known g past) c i)
 
-known_since : (g : Group) (later past : List TraceStep) (c : List ℕ) → IsIn (contents_known g past) c → IsIn (contents_known g (later ++ past)) c
+pub known_since : (g : Group) (later past : List TraceStep) (c : List ℕ) → IsIn (contents_known g past) c → IsIn (contents_known g (later ++ past)) c
 known_since g [] past c i = i
 known_since g (x ∷ later) past c i = known_later g x (later ++ past) c (known_since g later past c i)
 
-known_sent : (g : Group) (x : TraceStep) (past : List TraceStep) (c : List ℕ) → (move_of g past x).sends ≡ Some (Keeps c) → IsIn (contents_known g (x ∷ past)) c
+pub known_sent : (g : Group) (x : TraceStep) (past : List TraceStep) (c : List ℕ) → (move_of g past x).sends ≡ Some (Keeps c) → IsIn (contents_known g (x ∷ past)) c
 unfolding contents_known
 known_sent g x past c e = in_left (content_sent (move_of g past x).sends) _ c (subst (λ o. IsIn (content_sent o) c) (sym e) (inl refl))
 
-known_taken : (g : Group) (x : TraceStep) (past : List TraceStep) (c : List ℕ) → took g past x ≡ Some (say.Content c) → IsIn (contents_known g (x ∷ past)) c
+pub known_taken : (g : Group) (x : TraceStep) (past : List TraceStep) (c : List ℕ) → took g past x ≡ Some (say.Content c) → IsIn (contents_known g (x ∷ past)) c
 unfolding contents_known
 known_taken g x past c e = in_right (content_sent (move_of g past x).sends) _ c (in_left (content_in (took g past x)) (contents_known g past) c (subst (λ o. IsIn (content_in o) c) (sym e) (inl refl)))
 

@@ -21,14 +21,15 @@ use Rattle.vic_rules.specs.History.{IsLawful, move_of}
 use Rattle.vic_rules.specs.Views.{NoStepOf, view_of}
 use Rattle.vic_rules.specs.Trust.{IsForged, Collides}
 
--- a call that changed the value of a key
+-- whether an operation puts this key
 abbrev pub puts : List ℕ → Op → Bool
 puts k (op.Put q v) = bytes_eq k q
 puts k (op.Get q) = false
 puts k (op.Del q) = false
 puts k (op.List p) = false
 
--- the last done store of a name in a view: the newest done put of this key
+-- the last done store of a name in a view: the newest done put of this key, whatever dels are newer. (In LoadsLast the get found what it put,
+-- by `found`, so it is the last change of the key)
 abbrev pub last_put : List ℕ → List Shown → Option Shown
 last_put k [] = None
 last_put k (x ∷ v) = if is_done x.outcome && puts k x.entry.op then Some x else last_put k v

@@ -7,3 +7,4 @@ pub mod Fields
 pub mod ContentClaims
 pub mod CountClaims
 pub mod AskedClaims
+pub mod ObjectClaims

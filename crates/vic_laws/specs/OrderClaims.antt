@@ -127,7 +127,7 @@ pub record CompletedAs (g : Group) (h : List TraceStep) (e : Entry) (o : Outcome
   pub is : by.prefix ≡ e ∷ below
   pub ends : by.outcome ≡ o
 
--- the completions are the calls that were asked for and answered by Done or Aborted
+-- the completions are the calls that were made and answered by Done or Aborted
 abbrev pub CompletionsAre : Type 0
 CompletionsAre = (g : Group) (h : List TraceStep) → IsLawful g h → (e : Entry) (o : Outcome) → (IsCompleted o × IsAnswered g h e o) ↔ CompletedAs g h e o
 

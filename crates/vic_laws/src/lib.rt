@@ -6,13 +6,14 @@
 
 ghost use Rattle.vic_rules.specs.Headline.{EveryHistoryHolds};
 
+pub mod objects;
 pub mod order;
 pub mod terms;
 pub mod trust;
 
 /// The claim on a group's views, of every lawful history. The laws in [`order`] and [`trust`] are its parts, some of them with
 /// fewer premises, and what it rests on: tags, hashes, seals, and what a client decides of its call. Those in [`terms`] say what its words
-/// mean.
+/// mean, and those in [`objects`] what calls on objects do.
 pub fn headline()
     ensures { EveryHistoryHolds }
 {}

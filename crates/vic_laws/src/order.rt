@@ -1,6 +1,6 @@
 //! The laws on the order of calls, and on what a client decides of its call.
 
-ghost use Rattle.vic_laws.specs.AskedClaims.{CallsAreAsked};
+ghost use Rattle.vic_laws.specs.AskedClaims.{AskedAreCalled, CallsAreAsked};
 ghost use Rattle.vic_laws.specs.CountClaims.{SendsAreFew};
 ghost use Rattle.vic_laws.specs.OrderClaims.{CompletedOnce, CompletionsAre, SameOpIs, SameEntryIs, LeastAboveIs, NoneAboveIs, ConfirmedIs, ConfirmedByOwner, DoneMeetsNoConflict, AbortedByTheLeast, AnswersStand, ViewsAgree, ViewsComplete, ViewsInRealTime, ViewsShowOnlyCalls};
 
@@ -43,7 +43,7 @@ pub fn agreement()
     ensures { ViewsAgree }
 {}
 
-/// Each view shows only calls that were asked for and answered so.
+/// Each view shows only calls that were made and answered so.
 pub fn only_calls()
     ensures { ViewsShowOnlyCalls }
 {}
@@ -63,17 +63,25 @@ pub fn completed_once()
     ensures { CompletedOnce }
 {}
 
-/// The completions are the calls that were asked for and answered by Done or Aborted.
+/// The completions are the calls that were made and answered by Done or Aborted.
 pub fn completions_are()
     ensures { CompletionsAre }
 {}
 
-/// A client sends no more than three requests for each call, one for each poll and sync, and two more for each call on objects.
+/// A client sends no more than three requests for each call that it made, and one more for each poll, sync, store and load that it was
+/// asked for.
 pub fn sends_are_few()
     ensures { SendsAreFew }
 {}
 
-/// A client calls an operation only where it is asked for it, or was asked at its step before for the store that puts it.
+/// A client calls an operation only where it is asked for it, or was asked at its step before for the store that puts it, and the numbers
+/// of its calls rise by one.
 pub fn calls_are_asked()
     ensures { CallsAreAsked }
+{}
+
+/// A client that is asked for a call makes it at that step. One that is asked for a store sends its content, and calls the put where it
+/// took that the content is kept.
+pub fn asked_are_called()
+    ensures { AskedAreCalled }
 {}
