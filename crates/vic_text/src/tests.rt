@@ -59,7 +59,7 @@ const LINES: [Row; 45] = [
 ];
 
 /// Lines of mode plain alone.
-const CALLS: [Row; 15] = [
+const CALLS: [Row; 14] = [
     (
         "call 1 put a %20",
         "Ok(Call(1, Put(Bytes { items: [97] }, Bytes { items: [32] })))",
@@ -86,11 +86,10 @@ const CALLS: [Row; 15] = [
     ("call 1 put a", NONE),
     ("call 1 put a b c", NONE),
     ("call 1  get a", NONE),
-    ("call 1 store f x", NONE),
 ];
 
 /// Lines of mode objects alone.
-const OBJECTS: [Row; 16] = [
+const OBJECTS: [Row; 15] = [
     (
         "call 1 store a x",
         "Ok(Object(1, Store(Bytes { items: [97] }, Bytes { items: [120] })))",
@@ -124,7 +123,6 @@ const OBJECTS: [Row; 16] = [
     ("call 1 store a x y", NONE),
     ("call 1 load %", NONE),
     ("call 1 names", NONE),
-    ("call 1 put a x", NONE),
 ];
 
 /// Lines of clients' scripts, in mode plain and in mode objects.
