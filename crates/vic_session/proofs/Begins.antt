@@ -3,6 +3,8 @@ use Rattle.std.proofs.Common.{◌≡◌, ◌≢◌, ◌⊎◌, inl, inr, ℕ, ze
 use Rattle.std.proofs.lemmas.Bool.{ne_eqb}
 use Rattle.vic_dict.specs.declared.op.Op.{Op}
 use Rattle.vic_wire.specs.Hashes.{Group}
+use Rattle.vic_rules.specs.declared.object.ObjectCall.{ObjectCall}
+use Rattle.vic_rules.specs.declared.object.ObjectCall.TheVariants as object
 use Rattle.vic_rules.specs.declared.trace.Input.{Input}
 use Rattle.vic_rules.specs.declared.trace.Input.TheVariants as input
 use Rattle.vic_rules.specs.Client.{Standing, Move, step, payload_of}
@@ -12,7 +14,7 @@ use Rattle.vic_session.specs.declared.place.At.{At}
 use Rattle.vic_session.specs.declared.place.At.TheVariants as at
 use Rattle.vic_session.specs.declared.place.Place.{Place}
 use Rattle.vic_session.specs.Talks.{Talk, Talker, Doing, Settles, steps, asks, begins, tells_state, state_line, unsettled, one_of, sent_in, goes_on, ends_line}
-use Rattle.vic_session.specs.Talking.{On, Went, IsDoing, IsBusy}
+use Rattle.vic_session.specs.Talking.{On, Went, IsDoing, IsBusy, calls_of}
 use Rattle.vic_session.proofs.Steps.{standing_step, moved, sent_step}
 
 module _ (w : Talker) (t : Talk) (start : List ℕ) (c : Kept) (p : Place) (out : List ℕ) (on : On w t start c p out) where
@@ -32,14 +34,14 @@ module _ (w : Talker) (t : Talk) (start : List ℕ) (c : Kept) (p : Place) (out 
 
   -- the client asked
   pub asks_went : (given : Input) (d : Doing) (doing : At) (new : Kept) (sent : List ℕ) → IsSame c new → StandsFor new (move_of c t.now given).next → Some sent ≡ sent_at c (move_of c t.now given)
-      → (moved w t given).next.calls ≤ p.number → IsDoing doing d → Went w t (asks w t given d) start new (record p { doing = doing }) out (Some sent)
+      → calls_of (moved w t given).next ≤ p.number → IsDoing doing d → Went w t (asks w t given d) start new (record p { doing = doing }) out (Some sent)
   unfolding steps
   asks_went given d doing new sent same so is few at = record {
     on = record {
       me = same.id ∙ on.me;
       group = same.group ∙ on.group;
       stands_so = stands_on given new so;
-      few = subst (λ (s : Standing). s.calls ≤ p.number) (sym (standing_step w t given)) few;
+      few = subst (λ (s : Standing). calls_of s ≤ p.number) (sym (standing_step w t given)) few;
       total = on.total;
       number = on.number;
       behind = on.behind;
@@ -76,17 +78,25 @@ settle_asks w t (suc n) some many next = ap (λ (b : Bool). if b then next (tell
     ∙ (let less : n ≡ suc n - 1 = omega arith in ap (λ (m : ℕ). asks w t input.Poll (Settles m)) less)
 
 -- how often the client has called, once it has asked
-pub calls_poll : (w : Talker) (t : Talk) (n : ℕ) → t.now.calls ≤ n → (moved w t input.Poll).next.calls ≤ n
+pub calls_poll : (w : Talker) (t : Talk) (n : ℕ) → calls_of t.now ≤ n → calls_of (moved w t input.Poll).next ≤ n
 unfolding step
 calls_poll w t n few = few
 
-pub calls_sync : (w : Talker) (t : Talk) (n : ℕ) → t.now.calls ≤ n → (moved w t input.Sync).next.calls ≤ n
+pub calls_sync : (w : Talker) (t : Talk) (n : ℕ) → calls_of t.now ≤ n → calls_of (moved w t input.Sync).next ≤ n
 unfolding step
 calls_sync w t n few = few
 
-pub calls_call : (w : Talker) (t : Talk) (n : ℕ) (o : Op) → t.now.calls + 1 ≤ n → (moved w t (input.Call o)).next.calls ≤ n
+pub calls_call : (w : Talker) (t : Talk) (n : ℕ) (o : Op) → t.now.calls + 1 ≤ n → calls_of (moved w t (input.Call o)).next ≤ n
 unfolding step
-calls_call w t n o few = few
+calls_call w t n o few = omega (arith, few)
+
+-- of a store the call is still to come
+pub calls_object : (w : Talker) (t : Talk) (n : ℕ) (c : ObjectCall) → t.now.calls + 1 ≤ n → calls_of (moved w t (input.Object c)).next ≤ n
+unfolding step
+calls_object w t n (object.Store k c) few = few
+calls_object w t n (object.Load k) few = omega (arith, few)
+calls_object w t n (object.Erase k) few = omega (arith, few)
+calls_object w t n (object.Names p) few = omega (arith, few)
 
 -- a settling goes on
 pub ends_again : (w : Talker) (t : Talk) (n : ℕ) → n ≢ 0 → unsettled t ≢ 0 → ends_line w t (Settles n) ≡ asks w t input.Poll (Settles (n - 1))

@@ -1,18 +1,16 @@
 -- How a session ends on a link that serves it.
-use Rattle.std.proofs.Common.{◌≡◌, ◌⊎◌, inl, inr, ℕ, List, [], ◌∷◌, ◌++◌, fold, length, Option, Some, None, refl, sym, ap, subst, ◌∙◌, append_assoc, append-nil, arith}
+use Rattle.std.proofs.Common.{◌≡◌, ◌⊎◌, inl, inr, ℕ, List, [], ◌∷◌, ◌++◌, fold, Option, Some, refl, sym, ap, subst, ◌∙◌, append_assoc, append-nil}
 use Rattle.vic_wire.specs.Hashes.{Group}
-use Rattle.vic_wire.specs.declared.message.ToClient.{ToClient}
 use Rattle.vic_wire.specs.declared.message.ToClient.TheVariants as say
 use Rattle.vic_wire.specs.Reading.{read_answer}
 use Rattle.vic_conn.specs.Frames.{Broken, front_of, frames_of}
 use Rattle.vic_conn.proofs.Growing.{broken_stays}
 use Rattle.vic_conn.proofs.Pieces.{first_broken, any_pieces}
-use Rattle.vic_ports.specs.Causes.{Rose, LeavesBehind, IsSpent}
-use Rattle.vic_ports.specs.Links.{Told}
+use Rattle.vic_ports.specs.Causes.{LeavesBehind, IsSpent}
 use Rattle.vic_session.specs.declared.end.SessionEnd.{SessionEnd}
 use Rattle.vic_session.specs.declared.end.SessionEnd.TheVariants as ends
 use Rattle.vic_session.specs.Talks.{Talk, Talker, Doing, Leaves, Bad, Halts, hears, opening, talk, talker}
-use Rattle.vic_session.specs.Sessions.{Stage, Greets, Talks, Goes_away, Read, IsOver, IsAt, AllAwaited, IsAnswer, IsStrange, HaltsBy, first_of, IsSession}
+use Rattle.vic_session.specs.Sessions.{Stage, Greets, Talks, Goes_away, Read, IsOver, IsAt, AllAwaited, IsStrange, HaltsBy, first_of, IsSession}
 use Rattle.vic_session.specs.Laws.{IsServed, SessionsAreComplete}
 
 -- ---- two talks over fronts of one list

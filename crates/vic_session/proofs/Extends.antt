@@ -7,7 +7,7 @@ use Rattle.vic_script.specs.Run.{limit, place_behind}
 use Rattle.vic_text.specs.declared.client_line.ClientLine.{ClientLine}
 use Rattle.vic_text.specs.declared.client_line.ClientLine.TheVariants as line
 use Rattle.vic_text.specs.ClientLines.{client_line_of}
-use Rattle.vic_session.specs.Talks.{Talk, Talker, Doing, Calls, Tells, Settles, Leaves, Bad, Halts, steps, asks, begins, tells_state, state_line, unsettled, one_of, sent_in, goes_on, ends_line, goes_from, hears, outcome_line, returned_in, is_idle}
+use Rattle.vic_session.specs.Talks.{Talk, Talker, Doing, Calls, Tells, Settles, Leaves, Bad, Halts, steps, asks, begins, tells_state, state_line, unsettled, one_of, sent_in, goes_on, ends_line, goes_from, hears, outcome_lines, returned_in, object_in, is_idle}
 use Rattle.vic_session.proofs.Steps.{moved, sent_step}
 
 pub record Extends (t v : Talk) : Type 0 where
@@ -41,6 +41,7 @@ extends_begins : (w : Talker) (t : Talk) (l : Option ClientLine) (next : Talk �
 extends_begins w t None next h = extends_same t (record t { doing = Bad 1 }) refl refl
 extends_begins w t (Some line.Skip) next h = h t
 extends_begins w t (Some (line.Call o)) next h = extends_asks w t (input.Call o) Calls
+extends_begins w t (Some (line.Object c)) next h = extends_asks w t (input.Object c) Calls
 extends_begins w t (Some line.Poll) next h = extends_asks w t input.Poll Tells
 extends_begins w t (Some line.Sync) next h = extends_asks w t input.Sync Tells
 extends_begins w t (Some (line.Settle zero)) next h = extends_more t (tells_state t) (next (tells_state t)) (extends_tells w t) (h (tells_state t))
@@ -81,7 +82,7 @@ extends_from w t payload None = extends_either (is_idle t.now) t (ends_line w t 
 
 -- the talk after a step on a payload, with what is printed of it
 abbrev pub after_step : Talker → Talk → List ℕ → Talk
-after_step w t payload = let u = steps w t (input.Payload payload) in record u { text = u.text ++ outcome_line u.now.halted (returned_in u.history) }
+after_step w t payload = let u = steps w t (input.Payload payload) in record u { text = u.text ++ outcome_lines u.now.halted (returned_in u.history) (object_in u.history) }
 
 pub hears_is : (w : Talker) (t : Talk) (payload : List ℕ) → hears w t payload ≡ goes_from w (after_step w t payload) payload (steps w t (input.Payload payload)).now.halted
 unfolding hears
@@ -90,7 +91,7 @@ hears_is w t payload = refl
 pub extends_after : (w : Talker) (t : Talk) (payload : List ℕ) → Extends t (after_step w t payload)
 extends_after w t payload =
     let u = steps w t (input.Payload payload) in
-    extends_more t u (after_step w t payload) (extends_steps w t (input.Payload payload)) (record { text = (outcome_line u.now.halted (returned_in u.history), refl); sent = ([], sym (append-nil (sent_in u.history))) })
+    extends_more t u (after_step w t payload) (extends_steps w t (input.Payload payload)) (record { text = (outcome_lines u.now.halted (returned_in u.history) (object_in u.history), refl); sent = ([], sym (append-nil (sent_in u.history))) })
 
 pub extends_hears : (w : Talker) (t : Talk) (payload : List ℕ) → Extends t (hears w t payload)
 unfolding hears

@@ -1,5 +1,5 @@
 -- A talk takes only so many payloads: each answer takes something from what may still come.
-use Rattle.std.proofs.Common.{◌≡◌, ℕ, zero, suc, ◌+◌, ◌*◌, ◌<◌, ◌≤◌, Bool, true, false, List, [], ◌∷◌, ◌++◌, length, length-append, Option, Some, None, nat_eq, nat_lt, if◌then◌else◌, refl, sym, ap, subst, ◌∙◌, arith}
+use Rattle.std.proofs.Common.{◌≡◌, ℕ, zero, suc, ◌+◌, ◌*◌, ◌<◌, ◌≤◌, Bool, true, false, List, [], ◌∷◌, length, length-append, Option, Some, None, nat_eq, nat_lt, if◌then◌else◌, refl, sym, ap, subst, ◌∙◌, arith}
 use Rattle.std.proofs.lemmas.Bool.{and_parts}
 use Rattle.vic_dict.specs.declared.op.Op.{Op}
 use Rattle.vic_dict.specs.declared.op.Mode.{Mode}
@@ -13,8 +13,13 @@ use Rattle.vic_wire.specs.Reading.{read_answer}
 use Rattle.vic_rules.specs.declared.state.Own.{Own}
 use Rattle.vic_rules.specs.declared.state.Awaiting.{Awaiting}
 use Rattle.vic_rules.specs.declared.state.Awaiting.TheVariants as awaits
+use Rattle.vic_rules.specs.declared.object.ObjectCall.{ObjectCall}
+use Rattle.vic_rules.specs.declared.object.ObjectCall.TheVariants as object
+use Rattle.vic_rules.specs.declared.object.Phase.{Phase}
+use Rattle.vic_rules.specs.declared.object.Phase.TheVariants as phase
+use Rattle.vic_rules.specs.Objects.{kept_at}
 use Rattle.vic_rules.specs.declared.trace.Input.TheVariants as input
-use Rattle.vic_rules.specs.Client.{Standing, step, grown, is_awaited, has_form, verdict, verdict_on, replied, updated, taken, taken_or_halts, on_payload}
+use Rattle.vic_rules.specs.Client.{Standing, step, grown, is_awaited, has_form, verdict, verdict_on, replied, waited, goes_to, refused_at, updated, taken, taken_or_halts, on_payload}
 use Rattle.vic_client.specs.Kept.{Kept}
 use Rattle.vic_script.specs.Lines.{lines_of}
 use Rattle.vic_script.specs.Run.{limit}
@@ -31,13 +36,14 @@ use Rattle.vic_session.proofs.Extends.{here, after_step, hears_is}
 
 -- ---- the client
 
--- how many answers may still come to what is awaited: to a call its Reply, two for its entry, which is then unsealed, and one more
+-- how many answers may still come to what is awaited: to a call its Reply, two for its entry, which is then unsealed, and two more, by
+-- which it waits and fetches a content; to a content that is to be kept, one more
 abbrev pub open_of : Awaiting → ℕ
 open_of awaits.Nothing = 0
-open_of (awaits.Reply n o load) = 4
-open_of awaits.Turn = 1
+open_of (awaits.Reply n o load) = 5
+open_of awaits.Turn = 2
 open_of awaits.Entries = 1
-open_of awaits.Kept = 1
+open_of awaits.Kept = 6
 open_of (awaits.Content h n) = 1
 
 abbrev pub load_of : Standing → ℕ
@@ -56,31 +62,68 @@ falls_replied : (me : ℕ) (s : Standing) (seal : Seal) (path : List Entry) (par
 falls_replied me s seal [] part a is live = absurd cc
 falls_replied me s seal (e ∷ below) None a is live = absurd cc
 falls_replied me s seal (e ∷ below) (Some part) (awaits.Reply n o load) is live =
-    let four : open_of s.awaiting ≡ 4 = ap open_of is in
+    let five : open_of s.awaiting ≡ 5 = ap open_of is in
     let one : length (replied me s seal (e ∷ below) (Some part) (awaits.Reply n o load)).next.own ≡ length s.own + 1 = length-append s.own _ in
-    omega (arith, four, one)
+    omega (arith, five, one)
 falls_replied me s seal (e ∷ below) (Some part) awaits.Nothing is live = absurd cc
 falls_replied me s seal (e ∷ below) (Some part) awaits.Turn is live = absurd cc
 falls_replied me s seal (e ∷ below) (Some part) awaits.Entries is live = absurd cc
 falls_replied me s seal (e ∷ below) (Some part) awaits.Kept is live = absurd cc
 falls_replied me s seal (e ∷ below) (Some part) (awaits.Content h n) is live = absurd cc
 
-falls_updated : (s : Standing) (seal : Seal) (part : Option Part) (own : List Own) → s.own ≡ own → (updated s seal part own).next.halted ≡ None → load_of (updated s seal part own).next < load_of s
-falls_updated s seal None own is live = absurd cc
-falls_updated s seal (Some part) [] is live = absurd cc
-falls_updated s seal (Some part) (o ∷ others) is live =
+falls_updated : (s : Standing) (seal : Seal) (part : Option Part) (own : List Own) → s.own ≡ own → 0 < open_of s.awaiting → (updated s seal part own).next.halted ≡ None → load_of (updated s seal part own).next < load_of s
+falls_updated s seal None own is some live = absurd cc
+falls_updated s seal (Some part) [] is some live = absurd cc
+falls_updated s seal (Some part) (o ∷ others) is some live =
     let more : length s.own ≡ suc (length others) = ap length is in
-    omega (arith, more)
+    omega (arith, more, some)
+
+-- a Wait is awaited at a turn, and Kept where a content is to be kept
+two_open : (a : Awaiting) → is_awaited a say.Wait ≡ true → open_of a ≡ 2
+two_open awaits.Nothing e = absurd cc
+two_open (awaits.Reply n o load) e = absurd cc
+two_open awaits.Turn e = refl
+two_open awaits.Entries e = absurd cc
+two_open awaits.Kept e = absurd cc
+two_open (awaits.Content h n) e = absurd cc
+
+six_open : (a : Awaiting) → is_awaited a say.Kept ≡ true → open_of a ≡ 6
+six_open awaits.Nothing e = absurd cc
+six_open (awaits.Reply n o load) e = absurd cc
+six_open awaits.Turn e = absurd cc
+six_open awaits.Entries e = absurd cc
+six_open awaits.Kept e = refl
+six_open (awaits.Content h n) e = absurd cc
+
+falls_waited : (s : Standing) (p : Phase) → open_of s.awaiting ≡ 2 → load_of (waited s p).next < load_of s
+falls_waited s phase.Closed two = omega (arith, two)
+falls_waited s (phase.Keeping k h len) two = omega (arith, two)
+falls_waited s phase.Calling two = omega (arith, two)
+falls_waited s (phase.Fetching h len) two = omega (arith, two)
+
+falls_kept : (s : Standing) (p : Phase) → open_of s.awaiting ≡ 6 → (goes_to s false (kept_at p)).next.halted ≡ None → load_of (goes_to s false (kept_at p)).next < load_of s
+falls_kept s phase.Closed six live = absurd cc
+falls_kept s (phase.Keeping k h len) six live = omega (arith, six)
+falls_kept s phase.Calling six live = absurd cc
+falls_kept s (phase.Fetching h len) six live = absurd cc
+
+falls_refused : (s : Standing) (r : ℕ) (a : Awaiting) → 0 < open_of s.awaiting → load_of (refused_at s r a).next < load_of s
+falls_refused s r awaits.Nothing some = omega (arith, some)
+falls_refused s r (awaits.Reply n o load) some = omega (arith, some)
+falls_refused s r awaits.Turn some = omega (arith, some)
+falls_refused s r awaits.Entries some = omega (arith, some)
+falls_refused s r awaits.Kept some = omega (arith, some)
+falls_refused s r (awaits.Content h n) some = omega (arith, some)
 
 falls_taken : (me : ℕ) (s : Standing) (m : ToClient) → is_awaited s.awaiting m ≡ true → (taken me s m).next.halted ≡ None → load_of (taken me s m).next < load_of s
 falls_taken me s (say.Reply seal entries part) is live = falls_replied me s seal (grown s entries) (read_part part) s.awaiting refl live
-falls_taken me s say.Wait is live = let some = open_some s.awaiting say.Wait is in omega (arith, some)
-falls_taken me s (say.Update seal part) is live = falls_updated s seal (read_part part) s.own refl live
+falls_taken me s say.Wait is live = falls_waited s s.phase (two_open s.awaiting is)
+falls_taken me s (say.Update seal part) is live = falls_updated s seal (read_part part) s.own refl (open_some s.awaiting (say.Update seal part) is) live
 falls_taken me s (say.Entries seal entries) is live = let some = open_some s.awaiting (say.Entries seal entries) is in omega (arith, some)
-falls_taken me s (say.Refused r) is live = let some = open_some s.awaiting (say.Refused r) is in omega (arith, some)
+falls_taken me s (say.Refused r) is live = falls_refused s r s.awaiting (open_some s.awaiting (say.Refused r) is)
 falls_taken me s say.Hi is live = absurd cc
-falls_taken me s say.Kept is live = absurd cc
-falls_taken me s (say.Content c) is live = absurd cc
+falls_taken me s say.Kept is live = falls_kept s s.phase (six_open s.awaiting is) live
+falls_taken me s (say.Content c) is live = let some = open_some s.awaiting (say.Content c) is in omega (arith, some)
 falls_taken me s say.Gone is live = absurd cc
 falls_taken me s say.Absent is live = absurd cc
 
@@ -125,20 +168,21 @@ falls_step g me s payload live = falls_on g me s s.halted payload live
 abbrev pub need_of : Option ClientLine → ℕ
 need_of None = 0
 need_of (Some line.Skip) = 0
-need_of (Some (line.Call o)) = 4
-need_of (Some line.Poll) = 1
+need_of (Some (line.Call o)) = 5
+need_of (Some (line.Object c)) = 6
+need_of (Some line.Poll) = 2
 need_of (Some line.Sync) = 1
-need_of (Some (line.Settle n)) = n
+need_of (Some (line.Settle n)) = 2 * n
 
 abbrev pub needs : Mode → List (List ℕ) → ℕ
 needs kind [] = 0
 needs kind (text ∷ texts) = need_of (client_line_of kind text) + needs kind texts
 
--- how many polls are left
+-- how many answers may come to the polls that are left
 abbrev pub left_of : Doing → ℕ
 left_of Calls = 0
 left_of Tells = 0
-left_of (Settles n) = n
+left_of (Settles n) = 2 * n
 left_of Leaves = 0
 left_of (Bad k) = 0
 left_of (Halts k p) = 0
@@ -147,11 +191,18 @@ left_of (Halts k p) = 0
 abbrev pub need_at : Talker → Talk → ℕ
 need_at w t = needs w.group.mode t.lines + left_of t.doing + load_of t.now
 
-need_call : (w : Talker) (t : Talk) (o : Op) (d : Doing) → need_at w (asks w t (input.Call o) d) ≡ needs w.group.mode t.lines + left_of d + (2 * length t.now.own + 4)
+need_call : (w : Talker) (t : Talk) (o : Op) (d : Doing) → need_at w (asks w t (input.Call o) d) ≡ needs w.group.mode t.lines + left_of d + (2 * length t.now.own + 5)
 unfolding steps step
 need_call w t o d = refl
 
-need_poll : (w : Talker) (t : Talk) (d : Doing) → need_at w (asks w t input.Poll d) ≡ needs w.group.mode t.lines + left_of d + (2 * length t.now.own + 1)
+need_object : (w : Talker) (t : Talk) (c : ObjectCall) (d : Doing) → need_at w (asks w t (input.Object c) d) ≤ needs w.group.mode t.lines + left_of d + (2 * length t.now.own + 6)
+unfolding steps step
+need_object w t (object.Store k c) d = omega arith
+need_object w t (object.Load k) d = omega arith
+need_object w t (object.Erase k) d = omega arith
+need_object w t (object.Names p) d = omega arith
+
+need_poll : (w : Talker) (t : Talk) (d : Doing) → need_at w (asks w t input.Poll d) ≡ needs w.group.mode t.lines + left_of d + (2 * length t.now.own + 2)
 unfolding steps step
 need_poll w t d = refl
 
@@ -175,12 +226,13 @@ begun : (w : Talker) (t : Talk) (l : Option ClientLine) (next : Talk → Talk) �
 begun w t None next h = λ busy. absurd (busy tt)
 begun w t (Some line.Skip) next h = λ busy. (let x : need_at w (next t) ≤ needs w.group.mode t.lines + 2 * length t.now.own = h t busy in omega (arith, x))
 begun w t (Some (line.Call o)) next h = λ busy. (let x = need_call w t o Calls in omega (arith, x))
+begun w t (Some (line.Object c)) next h = λ busy. (let x = need_object w t c Calls in omega (arith, x))
 begun w t (Some line.Poll) next h = λ busy. (let x = need_poll w t Tells in omega (arith, x))
 begun w t (Some line.Sync) next h = λ busy. (let x = need_sync w t Tells in omega (arith, x))
 begun w t (Some (line.Settle zero)) next h = λ busy.
     (let x : need_at w (next (tells_state t)) ≤ needs w.group.mode t.lines + 2 * length t.now.own = h (tells_state t) busy in omega (arith, x))
 begun w t (Some (line.Settle (suc n))) next h =
-    either w (nat_eq (unsettled t) 0) (next (tells_state t)) (asks w t input.Poll (Settles n)) (suc n + needs w.group.mode t.lines + 2 * length t.now.own)
+    either w (nat_eq (unsettled t) 0) (next (tells_state t)) (asks w t input.Poll (Settles n)) (2 * suc n + needs w.group.mode t.lines + 2 * length t.now.own)
     (λ busy. (let x : need_at w (next (tells_state t)) ≤ needs w.group.mode t.lines + 2 * length t.now.own = h (tells_state t) busy in omega (arith, x)))
     (λ busy. (let x = need_poll w t (Settles n) in omega (arith, x)))
 
@@ -201,7 +253,7 @@ ended w t Calls is = λ busy. (let x = gone_on w t t.lines busy in omega (arith,
 ended w t Tells is = λ busy. (let x = told_on w t busy in omega (arith, x))
 ended w t (Settles zero) is = λ busy. (let x = told_on w t busy in omega (arith, x))
 ended w t (Settles (suc n)) is =
-    either w (nat_eq (unsettled t) 0) (let u = tells_state t in goes_on w u u.lines) (asks w t input.Poll (Settles n)) (needs w.group.mode t.lines + suc n + 2 * length t.now.own)
+    either w (nat_eq (unsettled t) 0) (let u = tells_state t in goes_on w u u.lines) (asks w t input.Poll (Settles n)) (needs w.group.mode t.lines + 2 * suc n + 2 * length t.now.own)
     (λ busy. (let x = told_on w t busy in omega (arith, x))) (λ busy. (let x = need_poll w t (Settles n) in omega (arith, x)))
 ended w t Leaves is = over w t (needs w.group.mode t.lines + 0 + 2 * length t.now.own) (subst (λ (d : Doing). IsOver d) (sym is) tt)
 ended w t (Bad k) is = over w t (needs w.group.mode t.lines + 0 + 2 * length t.now.own) (subst (λ (d : Doing). IsOver d) (sym is) tt)
@@ -234,7 +286,7 @@ falls w t payload busy =
 abbrev rank_at : At → ℕ → ℕ
 rank_at at.Calls n = suc n
 rank_at at.Tells n = suc n
-rank_at (at.Settles k) n = suc (n + k)
+rank_at (at.Settles k) n = suc (n + 2 * k)
 rank_at at.Leaves n = 0
 rank_at (at.Bad k) n = 0
 rank_at (at.Halts k h) n = 0
@@ -245,7 +297,7 @@ rank c p = rank_at p.doing (needs c.mode (lines_of p.rest.now) + (2 * length c.o
 busy_is : (a : At) (d : Doing) (n : ℕ) → IsBusy a → IsDoing a d → rank_at a n ≡ suc (n + left_of d)
 busy_is at.Calls d n b is = let z : left_of d ≡ 0 = ap left_of is in omega (arith, z)
 busy_is at.Tells d n b is = let z : left_of d ≡ 0 = ap left_of is in omega (arith, z)
-busy_is (at.Settles k) d n b is = let z : left_of d ≡ k = ap left_of is in omega (arith, z)
+busy_is (at.Settles k) d n b is = let z : left_of d ≡ 2 * k = ap left_of is in omega (arith, z)
 busy_is at.Leaves d n b is = absurd b
 busy_is (at.Bad k) d n b is = absurd b
 busy_is (at.Halts k h) d n b is = absurd b
@@ -258,7 +310,7 @@ rank_less at.Calls d n m is f = let x = f (not_over d Calls is (λ o. o)) in ome
 rank_less at.Tells d n m is f = let x = f (not_over d Tells is (λ o. o)) in omega (arith, x)
 rank_less (at.Settles k) d n m is f =
     let x = f (not_over d (Settles k) is (λ o. o)) in
-    let z : left_of d ≡ k = ap left_of is in
+    let z : left_of d ≡ 2 * k = ap left_of is in
     omega (arith, x, z)
 rank_less at.Leaves d n m is f = omega arith
 rank_less (at.Bad k) d n m is f = omega arith

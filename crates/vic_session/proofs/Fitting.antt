@@ -1,8 +1,8 @@
 -- The calls that texts spell are within the limits and hold bytes, and a script has few lines.
-use Rattle.std.proofs.Common.{◌≡◌, ℕ, suc, ◌<◌, ◌≤◌, Bool, true, false, ◌&&◌, List, [], ◌∷◌, length, Option, Some, None, Result, Ok, Err, refl, subst, arith}
-use Rattle.std.specs.Prelude.{if◌then◌else◌, nat_eq, nat_le, option_map, codes}
+use Rattle.std.proofs.Common.{◌≡◌, ℕ, zero, suc, ◌<◌, ◌≤◌, Bool, true, false, ◌&&◌, List, [], ◌∷◌, length, Option, Some, None, Result, Ok, Err, refl, sym, ap, subst, arith}
+use Rattle.std.specs.Prelude.{if◌then◌else◌, nat_eq, nat_le, option_map, codes, drop, replicate}
 use Rattle.std.specs.Str.{bytes_eq}
-use Rattle.std.specs.List.{list_all}
+use Rattle.std.specs.List.{list_all, starts_with}
 use Rattle.std.specs.Result.{result_ok}
 use Rattle.std.proofs.lemmas.Bool.{and_parts, leb-true}
 use Rattle.std.proofs.lemmas.Bool.Decides.{nat_tests}
@@ -18,7 +18,10 @@ use Rattle.vic_dict.specs.Dictionary.{Fits, AreBytesIn}
 use Rattle.vic_spellings.proofs.Steps.{bytes-nil}
 use Rattle.vic_spellings.proofs.Bytes.{bytes-cons}
 use Rattle.vic_script.specs.Words.{is_plain, is_lower_hex, is_percent, hex_word, word_bytes, word_number}
-use Rattle.vic_script.specs.Lines.{put_first, lines_of, words_of, within, key_of, value_of, prefix_of, put_of, op_of, is_skipped}
+use Rattle.vic_rules.specs.declared.object.ObjectCall.{ObjectCall}
+use Rattle.vic_rules.specs.declared.object.ObjectCall.TheVariants as object
+use Rattle.vic_rules.specs.Objects.{FitsObject, AreBytesInObject}
+use Rattle.vic_script.specs.Lines.{put_first, lines_of, words_of, within, at_most, key_of, value_of, prefix_of, put_of, op_of, zeros_of, content_of, store_of, object_of, is_skipped}
 use Rattle.vic_text.specs.declared.client_line.ClientLine.{ClientLine}
 use Rattle.vic_text.specs.declared.client_line.ClientLine.TheVariants as line
 use Rattle.vic_text.specs.ClientLines.{client_line_of, client_line_in, plain_line, call_line, or_line, settle_of}
@@ -116,11 +119,80 @@ op-fits (name ∷ a ∷ b ∷ []) =
     (put-fits (key_of a) (value_of b) (within-few 1 255 (word_bytes a) (word-bytes a)) (within-few 0 64 (word_bytes b) (word-bytes b))) tt
 op-fits (name ∷ a ∷ b ∷ c ∷ others) = tt
 
+-- ---- calls on objects
+
+zero-bytes : (n : ℕ) → AreBytes (replicate n 0)
+zero-bytes zero = bytes-nil
+zero-bytes (suc n) = bytes-cons 0 (replicate n 0) (omega arith) (zero-bytes n)
+
+zero-length : (n : ℕ) → length {A = ℕ} (replicate n 0) ≡ n
+zero-length zero = refl
+zero-length (suc n) = ap suc (zero-length n)
+
+zeros-few : (n : ℕ) (b : Bool) → (b ≡ true → n ≤ 8388608) → FewIn 0 8388608 (option_map (λ (k : ℕ). replicate k 0) (if b then Some n else None))
+zeros-few n true h = (zero-bytes n, (omega arith, subst (λ (k : ℕ). k ≤ 8388608) (sym (zero-length n)) (h refl)))
+zeros-few n false h = tt
+
+zeros-in : (o : Option ℕ) → FewIn 0 8388608 (option_map (λ (k : ℕ). replicate k 0) (at_most 8388608 o))
+zeros-in None = tt
+zeros-in (Some n) = zeros-few n (nat_le n 8388608) (λ e. leb-true n 8388608 e)
+
+few-either : (b : Bool) (x y : Option (List ℕ)) → FewIn 0 8388608 x → FewIn 0 8388608 y → FewIn 0 8388608 (if b then x else y)
+few-either true x y h k = h
+few-either false x y h k = k
+
+content-few : (word : List ℕ) → FewIn 0 8388608 (content_of word)
+content-few word =
+    few-either (starts_with nat_eq word (codes "zeros:")) (zeros_of (drop 6 word)) (within 0 8388608 (word_bytes word))
+    (zeros-in (word_number (drop 6 word))) (within-few 0 8388608 (word_bytes word) (word-bytes word))
+
+abbrev FitsCall : Option ObjectCall → Type 0
+FitsCall None = Unit {0}
+FitsCall (Some c) = FitsObject c × AreBytesInObject c
+
+object-either : (b : Bool) (x y : Option ObjectCall) → FitsCall x → FitsCall y → FitsCall (if b then x else y)
+object-either true x y h k = h
+object-either false x y h k = k
+
+load-fits : (k : Option (List ℕ)) → FewIn 1 255 k → FitsCall (option_map object.Load k)
+load-fits None h = tt
+load-fits (Some k) h = ((omega (arith, h.1.0), omega (arith, h.1.1)), h.0)
+
+erase-fits : (k : Option (List ℕ)) → FewIn 1 255 k → FitsCall (option_map object.Erase k)
+erase-fits None h = tt
+erase-fits (Some k) h = ((omega (arith, h.1.0), omega (arith, h.1.1)), h.0)
+
+names-fits : (p : Option (List ℕ)) → FewIn 0 255 p → FitsCall (option_map object.Names p)
+names-fits None h = tt
+names-fits (Some p) h = (omega (arith, h.1.1), h.0)
+
+store-fits : (k c : Option (List ℕ)) → FewIn 1 255 k → FewIn 0 8388608 c → FitsCall (store_of k c)
+store-fits (Some k) (Some c) h l = (((omega (arith, h.1.0), omega (arith, h.1.1)), l.1.1), (h.0, l.0))
+store-fits (Some k) None h l = tt
+store-fits None c h l = tt
+
+object-fits : (words : List (List ℕ)) → FitsCall (object_of words)
+object-fits [] = tt
+object-fits (name ∷ []) = tt
+object-fits (name ∷ a ∷ []) =
+    let key = within-few 1 255 (word_bytes a) (word-bytes a) in
+    let prefix = within-few 0 255 (word_bytes a) (word-bytes a) in
+    let lists : Option ObjectCall = if bytes_eq name (codes "names") then option_map object.Names (prefix_of a) else None in
+    let erases : Option ObjectCall = if bytes_eq name (codes "erase") then option_map object.Erase (key_of a) else lists in
+    object-either (bytes_eq name (codes "load")) (option_map object.Load (key_of a)) erases (load-fits (key_of a) key)
+    (object-either (bytes_eq name (codes "erase")) (option_map object.Erase (key_of a)) lists (erase-fits (key_of a) key)
+    (object-either (bytes_eq name (codes "names")) (option_map object.Names (prefix_of a)) None (names-fits (prefix_of a) prefix) tt))
+object-fits (name ∷ a ∷ b ∷ []) =
+    object-either (bytes_eq name (codes "store")) (store_of (key_of a) (content_of b)) None
+    (store-fits (key_of a) (content_of b) (within-few 1 255 (word_bytes a) (word-bytes a)) (content-few b)) tt
+object-fits (name ∷ a ∷ b ∷ c ∷ others) = tt
+
 -- ---- lines
 
 -- a line may be begun in a group of this mode, and its call holds bytes
 abbrev pub MayCall : ClientLine → Mode → Type 0
 MayCall (line.Call o) kind = (kind ≡ mode.Plain) × (Fits o × AreBytesIn o)
+MayCall (line.Object c) kind = (kind ≡ mode.Objects) × (FitsObject c × AreBytesInObject c)
 MayCall line.Poll kind = Unit {0}
 MayCall line.Sync kind = Unit {0}
 MayCall (line.Settle n) kind = Unit {0}
@@ -150,9 +222,13 @@ called-can : (o : Option Op) → FitsOp o → CanIn (option_map line.Call o) mod
 called-can None h = tt
 called-can (Some o) h = (refl, h)
 
+object-can : (o : Option ObjectCall) → FitsCall o → CanIn (option_map line.Object o) mode.Objects
+object-can None h = tt
+object-can (Some c) h = (refl, h)
+
 call-can : (kind : Mode) (words : List (List ℕ)) → CanIn (call_line kind words) kind
 call-can mode.Plain words = called-can (op_of words) (op-fits words)
-call-can mode.Objects words = tt
+call-can mode.Objects words = object-can (object_of words) (object-fits words)
 
 or-can : (kind : Mode) (x y : Option ClientLine) → CanIn x kind → CanIn y kind → CanIn (or_line x y) kind
 or-can kind (Some l) y h k = h
@@ -166,6 +242,7 @@ spelled-can kind text =
 
 can-begin : (l : ClientLine) (kind : Mode) → MayCall l kind → CanBegin l kind
 can-begin (line.Call o) kind h = (h.0, h.1.0)
+can-begin (line.Object c) kind h = (h.0, h.1.0)
 can-begin line.Poll kind h = tt
 can-begin line.Sync kind h = tt
 can-begin (line.Settle n) kind h = tt
@@ -181,9 +258,9 @@ length-put_first : (b n : ℕ) (pieces : List (List ℕ)) → length pieces ≤ 
 length-put_first b n [] h = omega arith
 length-put_first b n (piece ∷ pieces) h = omega (arith, h)
 
-few-either : (b : Bool) (n : ℕ) (x y : List (List ℕ)) → length x ≤ n → length y ≤ n → length (if b then x else y) ≤ n
-few-either true n x y h k = h
-few-either false n x y h k = k
+lines-either : (b : Bool) (n : ℕ) (x y : List (List ℕ)) → length x ≤ n → length y ≤ n → length (if b then x else y) ≤ n
+lines-either true n x y h k = h
+lines-either false n x y h k = k
 
 -- a script has at most as many lines as bytes
 pub length-lines_of : (bs : List ℕ) → length (lines_of bs) ≤ length bs
@@ -191,4 +268,4 @@ unfolding lines_of
 length-lines_of [] = omega arith
 length-lines_of (b ∷ bs) =
     let rest = length-lines_of bs in
-    few-either (nat_eq b 10) (suc (length bs)) ([] ∷ lines_of bs) (put_first b (lines_of bs)) (omega (arith, rest)) (length-put_first b (length bs) (lines_of bs) rest)
+    lines-either (nat_eq b 10) (suc (length bs)) ([] ∷ lines_of bs) (put_first b (lines_of bs)) (omega (arith, rest)) (length-put_first b (length bs) (lines_of bs) rest)

@@ -1,5 +1,7 @@
 -- A client takes a payload.
 use Rattle.std.proofs.Common.{◌≡◌, ℕ, ◌≤◌, Bool, true, false, ◌&&◌, List, ◌++◌, Option, Some, None, is_none, Result, Ok, Err, if◌then◌else◌, refl, sym, ap, subst, ◌∙◌, append_assoc, append-nil, arith}
+use Rattle.vic_dict.specs.declared.op.Outcome.{Outcome}
+use Rattle.vic_rules.specs.declared.object.ObjectOutcome.{ObjectOutcome}
 use Rattle.vic_dict.specs.declared.bytes.NoMemory.{NoMemory}
 use Rattle.vic_wire.specs.declared.message.Digest32.{Digest32}
 use Rattle.vic_rules.specs.declared.state.Awaiting.{Awaiting}
@@ -10,8 +12,8 @@ use Rattle.vic_client.specs.Kept.{Kept, IsSame, move_of, is_idle}
 use Rattle.vic_client.specs.Shows.{Shows}
 use Rattle.vic_session.specs.declared.place.At.TheVariants as at
 use Rattle.vic_session.specs.declared.place.Place.{Place}
-use Rattle.vic_session.specs.Talks.{Talk, Talker, steps, one_of, sent_in, hears, goes_from, ends_line, outcome_line, returned_in, digest_of, is_idle as rests}
-use Rattle.vic_session.specs.Talking.{On, Went, GoesTo, IsDoing, Heard, Stands, PrintsFront}
+use Rattle.vic_session.specs.Talks.{Talk, Talker, steps, one_of, sent_in, hears, goes_from, ends_line, outcome_lines, returned_in, object_in, digest_of, is_idle as rests}
+use Rattle.vic_session.specs.Talking.{On, Went, GoesTo, IsDoing, Heard, Stands, PrintsFront, calls_of}
 use Rattle.vic_session.proofs.Steps.{moved, standing_step, sent_step, heard, halted_none, sends_busy}
 use Rattle.vic_session.proofs.Begins.{move_is, sent_is, stands_on}
 use Rattle.vic_session.proofs.Extends.{after_step, hears_is, extends_hears}
@@ -33,13 +35,14 @@ heard_of w t start c new p out payload r on at same shows = record {
   doing = at;
   send = shows.send ∙ sent_is w t start c p out on (input.Payload payload);
   returned = shows.returned ∙ ap (λ (v : Move). v.returns) (move_is w t start c p out on (input.Payload payload));
+  object = shows.object ∙ ap (λ (v : Move). v.object) (move_is w t start c p out on (input.Payload payload));
 }
 
--- a payload is no call
+-- a payload calls nothing but what was to be called
 pub few_after : (c new : Kept) (number : ℕ) (payload : List ℕ) (r : Step) → (so : Stands c number) → Shows c r new (move_of c so.0 (input.Payload payload)) → new.calls ≤ number
 few_after c new number payload r so shows =
-    let same = (heard (record { mode = c.mode; count = c.count; key = c.key }) c.id so.0 payload).calls in
-    omega (arith, so.1.1, same, shows.stands.calls)
+    let most = (heard (record { mode = c.mode; count = c.count; key = c.key }) c.id so.0 payload).calls in
+    omega (arith, so.1.1, most, shows.stands.calls)
 
 module _ (w : Talker) (t : Talk) (start payload : List ℕ) (r : Step) (c : Kept) (p : Place) (out : List ℕ) (h : Heard w t start payload r c p out) where
   u : Talk
@@ -48,11 +51,10 @@ module _ (w : Talker) (t : Talk) (start payload : List ℕ) (r : Step) (c : Kept
   halted_is : c.halted ≡ (steps w t (input.Payload payload)).now.halted
   halted_is = sym h.stands_so.halted
 
-  few_u : (steps w t (input.Payload payload)).now.calls ≤ p.number
+  few_u : calls_of (steps w t (input.Payload payload)).now ≤ p.number
   few_u =
-      let same = (heard w.group w.me t.now payload).calls in
-      let is = ap (λ (s : Standing). s.calls) (standing_step w t (input.Payload payload)) in
-      omega (arith, h.few, same, is)
+      let most = (heard w.group w.me t.now payload).calls in
+      subst (λ (s : Standing). calls_of s ≤ p.number) (sym (standing_step w t (input.Payload payload))) (omega (arith, h.few, most))
 
   text_u : (steps w t (input.Payload payload)).text ≡ t.text
   unfolding steps
@@ -62,11 +64,15 @@ module _ (w : Talker) (t : Talk) (start payload : List ℕ) (r : Step) (c : Kept
   unfolding steps
   returned_u = sym h.returned
 
+  object_u : object_in (steps w t (input.Payload payload)).history ≡ r.object
+  unfolding steps
+  object_u = sym h.object
+
   hears_by : (k : Option ℕ) → c.halted ≡ k → hears w t payload ≡ goes_from w (after_step w t payload) payload k
   hears_by k e = hears_is w t payload ∙ ap (goes_from w (after_step w t payload) payload) (sym halted_is ∙ e)
 
   -- where it stands after the step, once the outcome was printed
-  on_after : (k : Option ℕ) → c.halted ≡ k → (new : List ℕ) → new ≡ out ++ outcome_line k r.returned → On w (after_step w t payload) start c p new
+  on_after : (k : Option ℕ) → c.halted ≡ k → (new : List ℕ) → new ≡ out ++ outcome_lines k r.returned r.object → On w (after_step w t payload) start c p new
   unfolding steps
   on_after k e new is = record {
     me = h.me;
@@ -77,8 +83,12 @@ module _ (w : Talker) (t : Talk) (start payload : List ℕ) (r : Step) (c : Kept
     number = h.number;
     behind = h.behind;
     lines = h.lines;
-    text = is ∙ ap (λ (l : List ℕ). l ++ outcome_line k r.returned) h.text ∙ append_assoc start t.text (outcome_line k r.returned)
-        ∙ ap (λ (l : List ℕ). start ++ (t.text ++ l)) (ap (λ (j : Option ℕ). outcome_line j r.returned) (sym e ∙ halted_is) ∙ ap (outcome_line (steps w t (input.Payload payload)).now.halted) (sym returned_u));
+    text = is ∙ ap (λ (l : List ℕ). l ++ outcome_lines k r.returned r.object) h.text ∙ append_assoc start t.text (outcome_lines k r.returned r.object)
+        ∙ ap (λ (l : List ℕ). start ++ (t.text ++ l)) (
+        ap (λ (j : Option ℕ). outcome_lines j r.returned r.object) (sym e ∙ halted_is)
+        ∙ ap (λ (o : Option Outcome). outcome_lines (steps w t (input.Payload payload)).now.halted o r.object) (sym returned_u)
+        ∙ ap (λ (q : Option ObjectOutcome). outcome_lines (steps w t (input.Payload payload)).now.halted (returned_in (steps w t (input.Payload payload)).history) q) (sym object_u)
+        );
   }
 
   -- it has halted
@@ -105,13 +115,13 @@ module _ (w : Talker) (t : Talk) (start payload : List ℕ) (r : Step) (c : Kept
       hears_by None e ∙ ap (λ (b : Bool). if b then ends_line w (after_step w t payload) (after_step w t payload).doing else after_step w t payload) busy
 
   -- it is not idle
-  pub went_on : (new : List ℕ) → c.halted ≡ None → new ≡ out ++ outcome_line None r.returned → rests (steps w t (input.Payload payload)).now ≡ false → Went w t (hears w t payload) start c p new r.send
+  pub went_on : (new : List ℕ) → c.halted ≡ None → new ≡ out ++ outcome_lines None r.returned r.object → rests (steps w t (input.Payload payload)).now ≡ false → Went w t (hears w t payload) start c p new r.send
   went_on new e is busy =
       subst (λ (v : Talk). Went w t v start c p new r.send) (sym (not_idle busy e))
       (record { on = on_after None e new is; doing = doing_u; sends = sent_u })
 
   -- since it sends something
-  pub went_sends : (new sent : List ℕ) → c.halted ≡ None → new ≡ out ++ outcome_line None r.returned → r.send ≡ Some sent → Went w t (hears w t payload) start c p new (Some sent)
+  pub went_sends : (new sent : List ℕ) → c.halted ≡ None → new ≡ out ++ outcome_lines None r.returned r.object → r.send ≡ Some sent → Went w t (hears w t payload) start c p new (Some sent)
   went_sends new sent e is sends =
       let waits = sends_busy w.group w.me t.now payload sent (sym sends ∙ h.send) in
       let busy : awaits_nothing (steps w t (input.Payload payload)).now.awaiting ≡ false = ap (λ (s : Standing). awaits_nothing s.awaiting) (standing_step w t (input.Payload payload)) ∙ waits in
@@ -124,11 +134,11 @@ module _ (w : Talker) (t : Talk) (start payload : List ℕ) (r : Step) (c : Kept
       ∙ ap (λ (k : Option ℕ). awaits_nothing c.awaiting && is_none k) h.stands_so.halted
 
   -- or awaits another answer
-  pub went_waits : (new : List ℕ) → c.halted ≡ None → new ≡ out ++ outcome_line None r.returned → r.send ≡ None → is_idle c ≡ false → Went w t (hears w t payload) start c p new None
+  pub went_waits : (new : List ℕ) → c.halted ≡ None → new ≡ out ++ outcome_lines None r.returned r.object → r.send ≡ None → is_idle c ≡ false → Went w t (hears w t payload) start c p new None
   went_waits new e is sends busy = subst (λ (o : Option (List ℕ)). Went w t (hears w t payload) start c p new o) sends (went_on new e is (idle_is ∙ busy))
 
   -- it is idle, and where it went from there
-  pub at_end : (new : List ℕ) → c.halted ≡ None → new ≡ out ++ outcome_line None r.returned → On w (after_step w t payload) start c p new × IsDoing p.doing (after_step w t payload).doing
+  pub at_end : (new : List ℕ) → c.halted ≡ None → new ≡ out ++ outcome_lines None r.returned r.object → On w (after_step w t payload) start c p new × IsDoing p.doing (after_step w t payload).doing
   at_end new e is = (on_after None e new is, doing_u)
 
   pub went_end : c.halted ≡ None → r.send ≡ None → is_idle c ≡ true → (after : Kept) (q : Place) (text : List ℕ) (res : Result (Option (List ℕ)) NoMemory)

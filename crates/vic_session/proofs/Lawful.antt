@@ -6,26 +6,27 @@ use Rattle.std.specs.Int.{w32, to_be_bytes}
 use Rattle.std.proofs.lemmas.Grind.{common_steps}
 use Rattle.std.proofs.lemmas.Bool.{ltb-false}
 use Rattle.vic_dict.specs.Lists.{AreBytes}
-use Rattle.vic_wire.specs.Hashes.{Group, IsGroup}
+use Rattle.vic_wire.specs.Hashes.{Group}
 use Rattle.vic_rules.specs.declared.trace.Input.{Input}
 use Rattle.vic_rules.specs.declared.trace.Input.TheVariants as input
 use Rattle.vic_rules.specs.declared.trace.TraceStep.{TraceStep}
 use Rattle.vic_rules.specs.Client.{Standing, at_start, step, payload_of, IsIdle, MayStep}
-use Rattle.vic_rules.specs.History.{standing, IsStep, AreSteps, IsLawful}
+use Rattle.vic_rules.specs.History.{standing, IsStep, AreSteps}
 use Rattle.vic_conn.specs.Frames.{Goes, Waits, Whole, Broken, front_of, split_by, frames_within, frames_of}
 use Rattle.vic_conn.proofs.Spelled.{fronts_are}
 use Rattle.vic_ports.specs.Causes.{LeavesBehind}
 use Rattle.vic_spellings.proofs.Steps.{bytes-take, bytes-drop}
 use Rattle.vic_script.specs.Lines.{lines_of}
-use Rattle.vic_script.specs.Run.{limit, place_behind}
+use Rattle.vic_script.specs.Run.{limit}
 use Rattle.vic_text.specs.declared.client_line.ClientLine.{ClientLine}
 use Rattle.vic_text.specs.declared.client_line.ClientLine.TheVariants as line
 use Rattle.vic_text.specs.ClientLines.{client_line_of}
 use Rattle.vic_session.specs.Talks.{Talk, Talker, Doing, Calls, Tells, Settles, Leaves, Bad, Halts, steps, asks, begins, tells_state, unsettled, goes_on, ends_line, is_idle, goes_from, hears, fresh, opening, talk, talker}
-use Rattle.vic_session.specs.Sessions.{Stage, Greets, Talks, Goes_away, Read, IsSession}
+use Rattle.vic_session.specs.Sessions.{Stage, Greets, Talks, Goes_away, Read}
 use Rattle.vic_session.specs.Laws.{TalksAreLawful, SessionsAreLawful}
 use Rattle.vic_session.proofs.Steps.{heard}
-use Rattle.vic_session.proofs.Begins.{calls_poll, calls_sync, calls_call}
+use Rattle.vic_session.specs.Talking.{calls_of}
+use Rattle.vic_session.proofs.Begins.{calls_poll, calls_sync, calls_call, calls_object}
 use Rattle.vic_session.proofs.Extends.{here, after_step}
 use Rattle.vic_session.proofs.Fitting.{CanIn, spelled-can, length-lines_of}
 
@@ -33,12 +34,12 @@ use Rattle.vic_session.proofs.Fitting.{CanIn, spelled-can, length-lines_of}
 
 -- the step that a client makes where it stands
 abbrev step_at : Group → ℕ → Standing → Input → TraceStep
-step_at g me s given = let v = step g me s given in record { client = me; input = given; sent = payload_of g me v.next v.sends; returned = v.returns }
+step_at g me s given = let v = step g me s given in record { client = me; input = given; sent = payload_of g me v.next v.sends; returned = v.returns; object = v.object }
 
 is_step : (g : Group) (me : ℕ) (past : List TraceStep) (s : Standing) (given : Input) → s ≡ standing g me past → (0 < me) × (me ≤ g.count) → MayStep g s given → IsStep g past (step_at g me s given)
 is_step g me past s given at member may =
     let there : MayStep g (standing g me past) given = subst (λ (x : Standing). MayStep g x given) at may in
-    subst (λ (x : Standing). IsStep g past (step_at g me x given)) (sym at) (record { member = member; may = there; sent = refl; returned = refl })
+    subst (λ (x : Standing). IsStep g past (step_at g me x given)) (sym at) (record { member = member; may = there; sent = refl; returned = refl; object = refl })
 
 stands_next : (g : Group) (me : ℕ) (past : List TraceStep) (s : Standing) (given : Input) → s ≡ standing g me past → (step g me s given).next ≡ standing g me (step_at g me s given ∷ past)
 unfolding standing
@@ -53,14 +54,14 @@ module _ (w : Talker) (member : (0 < w.me) × (w.me ≤ w.group.count)) where
   record Sound (t : Talk) (coming : ℕ) : Type 0 where
     pub made : AreSteps w.group t.history
     pub at : t.now ≡ standing w.group w.me t.history
-    pub few : t.now.calls ≤ t.number
+    pub few : calls_of t.now ≤ t.number
     pub behind : t.number ≤ t.behind
     pub room : t.number + coming ≤ w.total
 
   abbrev Good : Talk → Type 0
   Good t = Sound t (length t.lines)
 
-  stepped : (t : Talk) (n : ℕ) (given : Input) → Sound t n → MayStep w.group t.now given → (step w.group w.me t.now given).next.calls ≤ t.number → Sound (steps w t given) n
+  stepped : (t : Talk) (n : ℕ) (given : Input) → Sound t n → MayStep w.group t.now given → calls_of (step w.group w.me t.now given).next ≤ t.number → Sound (steps w t given) n
   unfolding steps
   stepped t n given s may few = record {
     made = (s.made, is_step w.group w.me t.history t.now given s.at member may);
@@ -70,7 +71,7 @@ module _ (w : Talker) (member : (0 < w.me) × (w.me ≤ w.group.count)) where
     room = s.room;
   }
 
-  asked : (t : Talk) (given : Input) (d : Doing) → Good t → MayStep w.group t.now given → (step w.group w.me t.now given).next.calls ≤ t.number → Good (asks w t given d)
+  asked : (t : Talk) (given : Input) (d : Doing) → Good t → MayStep w.group t.now given → calls_of (step w.group w.me t.now given).next ≤ t.number → Good (asks w t given d)
   unfolding steps
   asked t given d s may few =
       let x = stepped t (length t.lines) given s may few in
@@ -93,6 +94,8 @@ module _ (w : Talker) (member : (0 < w.me) × (w.me ≤ w.group.count)) where
   begun t (Some line.Skip) next s idle few most can goes = goes t s idle
   begun t (Some (line.Call o)) next s idle few most can goes =
       asked t (input.Call o) Calls s (idle, (can.0, (can.1.0, (can.1.1, omega (arith, few, most))))) (calls_call w t t.number o few)
+  begun t (Some (line.Object c)) next s idle few most can goes =
+      asked t (input.Object c) Calls s (idle, (can.0, (can.1.0, (can.1.1, omega (arith, few, most))))) (calls_object w t t.number c few)
   begun t (Some line.Poll) next s idle few most can goes = asked t input.Poll Tells s idle (calls_poll w t t.number s.few)
   begun t (Some line.Sync) next s idle few most can goes = asked t input.Sync Tells s idle (calls_sync w t t.number s.few)
   begun t (Some (line.Settle zero)) next s idle few most can goes = goes (tells_state t) (told t (length t.lines) s) idle
@@ -141,8 +144,8 @@ module _ (w : Talker) (member : (0 < w.me) × (w.me ≤ w.group.count)) where
   after : (t : Talk) (payload : List ℕ) → Good t → AreBytes payload → Good (after_step w t payload)
   unfolding steps
   after t payload s bytes =
-      let same = (heard w.group w.me t.now payload).calls in
-      let x = stepped t (length t.lines) (input.Payload payload) s bytes (omega (arith, same, s.few)) in
+      let most = (heard w.group w.me t.now payload).calls in
+      let x = stepped t (length t.lines) (input.Payload payload) s bytes (omega (arith, most, s.few)) in
       record { made = x.made; at = x.at; few = x.few; behind = x.behind; room = x.room }
 
   takes : (t : Talk) (payload : List ℕ) → Good t → AreBytes payload → Good (hears w t payload)
@@ -159,7 +162,7 @@ module _ (w : Talker) (member : (0 < w.me) × (w.me ≤ w.group.count)) where
   begins_so is script total = record {
     made = tt;
     at = is;
-    few = let none : w.from.calls ≡ 0 = ap (λ (s : Standing). s.calls) is in omega (arith, none);
+    few = let none : calls_of w.from ≡ 0 = ap (λ (s : Standing). calls_of s) is in omega (arith, none);
     behind = omega arith;
     room = omega (arith, length-lines_of script, total);
   }

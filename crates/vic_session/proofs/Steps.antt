@@ -1,9 +1,13 @@
 -- What a step of a client leaves: where it stands, and what it has sent.
-use Rattle.std.proofs.Common.{◌≡◌, ℕ, Bool, false, List, [], ◌∷◌, ◌++◌, reverse, Option, Some, None, refl, sym, ap, ◌∙◌, append-nil}
+use Rattle.std.proofs.Common.{◌≡◌, ℕ, ◌≤◌, Bool, true, false, List, [], ◌∷◌, ◌++◌, reverse, Option, Some, None, if◌then◌else◌, refl, sym, ap, ◌∙◌, append-nil, arith}
 use Rattle.std.specs.List.{flat_map}
 use Rattle.std.proofs.lemmas.Grind.{flat_map-append}
 use Rattle.std.proofs.lemmas.List.{reverse-append}
 use Rattle.vic_dict.specs.declared.op.Entry.{Entry}
+use Rattle.vic_dict.specs.declared.op.Answer.{Answer}
+use Rattle.vic_dict.specs.declared.op.Answer.TheVariants as answer
+use Rattle.vic_dict.specs.declared.op.Outcome.{Outcome}
+use Rattle.vic_dict.specs.declared.op.Outcome.TheVariants as outcome
 use Rattle.vic_wire.specs.Hashes.{Group}
 use Rattle.vic_wire.specs.declared.message.Seal.{Seal}
 use Rattle.vic_wire.specs.declared.message.ToClient.{ToClient}
@@ -13,11 +17,15 @@ use Rattle.vic_wire.specs.Reading.{read_answer}
 use Rattle.vic_rules.specs.declared.state.Own.{Own}
 use Rattle.vic_rules.specs.declared.state.Awaiting.{Awaiting}
 use Rattle.vic_rules.specs.declared.state.Awaiting.TheVariants as awaits
+use Rattle.vic_rules.specs.declared.object.Phase.{Phase}
+use Rattle.vic_rules.specs.declared.object.Phase.TheVariants as phase
+use Rattle.vic_rules.specs.Objects.{Stepped, is_reference, kept_at, answered, decided_as, after_decision}
 use Rattle.vic_rules.specs.declared.trace.Input.{Input}
 use Rattle.vic_rules.specs.declared.trace.Input.TheVariants as input
 use Rattle.vic_rules.specs.declared.trace.TraceStep.{TraceStep}
-use Rattle.vic_rules.specs.Client.{Standing, Move, Sending, step, payload_of, awaits_nothing, halts, grown, replied, updated, taken, taken_or_halts, on_payload, verdict}
+use Rattle.vic_rules.specs.Client.{Standing, Move, Sending, step, payload_of, awaits_nothing, halts, decision, grown, replied, waited, goes_to, refused_at, updated, taken, taken_or_halts, on_payload, verdict}
 use Rattle.vic_session.specs.Talks.{Talk, Talker, steps, one_of, sent_in}
+use Rattle.vic_session.specs.Talking.{will_call, calls_of}
 
 -- where the client stands after a step
 pub standing_step : (w : Talker) (t : Talk) (given : Input) → (steps w t given).now ≡ (step w.group w.me t.now given).next
@@ -37,23 +45,50 @@ sent_more x h =
 
 pub sent_step : (w : Talker) (t : Talk) (given : Input) → sent_in (steps w t given).history ≡ sent_in t.history ++ one_of (payload_of w.group w.me (moved w t given).next (moved w t given).sends)
 unfolding steps
-sent_step w t given = sent_more (record { client = w.me; input = given; sent = payload_of w.group w.me (moved w t given).next (moved w t given).sends; returned = (moved w t given).returns }) t.history
+sent_step w t given = sent_more (record { client = w.me; input = given; sent = payload_of w.group w.me (moved w t given).next (moved w t given).sends; returned = (moved w t given).returns; object = (moved w t given).object }) t.history
 
 -- ---- a payload
 
--- it is no call; and where the client sends something, it is not idle
+-- it calls nothing but what was to be called; and where the client sends something, it is not idle
 pub record Heard (s : Standing) (v : Move) : Type 0 where
-  pub calls : v.next.calls ≡ s.calls
+  pub calls : calls_of v.next ≤ calls_of s
   pub busy : (x : Sending) → v.sends ≡ Some x → awaits_nothing v.next.awaiting ≡ false
   pub quiet : (x : Sending) → v.sends ≡ Some x → v.next.halted ≡ s.halted
 
 heard_halts : (s : Standing) (k : ℕ) → Heard s (halts s k)
-heard_halts s k = record { calls = refl; busy = λ x e. absurd cc; quiet = λ x e. absurd cc }
+heard_halts s k = record { calls = omega arith; busy = λ x e. absurd cc; quiet = λ x e. absurd cc }
+
+-- a call that is decided has nothing more to call
+none_either : (b : Bool) (x y : Stepped) (n : ℕ) → will_call x.0 ≤ n → will_call y.0 ≤ n → will_call (if◌then◌else◌ {A = Stepped} b x y).0 ≤ n
+none_either true x y n h k = h
+none_either false x y n h k = k
+
+none_answered : (a : Answer) (n : ℕ) → will_call (answered a).0 ≤ n
+none_answered answer.Stored n = omega arith
+none_answered (answer.Found v) n = none_either (is_reference v) _ _ n (omega arith) (omega arith)
+none_answered answer.NotFound n = omega arith
+none_answered answer.Removed n = omega arith
+none_answered answer.Absent n = omega arith
+none_answered (answer.Names names) n = omega arith
+
+none_decided : (o : Outcome) (n : ℕ) → will_call (decided_as o).0 ≤ n
+none_decided (outcome.Done a) n = none_answered a n
+none_decided (outcome.Aborted u) n = omega arith
+none_decided (outcome.Refused r) n = omega arith
+none_decided (outcome.Halted k) n = omega arith
+
+none_more : (p : Phase) (o : Outcome) → will_call (after_decision p o) ≤ will_call p
+none_more phase.Closed o = omega arith
+none_more (phase.Keeping k h len) o = omega arith
+none_more phase.Calling o = none_decided o 0
+none_more (phase.Fetching h len) o = omega arith
 
 heard_replied : (me : ℕ) (s : Standing) (seal : Seal) (path : List Entry) (part : Option Part) (a : Awaiting) → Heard s (replied me s seal path part a)
 heard_replied me s seal [] part a = heard_halts s 1
 heard_replied me s seal (e ∷ below) None a = heard_halts s 1
-heard_replied me s seal (e ∷ below) (Some part) (awaits.Reply n o load) = record { calls = refl; busy = λ x e. refl; quiet = λ x e. refl }
+heard_replied me s seal (e ∷ below) (Some part) (awaits.Reply n o load) =
+    let less = none_more s.phase (decision me s below seal.position part o) in
+    record { calls = omega (arith, less); busy = λ x e. refl; quiet = λ x e. refl }
 heard_replied me s seal (e ∷ below) (Some part) awaits.Nothing = heard_halts s 1
 heard_replied me s seal (e ∷ below) (Some part) awaits.Turn = heard_halts s 1
 heard_replied me s seal (e ∷ below) (Some part) awaits.Entries = heard_halts s 1
@@ -63,17 +98,40 @@ heard_replied me s seal (e ∷ below) (Some part) (awaits.Content h n) = heard_h
 heard_updated : (s : Standing) (seal : Seal) (part : Option Part) (own : List Own) → Heard s (updated s seal part own)
 heard_updated s seal None own = heard_halts s 1
 heard_updated s seal (Some part) [] = heard_halts s 1
-heard_updated s seal (Some part) (o ∷ others) = record { calls = refl; busy = λ x e. refl; quiet = λ x e. refl }
+heard_updated s seal (Some part) (o ∷ others) = record { calls = omega arith; busy = λ x e. refl; quiet = λ x e. refl }
+
+heard_waited : (s : Standing) (p : Phase) → Heard s (waited s p)
+heard_waited s phase.Closed = record { calls = omega arith; busy = λ x e. absurd cc; quiet = λ x e. absurd cc }
+heard_waited s (phase.Keeping k h len) = record { calls = omega arith; busy = λ x e. absurd cc; quiet = λ x e. absurd cc }
+heard_waited s phase.Calling = record { calls = omega arith; busy = λ x e. absurd cc; quiet = λ x e. absurd cc }
+heard_waited s (phase.Fetching h len) = record { calls = omega arith; busy = λ x e. refl; quiet = λ x e. refl }
+
+-- the put of a store whose content is kept is the call that was to come
+heard_kept : (s : Standing) (p : Phase) → s.phase ≡ p → Heard s (goes_to s false (kept_at p))
+heard_kept s phase.Closed is = heard_halts s 1
+heard_kept s (phase.Keeping k h len) is =
+    let one : will_call s.phase ≡ 1 = ap will_call is in
+    record { calls = omega (arith, one); busy = λ x e. refl; quiet = λ x e. refl }
+heard_kept s phase.Calling is = heard_halts s 1
+heard_kept s (phase.Fetching h len) is = heard_halts s 1
+
+heard_refused : (s : Standing) (r : ℕ) (a : Awaiting) → Heard s (refused_at s r a)
+heard_refused s r awaits.Kept = record { calls = omega arith; busy = λ x e. absurd cc; quiet = λ x e. absurd cc }
+heard_refused s r awaits.Nothing = let less = none_more s.phase (outcome.Refused r) in record { calls = omega (arith, less); busy = λ x e. absurd cc; quiet = λ x e. absurd cc }
+heard_refused s r (awaits.Reply n o load) = let less = none_more s.phase (outcome.Refused r) in record { calls = omega (arith, less); busy = λ x e. absurd cc; quiet = λ x e. absurd cc }
+heard_refused s r awaits.Turn = let less = none_more s.phase (outcome.Refused r) in record { calls = omega (arith, less); busy = λ x e. absurd cc; quiet = λ x e. absurd cc }
+heard_refused s r awaits.Entries = let less = none_more s.phase (outcome.Refused r) in record { calls = omega (arith, less); busy = λ x e. absurd cc; quiet = λ x e. absurd cc }
+heard_refused s r (awaits.Content h n) = let less = none_more s.phase (outcome.Refused r) in record { calls = omega (arith, less); busy = λ x e. absurd cc; quiet = λ x e. absurd cc }
 
 heard_taken : (me : ℕ) (s : Standing) (m : ToClient) → Heard s (taken me s m)
 heard_taken me s (say.Reply seal entries part) = heard_replied me s seal (grown s entries) (read_part part) s.awaiting
-heard_taken me s say.Wait = record { calls = refl; busy = λ x e. absurd cc; quiet = λ x e. absurd cc }
+heard_taken me s say.Wait = heard_waited s s.phase
 heard_taken me s (say.Update seal part) = heard_updated s seal (read_part part) s.own
-heard_taken me s (say.Entries seal entries) = record { calls = refl; busy = λ x e. absurd cc; quiet = λ x e. absurd cc }
-heard_taken me s (say.Refused r) = record { calls = refl; busy = λ x e. absurd cc; quiet = λ x e. absurd cc }
+heard_taken me s (say.Entries seal entries) = record { calls = omega arith; busy = λ x e. absurd cc; quiet = λ x e. absurd cc }
+heard_taken me s (say.Refused r) = heard_refused s r s.awaiting
 heard_taken me s say.Hi = heard_halts s 1
-heard_taken me s say.Kept = heard_halts s 1
-heard_taken me s (say.Content c) = heard_halts s 1
+heard_taken me s say.Kept = heard_kept s s.phase refl
+heard_taken me s (say.Content c) = record { calls = omega arith; busy = λ x e. absurd cc; quiet = λ x e. absurd cc }
 heard_taken me s say.Gone = heard_halts s 1
 heard_taken me s say.Absent = heard_halts s 1
 

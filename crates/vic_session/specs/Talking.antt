@@ -2,6 +2,9 @@
 use Rattle.std.specs.Prelude.{◌≡◌, ℕ, ◌+◌, ◌≤◌, List, ◌++◌, length, Option, Some, None, Result, Ok, Err}
 use Rattle.vic_rules.specs.declared.trace.Input.{Input}
 use Rattle.vic_rules.specs.declared.trace.Input.TheVariants as input
+use Rattle.vic_rules.specs.declared.object.Phase.{Phase}
+use Rattle.vic_rules.specs.declared.object.Phase.TheVariants as phase
+use Rattle.vic_rules.specs.Objects.{FitsObject}
 use Rattle.vic_rules.specs.Client.{Standing, step, payload_of}
 use Rattle.vic_client.specs.declared.step.Step.{Step}
 use Rattle.vic_client.specs.Kept.{Kept, StandsFor, group_of}
@@ -51,16 +54,27 @@ IsBusy at.Leaves = ⊥
 IsBusy (at.Bad k) = ⊥
 IsBusy (at.Halts k h) = ⊥
 
+-- a store whose content was sent is still to call its put
+abbrev pub will_call : Phase → ℕ
+will_call phase.Closed = 0
+will_call (phase.Keeping k h len) = 1
+will_call phase.Calling = 0
+will_call (phase.Fetching h len) = 0
+
+-- how often a client has called, and is to call for what it was asked
+abbrev pub calls_of : Standing → ℕ
+calls_of s = s.calls + will_call s.phase
+
 -- the client stands somewhere, and has called no more often than lines were begun
 abbrev pub Stands : Kept → ℕ → Type 0
-Stands c number = (s : Standing) × (StandsFor c s × (s.calls ≤ number))
+Stands c number = (s : Standing) × (StandsFor c s × (calls_of s ≤ number))
 
 -- what the client, the place and the print are, of a talk that began with this print
 pub record On (w : Talker) (t : Talk) (start : List ℕ) (c : Kept) (p : Place) (out : List ℕ) : Type 0 where
   pub me : c.id ≡ w.me
   pub group : group_of c ≡ w.group
   pub stands_so : StandsFor c t.now
-  pub few : t.now.calls ≤ p.number
+  pub few : calls_of t.now ≤ p.number
   pub total : w.total ≡ p.total
   pub number : t.number ≡ p.number
   pub behind : t.behind ≡ p.behind
@@ -99,6 +113,7 @@ Rests begun.Bad old new = new ≡ old
 -- a line may be begun in a group of this mode
 abbrev pub CanBegin : ClientLine → Mode → Type 0
 CanBegin (line.Call o) kind = (kind ≡ mode.Plain) × Fits o
+CanBegin (line.Object c) kind = (kind ≡ mode.Objects) × FitsObject c
 CanBegin line.Poll kind = Unit {0}
 CanBegin line.Sync kind = Unit {0}
 CanBegin (line.Settle n) kind = Unit {0}
@@ -140,7 +155,7 @@ pub record Heard (w : Talker) (t : Talk) (start payload : List ℕ) (r : Step) (
   pub me : c.id ≡ w.me
   pub group : group_of c ≡ w.group
   pub stands_so : StandsFor c (steps w t (input.Payload payload)).now
-  pub few : t.now.calls ≤ p.number
+  pub few : calls_of t.now ≤ p.number
   pub total : w.total ≡ p.total
   pub number : t.number ≡ p.number
   pub behind : t.behind ≡ p.behind
@@ -149,3 +164,4 @@ pub record Heard (w : Talker) (t : Talk) (start payload : List ℕ) (r : Step) (
   pub doing : IsDoing p.doing t.doing
   pub send : r.send ≡ payload_of w.group w.me (step w.group w.me t.now (input.Payload payload)).next (step w.group w.me t.now (input.Payload payload)).sends
   pub returned : r.returned ≡ (step w.group w.me t.now (input.Payload payload)).returns
+  pub object : r.object ≡ (step w.group w.me t.now (input.Payload payload)).object

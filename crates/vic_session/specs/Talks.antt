@@ -3,13 +3,14 @@ use Rattle.std.specs.Prelude.{ℕ, zero, suc, ◌+◌, ◌&&◌, Bool, List, [],
 use Rattle.std.specs.Fmt.{decimal}
 use Rattle.std.specs.List.{flat_map}
 use Rattle.vic_dict.specs.declared.op.Outcome.{Outcome}
+use Rattle.vic_rules.specs.declared.object.ObjectOutcome.{ObjectOutcome}
 use Rattle.vic_wire.specs.Texts.{content_text}
 use Rattle.vic_wire.specs.Hashes.{Group, hash}
 use Rattle.vic_rules.specs.declared.trace.Input.{Input}
 use Rattle.vic_rules.specs.declared.trace.Input.TheVariants as input
 use Rattle.vic_rules.specs.declared.trace.TraceStep.{TraceStep}
 use Rattle.vic_rules.specs.Client.{Standing, at_start, step, payload_of, awaits_nothing}
-use Rattle.vic_script.specs.Words.{outcome_words, newline}
+use Rattle.vic_script.specs.Words.{outcome_words, object_words, newline}
 use Rattle.vic_script.specs.Lines.{lines_of}
 use Rattle.vic_script.specs.Run.{limit, place_behind}
 use Rattle.vic_text.specs.declared.client_line.ClientLine.{ClientLine}
@@ -71,6 +72,7 @@ abbrev pub begins : Talker → Talk → Option ClientLine → (Talk → Talk) �
 begins w t None next = record t { doing = Bad 1 }
 begins w t (Some line.Skip) next = next t
 begins w t (Some (line.Call o)) next = asks w t (input.Call o) Calls
+begins w t (Some (line.Object c)) next = asks w t (input.Object c) Calls
 begins w t (Some line.Poll) next = asks w t input.Poll Tells
 begins w t (Some line.Sync) next = asks w t input.Sync Tells
 begins w t (Some (line.Settle zero)) next = next (tells_state t)
@@ -98,16 +100,27 @@ ends_line w t doing = t
 abbrev pub is_idle : Standing → Bool
 is_idle s = awaits_nothing s.awaiting && is_none s.halted
 
--- the outcome that the newest step returned
+-- the outcomes that the newest step returned, of a call and of a call on objects
 abbrev pub returned_in : List TraceStep → Option Outcome
 returned_in [] = None
 returned_in (x ∷ past) = x.returned
 
--- what is printed of it; a halt is told at the session's end
-abbrev pub outcome_line : Option ℕ → Option Outcome → List ℕ
-outcome_line (Some check) returned = []
-outcome_line None None = []
-outcome_line None (Some o) = outcome_words o ++ newline
+abbrev pub object_in : List TraceStep → Option ObjectOutcome
+object_in [] = None
+object_in (x ∷ past) = x.object
+
+abbrev pub outcome_line : Option Outcome → List ℕ
+outcome_line None = []
+outcome_line (Some o) = outcome_words o ++ newline
+
+abbrev pub object_line : Option ObjectOutcome → List ℕ
+object_line None = []
+object_line (Some q) = object_words q ++ newline
+
+-- what is printed of them; a halt is told at the session's end
+abbrev pub outcome_lines : Option ℕ → Option Outcome → Option ObjectOutcome → List ℕ
+outcome_lines (Some check) returned object = []
+outcome_lines None returned object = outcome_line returned ++ object_line object
 
 abbrev pub goes_from : Talker → Talk → List ℕ → Option ℕ → Talk
 goes_from w t payload (Some check) = record t { doing = Halts check payload }
@@ -118,7 +131,7 @@ unfoldable pub hears : Talker → Talk → List ℕ → Talk
 hears w t payload =
     let u = steps w t (input.Payload payload) in
     let halted = u.now.halted in
-    goes_from w (record u { text = u.text ++ outcome_line halted (returned_in u.history) }) payload halted
+    goes_from w (record u { text = u.text ++ outcome_lines halted (returned_in u.history) (object_in u.history) }) payload halted
 
 -- ---- the whole
 

@@ -6,7 +6,7 @@ ghost use Rattle.vic_client.specs.Kept.{StandsFor, is_idle};
 ghost use Rattle.vic_client.specs.Pending.{FitsFrame};
 ghost use Rattle.vic_dict.specs.declared.op.Mode.{Mode as AMode};
 ghost use Rattle.vic_text.specs.ClientLines.{client_line_of};
-ghost use Rattle.vic_session.specs.Talks.{outcome_line, returned_in, Talk, Talker, state_line, goes_on, ends_line, hears, asks, tells_state, Settles};
+ghost use Rattle.vic_session.specs.Talks.{outcome_line, object_line, outcome_lines, Talk, Talker, state_line, goes_on, ends_line, hears, asks, tells_state, Settles};
 ghost use Rattle.vic_rules.specs.declared.trace.Input.TheVariants as input;
 ghost use Rattle.vic_session.specs.Talking.{On, IsWithin, IsFine, IsDoing, Stands, GoesTo, Began, Rests, CanBegin, Lined, LinedAt, FitsIn, MaySend, IsBusy, Heard};
 ghost use Rattle.vic_session.specs.declared.place.Place.{Place as APlace};
@@ -17,7 +17,10 @@ use std::alloc::Global;
 use vic_client::{Client, Step};
 use vic_dict::{Bytes, NoMemory, Outcome};
 use vic_hash::content;
-use vic_text::{ClientLine, LineFault, SCRIPT_LIMIT, outcome_text, put_number, read_client_line};
+use vic_rules::ObjectOutcome;
+use vic_text::{
+    ClientLine, LineFault, SCRIPT_LIMIT, object_text, outcome_text, put_number, read_client_line,
+};
 
 /// What beginning a line comes to.
 #[derive(Debug, Drop)]
@@ -96,6 +99,9 @@ fn begin_line(
         ClientLine::Skip => Ok(Begun::Next),
         ClientLine::Call(op) => {
             Ok(Begun::Asks(request_for(alloc, client, Given::Call(op))?, At::Calls))
+        }
+        ClientLine::Object(call) => {
+            Ok(Begun::Asks(request_for(alloc, client, Given::Object(call))?, At::Calls))
         }
         ClientLine::Poll => { Ok(Begun::Asks(request_for(alloc, client, Given::Poll)?, At::Tells)) }
         ClientLine::Sync => { Ok(Begun::Asks(request_for(alloc, client, Given::Sync)?, At::Tells)) }
@@ -277,16 +283,43 @@ fn end_line(
     }
 }
 
-// What is printed of an outcome. Where memory runs out, nothing is.
-fn tell_outcome(alloc: Global, returned: &Option<Outcome>, out: &mut Bytes) -> Result<(), NoMemory>
-    ensures ok { OnOk result (out.new ≡ out.old ++ outcome_line None returned.now) }
-    ensures err { OnErr result (out.new ≡ out.old) }
+// The line of a call's outcome, if there is one.
+fn outcome_line_of(alloc: Global, returned: &Option<Outcome>) -> Result<Bytes, NoMemory>
+    ensures { IfOk result (λ text. text ≡ outcome_line returned.now) }
 {
     let Some(outcome) = returned else {
-        return Ok(());
+        return Ok(Bytes::new(alloc));
     };
     let mut text = outcome_text(alloc, outcome)?;
     text.append(b"\n")?;
+    Ok(text)
+}
+
+// The line of the outcome of a call on objects, if there is one.
+fn object_line_of(alloc: Global, object: &Option<ObjectOutcome>) -> Result<Bytes, NoMemory>
+    ensures { IfOk result (λ text. text ≡ object_line object.now) }
+{
+    let Some(outcome) = object else {
+        return Ok(Bytes::new(alloc));
+    };
+    let mut text = object_text(alloc, outcome)?;
+    text.append(b"\n")?;
+    Ok(text)
+}
+
+// What is printed of the outcomes of a step: that of a call, and then that of a call on objects. Where memory runs out, nothing is.
+fn tell_outcomes(
+    alloc: Global,
+    returned: &Option<Outcome>,
+    object: &Option<ObjectOutcome>,
+    out: &mut Bytes,
+) -> Result<(), NoMemory>
+    ensures ok { OnOk result (out.new ≡ out.old ++ outcome_lines None returned.now object.now) }
+    ensures err { OnErr result (out.new ≡ out.old) }
+{
+    let mut text = outcome_line_of(alloc, returned)?;
+    let more = object_line_of(alloc, object)?;
+    text.append(more.as_slice())?;
     out.append(text.as_slice())
 }
 
@@ -315,8 +348,12 @@ fn hear_step(
         place.doing = At::Halts(check, content(payload));
         return Ok(None);
     }
-    let Step { send, returned } = step;
-    match tell_outcome(alloc, &returned, out) {
+    let Step {
+        send,
+        returned,
+        object,
+    } = step;
+    match tell_outcomes(alloc, &returned, &object, out) {
         Ok(()) => (),
         Err(NoMemory) => return Err(NoMemory),
     }

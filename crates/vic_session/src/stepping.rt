@@ -10,11 +10,13 @@ ghost use Rattle.vic_session.specs.Stepping.{input_of, IsAsked, MayBeGiven};
 use std::alloc::Global;
 use vic_client::{Client, Pending, Step};
 use vic_dict::{Bytes, NoMemory, Op};
+use vic_rules::ObjectCall;
 
 /// What a client is asked for, or a payload that it takes.
 #[derive(Clone, Copy)]
 pub enum Given<'a> {
     Call(&'a Op),
+    Object(&'a ObjectCall),
     Poll,
     Sync,
     Payload(&'a [u8]),
@@ -30,6 +32,7 @@ fn plan(alloc: Global, client: &mut Client, given: Given<'_>) -> Result<Pending,
 {
     match given {
         Given::Call(op) => client.plan_call(alloc, op),
+        Given::Object(call) => client.plan_object(alloc, call),
         Given::Poll => client.plan_poll(alloc),
         Given::Sync => client.plan_sync(alloc),
         Given::Payload(payload) => client.hear(alloc, payload),

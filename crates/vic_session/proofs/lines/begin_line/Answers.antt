@@ -4,7 +4,7 @@ use Rattle.vic_text.specs.declared.client_line.ClientLine.{ClientLine}
 use Rattle.vic_session.specs.declared.place.At.TheVariants as at
 use Rattle.vic_session.specs.Talks.{Calls, Tells, begins}
 use Rattle.vic_session.specs.Talking.{Began}
-use Rattle.vic_session.proofs.Begins.{asks_went, calls_poll, calls_sync, calls_call}
+use Rattle.vic_session.proofs.Begins.{asks_went, calls_poll, calls_sync, calls_call, calls_object}
 use Rattle.vic_session.proofs.lines.begin_line.Goals as goal
 
 pub returns-in_ok-request_for-in-Call-clause-began : goal.returns-in_ok-request_for-in-Call-clause-began
@@ -20,6 +20,25 @@ returns-in_ok-request_for-in-Call-clause-began c = λ w t start p on few. (
           refl,
           asks_went w t start c.args.client.now p c.args.out.now on (input.Call c.in-Call.op) Calls at.Calls c.request_for.new.client c.in_ok-request_for-in-Call.field-0 c.in_ok-request_for-in-Call.ensures.same
               (c.in_ok-request_for-in-Call.ensures.stands t.now on.stands_so) (c.in_ok-request_for-in-Call.ensures.sent t.now on.stands_so) (calls_call w t p.number c.in-Call.op few) refl,
+        ),
+      ),
+    ),
+  ),
+)
+
+pub returns-in_ok-request_for-in-Object-clause-began : goal.returns-in_ok-request_for-in-Object-clause-began
+returns-in_ok-request_for-in-Object-clause-began c = λ w t start p on few. (
+  input.Object c.in-Object.call,
+  (
+    Calls,
+    (
+      (λ next. ap (λ (l : ClientLine). begins w t (Some l) next) c.in-Object.is),
+      (
+        refl,
+        (
+          refl,
+          asks_went w t start c.args.client.now p c.args.out.now on (input.Object c.in-Object.call) Calls at.Calls c.request_for-in-Object.new.client c.in_ok-request_for-in-Object.field-0 c.in_ok-request_for-in-Object.ensures.same
+              (c.in_ok-request_for-in-Object.ensures.stands t.now on.stands_so) (c.in_ok-request_for-in-Object.ensures.sent t.now on.stands_so) (calls_object w t p.number c.in-Object.call few) refl,
         ),
       ),
     ),

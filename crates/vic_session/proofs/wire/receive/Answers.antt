@@ -1,4 +1,4 @@
-use Rattle.std.proofs.Common.{◌≡◌, ◌++◌, ◌+◌, ◌<◌, List, ℕ, take, length, ap, subst, ◌∙◌, Ok, Err, rules, arith}
+use Rattle.std.proofs.Common.{◌≡◌, ◌++◌, ◌+◌, List, ℕ, take, length, ap, subst, ◌∙◌, Ok, Err, rules, arith}
 use Rattle.std.proofs.lemmas.Grind.{common_steps}
 use Rattle.std.proofs.lemmas.List.{length-append, length-take-le}
 use Rattle.vic_conn.specs.Frames.{Waits, Broken, front_of}
