@@ -1,5 +1,5 @@
 -- What a lawful step made and took is what its payloads tell.
-use Rattle.std.proofs.Common.{◌≡◌, ℕ, ◌+◌, ◌≤◌, List, [], ◌∷◌, ◌++◌, length, map, Option, Some, None, nat_eq, refl, sym, ◌∙◌, ap, subst, arith}
+use Rattle.std.proofs.Common.{◌≡◌, ℕ, ◌+◌, ◌≤◌, List, [], ◌∷◌, ◌++◌, length, map, Option, Some, None, nat_eq, if◌then◌else◌, refl, sym, ◌∙◌, ap, subst, arith}
 use Rattle.std.specs.Option.{option_to_list}
 use Rattle.vic_dict.specs.declared.op.Entry.{Entry}
 use Rattle.vic_dict.specs.Lists.{front}
@@ -11,7 +11,7 @@ use Rattle.vic_wire.specs.Hashes.{Group, chain}
 use Rattle.vic_spellings.proofs.SpelledRequests.{request_again}
 use Rattle.vic_rules.specs.declared.trace.Input.{Input}
 use Rattle.vic_rules.specs.declared.trace.TraceStep.{TraceStep}
-use Rattle.vic_rules.specs.Client.{Standing, Move, Sending, Invokes, Commits, Polls, Seals, Syncs, Keeps, Fetches, step, request_of, payload_of, made_text, commit_text_on, seal_text_on, seal_of, entries_of}
+use Rattle.vic_rules.specs.Client.{Standing, Move, Sending, Invokes, Commits, Polls, Seals, Syncs, Keeps, Fetches, request_of, payload_of, made_text, commit_text_on, seal_text_on, seal_of, entries_of}
 use Rattle.vic_rules.specs.History.{standing, path, move_of, AreSteps}
 use Rattle.vic_rules.specs.Trust.{taken_by, took, seal_texts, checked_texts, texts_taken, text_sent, texts_made}
 use Rattle.vic_laws.proofs.Words.{some_same, none_is_some}

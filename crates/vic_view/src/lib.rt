@@ -6,12 +6,15 @@
 //! tag no client had made is `is_forged` there, and means `IsForged` of `vic_rules`; both are in the contract of `forged`.
 //! `view_plainly` has the contract of `view_of`, and `forged_plainly` the clause `is` of `forged`; they are the definitions read off
 //! directly.
+//!
+//! The calls of a view are those on the dictionary. In a group with objects a view shows the references, never the contents: a
+//! store is the put of 36 bytes, and a load the get that finds them.
 #![tactic(auto)]
 
 mod forgery;
 pub mod plain;
 pub mod print;
-mod replay;
+pub mod replay;
 pub mod transcript;
 pub mod view;
 pub mod views;
@@ -19,10 +22,11 @@ pub mod views;
 pub use forgery::forged;
 pub use plain::{forged_plainly, view_plainly};
 pub use print::{Printed, print_end, print_views};
+pub use replay::{ClientPath, Place, Places, answer_taken, path_of};
 pub use transcript::Transcript;
 pub use vic_rules::{Input, Shown, TraceStep};
 pub use view::{View, agree};
-pub use views::view_of;
+pub use views::{common_length, view_of};
 
 #[cfg(test)]
 mod tests;

@@ -16,14 +16,14 @@ use vic_wire::{Tagged, TaggedList, ToClient};
 
 /// A position of a client's path: the entry, and how the client completed this call here, if it did.
 #[derive(Debug, Drop)]
-pub(crate) struct Place {
-    pub(crate) entry: Entry,
-    pub(crate) outcome: Option<Outcome>,
+pub struct Place {
+    pub entry: Entry,
+    pub outcome: Option<Outcome>,
 }
 
 /// A list of places, the oldest first.
 #[derive(Debug, Drop)]
-pub(crate) struct Places {
+pub struct Places {
     items: Vec<Place>,
 }
 
@@ -51,7 +51,8 @@ impl Places {
         self.items.len()
     }
 
-    pub(crate) fn as_slice(&self) -> &[Place]
+    /// All places, the oldest first.
+    pub fn as_slice(&self) -> &[Place]
         ensures { result.now ≡ self.now }
     {
         self.items.as_slice()
@@ -76,9 +77,9 @@ impl Places {
 
 /// A client's path, and how long it was when the client last completed a call.
 #[derive(Debug, Drop)]
-pub(crate) struct ClientPath {
-    pub(crate) places: Places,
-    pub(crate) done: usize,
+pub struct ClientPath {
+    pub places: Places,
+    pub done: usize,
 }
 
 fn has_halted(returned: &Option<Outcome>) -> bool
@@ -138,8 +139,8 @@ fn decode_whole(alloc: Global, payload: &[u8]) -> Result<Option<ToClient>, NoMem
     }
 }
 
-/// The answer that a client took at a step without halting.
-pub(crate) fn answer_taken(alloc: Global, step: &TraceStep) -> Result<Option<ToClient>, NoMemory>
+/// The answer that a client took at a step without halting. It costs the answer.
+pub fn answer_taken(alloc: Global, step: &TraceStep) -> Result<Option<ToClient>, NoMemory>
     ensures value { IfOk result (λ o. o ≡ read_by step.now.input step.now.returned) }
     ensures spelled { IfOk result (λ o. IfSome o HasSpelling) }
 {
@@ -212,8 +213,8 @@ pub(crate) fn path_in(
     Ok(path)
 }
 
-/// The path of a client, read from its steps.
-pub(crate) fn path_of(alloc: Global, t: &Transcript, client: u8) -> Result<ClientPath, NoMemory>
+/// The path of a client, read from its steps. It costs these, and a look at each of the others.
+pub fn path_of(alloc: Global, t: &Transcript, client: u8) -> Result<ClientPath, NoMemory>
     ensures { IfOk result (λ p. p ≡ replayed client (history_of t.now)) }
 {
     path_in(alloc, t.as_slice(), client)

@@ -298,9 +298,9 @@ fn input_of(alloc: Global, taken: &[u8]) -> Result<Input, NoMemory> {
     let name = Bytes::of(alloc, b"a")?;
     Ok(if taken.is_empty() {
         Input::Call(Op::Get(name))
-    } else if taken == b"store" {
+    } else if taken == b"store".as_slice() {
         Input::Object(ObjectCall::Store(name, Bytes::of(alloc, b"x")?))
-    } else if taken == b"load" {
+    } else if taken == b"load".as_slice() {
         Input::Object(ObjectCall::Load(name))
     } else {
         Input::Payload(payload_of(alloc, taken)?)

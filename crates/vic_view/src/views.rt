@@ -64,8 +64,8 @@ pub(crate) fn all_paths(alloc: Global, t: &Transcript) -> Result<Paths, NoMemory
     Ok(all)
 }
 
-/// How many entries two paths have in common at their front.
-fn common_length(a: &[Place], b: &[Place]) -> usize
+/// How many entries two paths have in common at their front. It takes no memory, and costs that number.
+pub fn common_length(a: &[Place], b: &[Place]) -> usize
     ensures { result ≡ common a.now b.now }
 {
     let mut length = 0;
