@@ -26,37 +26,38 @@ use Rattle.vic_view.specs.Plain.{prefix_of}
 use Rattle.vic_view.specs.Replay.{common, outcome_of, outcome_there, shown_by, shown_place, shown_below, replayed}
 use Rattle.vic_view.specs.Making.{IsPlaceEntry}
 use Rattle.vic_view.proofs.Forging.{replayed_spelled}
-use Rattle.vic_view.proofs.Making.{path_few}
+use Rattle.vic_made.proofs.Spelled.{path_few}
 use Rattle.vic_view.proofs.Replays.{replays_path}
 use Rattle.vic_view.proofs.Shows.{stranger, shows_front}
 use Rattle.vic_apart.specs.declared.stand.Stand.{Stand}
-use Rattle.vic_apart.specs.Places.{PathPlace, is_done_with, is_done_at}
+use Rattle.vic_view.specs.declared.replay.Place.{Place}
+use Rattle.vic_apart.specs.Places.{is_done_with, is_done_at}
 use Rattle.vic_apart.specs.Stands.{no_stand, StandsAs, AreStands}
 use Rattle.vic_apart.specs.Sealed.{paths_in, lengths_with, is_done_among, left_texts}
 use Rattle.vic_apart.proofs.Gathered.{gathered_same, position_next}
 
 -- ---- which calls were done
 
-none_with_nothing : (mine : List PathPlace) → common mine [] ≡ 0
+none_with_nothing : (mine : List Place) → common mine [] ≡ 0
 none_with_nothing [] = refl
 none_with_nothing (p ∷ mine) = refl
 
-length_at : (mine : List PathPlace) (all : List Stand) (k : ℕ) → get_or (lengths_with mine all) k 0 ≡ common mine (get_or all k no_stand).path
+length_at : (mine : List Place) (all : List Stand) (k : ℕ) → get_or (lengths_with mine all) k 0 ≡ common mine (get_or all k no_stand).path
 length_at mine [] k = sym (none_with_nothing mine)
 length_at mine (s ∷ all) zero = refl
 length_at mine (s ∷ all) (suc k) = length_at mine all k
 
-length_is : (mine : List PathPlace) (all : List Stand) (owner : ℕ) (b : Bool) → (if b then 0 else get_or (lengths_with mine all) (owner - 1) 0) ≡ common mine (if b then [] else (get_or all (owner - 1) no_stand).path)
+length_is : (mine : List Place) (all : List Stand) (owner : ℕ) (b : Bool) → (if b then 0 else get_or (lengths_with mine all) (owner - 1) 0) ≡ common mine (if b then [] else (get_or all (owner - 1) no_stand).path)
 length_is mine all owner true = sym (none_with_nothing mine)
 length_is mine all owner false = length_at mine all (owner - 1)
 
-done_if : (b : Bool) (s : Option PathPlace) → (if b then is_done_at s else false) ≡ is_done_with (if b then outcome_of s else None)
+done_if : (b : Bool) (s : Option Place) → (if b then is_done_at s else false) ≡ is_done_with (if b then outcome_of s else None)
 done_if true None = refl
 done_if true (Some p) = refl
 done_if false s = refl
 
 -- with the lengths in common, what is done is what the comparison of the two paths finds
-done_among : (mine : List PathPlace) (all : List Stand) (owner n : ℕ) → is_done_among (lengths_with mine all) all owner n ≡ is_done_with (outcome_there mine (paths_in all owner) n)
+done_among : (mine : List Place) (all : List Stand) (owner n : ℕ) → is_done_among (lengths_with mine all) all owner n ≡ is_done_with (outcome_there mine (paths_in all owner) n)
 done_among mine all owner n =
     ap (λ (k : ℕ). if nat_lt n k then is_done_at (slice_get (paths_in all owner) n) else false) (length_is mine all owner (nat_eq owner 0))
     ∙ done_if (nat_lt n (common mine (paths_in all owner))) (slice_get (paths_in all owner) n)
@@ -71,21 +72,21 @@ left_shown (Some (outcome.Aborted u)) e v = refl
 left_shown (Some (outcome.Refused r)) e v = refl
 left_shown (Some (outcome.Halted k)) e v = refl
 
-shown_next : (paths : ℕ → List PathPlace) (mine : List PathPlace) (n : ℕ) (p : PathPlace) → slice_get mine n ≡ Some p
+shown_next : (paths : ℕ → List Place) (mine : List Place) (n : ℕ) (p : Place) → slice_get mine n ≡ Some p
     → shown_by p.entry (outcome_there mine (paths p.entry.client) n) ++ shown_below paths mine n ≡ shown_below paths mine (n + 1)
 unfolding shown_below
 shown_next paths mine n p there =
     let next : suc n ≡ n + 1 = omega arith in
-    ap (λ (s : Option PathPlace). shown_place paths mine n s ++ shown_below paths mine n) (sym there) ∙ ap (shown_below paths mine) next
+    ap (λ (s : Option Place). shown_place paths mine n s ++ shown_below paths mine n) (sym there) ∙ ap (shown_below paths mine) next
 
-get_there : (ps : List PathPlace) (i : ℕ) (p : PathPlace) → i < length ps → p ≡ get_or ps i p → slice_get ps i ≡ Some p
+get_there : (ps : List Place) (i : ℕ) (p : Place) → i < length ps → p ≡ get_or ps i p → slice_get ps i ≡ Some p
 get_there [] i p lt is = absurd (omega arith)
 get_there (q ∷ ps) zero p lt is = ap Some (sym is)
 get_there (q ∷ ps) (suc i) p lt is = get_there ps i p (omega arith) is
 
 -- ---- what the loop over positions keeps
 
-pub record Leaves (all : List Stand) (mine : List PathPlace) (first ts : List (List ℕ)) (d : Dictionary) (n : ℕ) : Type 0 where
+pub record Leaves (all : List Stand) (mine : List Place) (first ts : List (List ℕ)) (d : Dictionary) (n : ℕ) : Type 0 where
   pub dict : d ≡ left_by (shown_below (paths_in all) mine n)
   pub light : weight_of d ≤ 335 * n
   pub texts : ts ≡ first ++ gathered (left_texts (paths_in all) mine) (zero_to n)
@@ -95,7 +96,7 @@ no_weight =
     let none : weight_of nothing ≡ 0 = ap (sum_by pair_weight) (ap finmap.entries (sym empty_is) ∙ entries_of Empty tt) in
     omega arith
 
-pub leaves_start : (all : List Stand) (mine : List PathPlace) (first ts : List (List ℕ)) (d : Dictionary) → d ≡ finmap.empty → ts ≡ first ++ node_texts (tree_of d) → Leaves all mine first ts d 0
+pub leaves_start : (all : List Stand) (mine : List Place) (first ts : List (List ℕ)) (d : Dictionary) → d ≡ finmap.empty → ts ≡ first ++ node_texts (tree_of d) → Leaves all mine first ts d 0
 unfolding shown_below left_by
 leaves_start all mine first ts d e is = record {
   dict = e;
@@ -103,7 +104,7 @@ leaves_start all mine first ts d e is = record {
   texts = is ∙ ap (λ (x : Dictionary). first ++ node_texts (tree_of x)) e ∙ sym (ap (λ (xs : List (List ℕ)). first ++ xs) (append-nil (node_texts (tree_of nothing))));
 }
 
-pub leaves_next : (all : List Stand) (mine : List PathPlace) (first ts us : List (List ℕ)) (d more : Dictionary) (n : ℕ) (p : PathPlace) (e : Entry) (lengths : List ℕ) (done : Bool)
+pub leaves_next : (all : List Stand) (mine : List Place) (first ts us : List (List ℕ)) (d more : Dictionary) (n : ℕ) (p : Place) (e : Entry) (lengths : List ℕ) (done : Bool)
     → n < length mine → p ≡ get_or mine n p → e ≡ p.entry → lengths ≡ lengths_with mine all → done ≡ is_done_among lengths all e.client n
     → Leaves all mine first ts d n → more ≡ (if done then after d e.op else d) → weight_of more ≤ weight_of d + 335 → us ≡ ts ++ node_texts (tree_of more)
     → Leaves all mine first us more (n + 1)
@@ -161,7 +162,7 @@ path_entries g h lawful me s st = subst (AllByRecursion IsPlaceEntry) (sym st.pa
 
 path_length : (g : Group) (h : List TraceStep) → IsLawful g h → (me : ℕ) (s : Stand) → StandsAs g me h s → length s.path ≡ length (path g me h)
 path_length g h lawful me s st =
-    sym (length-map s.path (λ (p : PathPlace). p.entry)) ∙ sym (length-reverse (map (λ (p : PathPlace). p.entry) s.path)) ∙ ap length (path_is g h lawful me s st)
+    sym (length-map s.path (λ (p : Place). p.entry)) ∙ sym (length-reverse (map (λ (p : Place). p.entry) s.path)) ∙ ap length (path_is g h lawful me s st)
 
 pub few_places : (g : Group) (h : List TraceStep) → IsLawful g h → (me : ℕ) (s : Stand) → StandsAs g me h s → length s.path ≤ 1048576
 few_places g h lawful me s st = subst (λ (n : ℕ). n ≤ 1048576) (sym (path_length g h lawful me s st)) (path_few g h lawful.steps me)
@@ -181,8 +182,8 @@ left_is g h lawful all every same r me s st =
     at_each : (n : ℕ) → n ≤ s.sealed → left_texts (paths_in all) s.path n ≡ applied g h (front n (path g me h))
     at_each n le =
         let within : s.sealed ≤ length s.path = sealed_within g h lawful me s st in
-        let es : List Entry = map (λ (p : PathPlace). p.entry) s.path in
-        let here : n ≤ length es = omega (arith, within, le, length-map s.path (λ (p : PathPlace). p.entry)) in
+        let es : List Entry = map (λ (p : Place). p.entry) s.path in
+        let here : n ≤ length es = omega (arith, within, le, length-map s.path (λ (p : Place). p.entry)) in
         ap (λ (v : List Shown). node_texts (tree_of (left_by v)))
         (shows_front g h lawful.steps (paths_in all) (paths_are g h lawful all r) s.path n (omega (arith, within, le))
         ∙ ap (confirmed_calls (completions g h)) (sym (front_turned es n here) ∙ ap (front n) (path_is g h lawful me s st)))

@@ -1,4 +1,5 @@
 pub mod Chained
+pub mod ContentsTold
 pub mod Gathered
 pub mod Leaving
 pub mod NodeTexts

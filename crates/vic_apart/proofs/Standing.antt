@@ -16,12 +16,12 @@ use Rattle.vic_laws.specs.Meanings.{parts_of}
 use Rattle.vic_laws.proofs.Steps.{Kind, is_quiet, is_called, is_replied, is_updated, is_listed}
 use Rattle.vic_laws.proofs.StepKinds.{step_kind}
 use Rattle.vic_laws.proofs.Standings.{standing_moved, standing_kept, earlier_steps}
-use Rattle.vic_view.specs.Replay.{read_by, entries_in, entries_at, completed_with, places_with, path_after, replayed}
+use Rattle.vic_view.specs.Replay.{read_by, replayed}
 use Rattle.vic_view.proofs.Loops.{newest_step}
-use Rattle.vic_view.proofs.Replays.{taken_told, replayed_own, replayed_other}
+use Rattle.vic_view.proofs.Replays.{taken_told}
 use Rattle.vic_view.proofs.Forging.{steps_then}
 use Rattle.vic_apart.specs.declared.stand.Stand.{Stand}
-use Rattle.vic_apart.specs.Stands.{no_stand, stand_with, StandsAs, AreStands}
+use Rattle.vic_apart.specs.Stands.{no_stand, stand_with, HasTaken, StandsAs, AreStands}
 
 -- ---- what an answer changes
 
@@ -33,21 +33,23 @@ sealed_by (Some (say.Update seal part)) n = seal.position + 1
 sealed_by (Some (say.Entries seal entries)) n = seal.position
 sealed_by (Some m) n = n
 
-with_path : (o : Option Outcome) (m : Option ToClient) (s : Stand) → (stand_with o m s).path ≡ s.path ++ places_with o (entries_in m)
-with_path o (Some (say.Reply seal entries part)) s = refl
-with_path o (Some (say.Entries seal entries)) s = refl
-with_path o _ s = sym (append-nil s.path)
+with_path : (m : Option ToClient) (s : Stand) → (stand_with m s).path ≡ s.path
+with_path None s = refl
+with_path (Some (say.Reply seal entries part)) s = refl
+with_path (Some (say.Update seal part)) s = refl
+with_path (Some (say.Entries seal entries)) s = refl
+with_path (Some _) s = refl
 
-with_parts : (o : Option Outcome) (m : Option ToClient) (s : Stand) → (stand_with o m s).parts ≡ s.parts ++ parts_in m
-with_parts o (Some (say.Reply seal entries part)) s = refl
-with_parts o (Some (say.Update seal part)) s = refl
-with_parts o _ s = sym (append-nil s.parts)
+with_parts : (m : Option ToClient) (s : Stand) → (stand_with m s).parts ≡ s.parts ++ parts_in m
+with_parts (Some (say.Reply seal entries part)) s = refl
+with_parts (Some (say.Update seal part)) s = refl
+with_parts _ s = sym (append-nil s.parts)
 
-with_sealed : (o : Option Outcome) (m : Option ToClient) (s : Stand) → (stand_with o m s).sealed ≡ sealed_by m s.sealed
-with_sealed o (Some (say.Reply seal entries part)) s = refl
-with_sealed o (Some (say.Update seal part)) s = refl
-with_sealed o (Some (say.Entries seal entries)) s = refl
-with_sealed o _ s = refl
+with_sealed : (m : Option ToClient) (s : Stand) → (stand_with m s).sealed ≡ sealed_by m s.sealed
+with_sealed (Some (say.Reply seal entries part)) s = refl
+with_sealed (Some (say.Update seal part)) s = refl
+with_sealed (Some (say.Entries seal entries)) s = refl
+with_sealed _ s = refl
 
 no_seal : (m : ToClient) (n : ℕ) → seal_of m ≡ None → sealed_by (Some m) n ≡ n
 no_seal (say.Reply seal entries part) n e = absurd cc
@@ -62,13 +64,15 @@ sealed_quiet (Some m) n h = sym (no_seal m n (h m refl).0)
 -- the answer that was taken tells the highest seal
 sealed_taken : (g : Group) (me : ℕ) (s : Standing) (i : Input) (v : Move) → Kind g me s i v → v.next.sealed ≡ sealed_by (taken_by v.next i) s.sealed
 sealed_taken g me s i v (is_quiet q) = q.sealed ∙ sealed_quiet (taken_by v.next i) s.sealed q.seals_nothing
-sealed_taken g me s i v (is_called c) = ap (λ (m : Move). m.next.sealed) c.moved ∙ ap (λ (j : Input). sealed_by (taken_by v.next j) s.sealed) (sym c.asked)
+sealed_taken g me s i v (is_called c) =
+    ap (λ (m : Move). m.next.sealed) c.moved
+    ∙ sealed_quiet (taken_by v.next i) s.sealed (λ m e. (ap seal_of (c.takes m e), ap entries_of (c.takes m e)))
 sealed_taken g me s i v (is_replied r) = ap (λ (m : Move). m.next.sealed) r.moved ∙ ap (λ (o : Option ToClient). sealed_by o s.sealed) (sym r.takes)
 sealed_taken g me s i v (is_updated u) = ap (λ (m : Move). m.next.sealed) u.moved ∙ ap (λ (o : Option ToClient). sealed_by o s.sealed) (sym u.takes)
 sealed_taken g me s i v (is_listed l) = ap (λ (m : Move). m.next.sealed) l.moved ∙ ap (λ (o : Option ToClient). sealed_by o s.sealed) (sym l.takes)
 
 -- what a lawful step took is what its input and outcome tell
-took_told : (g : Group) (past : List TraceStep) (x : TraceStep) → IsStep g past x → took g past x ≡ read_by x.input x.returned
+pub took_told : (g : Group) (past : List TraceStep) (x : TraceStep) → IsStep g past x → took g past x ≡ read_by x.input x.returned
 unfolding took
 took_told g past x is = taken_told g x.client (standing g x.client past) x.input ∙ ap (λ (o : Option Outcome). read_by x.input o) (sym is.returned)
 
@@ -80,57 +84,57 @@ parts_other : (g : Group) (me : ℕ) (x : TraceStep) (past : List TraceStep) →
 unfolding parts_of
 parts_other g me x past e = ap (λ (b : Bool). parts_of g me past ++ (if b then parts_in (took g past x) else [])) (ne_eqb x.client me e) ∙ append-nil (parts_of g me past)
 
-path_own : (me : ℕ) (x : TraceStep) (past : List TraceStep) → x.client ≡ me
-    → (replayed me (x ∷ past)).places ≡ (replayed me past).places ++ places_with (completed_with x.returned) (entries_at x)
-unfolding path_after
-path_own me x past e = ap (λ p. p.places) (replayed_own me x past e)
-
 -- ---- a step more
 
-stands_joined : (g : Group) (past : List TraceStep) (x : TraceStep) → IsStep g past x → (me : ℕ) → x.client ≡ me → (s : Stand) → StandsAs g me past s
-    → StandsAs g me (x ∷ past) (stand_with (completed_with x.returned) (read_by x.input x.returned) s)
-stands_joined g past x is me mine s before =
-    let o : Option Outcome = completed_with x.returned in
+taken_joined : (g : Group) (past : List TraceStep) (x : TraceStep) → IsStep g past x → (me : ℕ) → x.client ≡ me → (s : Stand) → HasTaken g me past s
+    → HasTaken g me (x ∷ past) (stand_with (read_by x.input x.returned) s)
+taken_joined g past x is me mine s before =
     let m : Option ToClient = read_by x.input x.returned in
     record {
-      path = with_path o m s ∙ ap (λ ps. ps ++ places_with o (entries_in m)) before.path ∙ sym (path_own me x past mine);
-      sealed = with_sealed o m s ∙ ap (sealed_by m) (before.sealed ∙ ap (λ (i : ℕ). (standing g i past).sealed) (sym mine))
+      sealed = with_sealed m s ∙ ap (sealed_by m) (before.sealed ∙ ap (λ (i : ℕ). (standing g i past).sealed) (sym mine))
           ∙ sym (ap (λ (t : Standing). t.sealed) (standing_moved g me x past mine)
           ∙ sealed_taken g x.client (standing g x.client past) x.input (move_of g past x) (step_kind g x.client (standing g x.client past) x.input is.may)
           ∙ ap (λ (a : Option ToClient). sealed_by a (standing g x.client past).sealed) (taken_is is));
-      parts = with_parts o m s ∙ ap (λ (ts : List (List ℕ)). ts ++ parts_in m) before.parts
+      parts = with_parts m s ∙ ap (λ (ts : List (List ℕ)). ts ++ parts_in m) before.parts
           ∙ sym (parts_own g me x past mine ∙ ap (λ (a : Option ToClient). parts_of g me past ++ parts_in a) (took_told g past x is));
     }
   where
     taken_is : IsStep g past x → taken_by (move_of g past x).next x.input ≡ read_by x.input x.returned
     taken_is j = taken_told g x.client (standing g x.client past) x.input ∙ ap (λ (a : Option Outcome). read_by x.input a) (sym j.returned)
 
-stands_kept : (g : Group) (past : List TraceStep) (x : TraceStep) (me : ℕ) → (x.client ≡ me → ⊥) → (s : Stand) → StandsAs g me past s → StandsAs g me (x ∷ past) s
-stands_kept g past x me other s before = record {
-  path = before.path ∙ sym (ap (λ p. p.places) (replayed_other me x past other));
+taken_kept : (g : Group) (past : List TraceStep) (x : TraceStep) (me : ℕ) → (x.client ≡ me → ⊥) → (s : Stand) → HasTaken g me past s → HasTaken g me (x ∷ past) s
+taken_kept g past x me other s before = record {
   sealed = before.sealed ∙ sym (ap (λ (t : Standing). t.sealed) (standing_kept g me x past other));
   parts = before.parts ∙ sym (parts_other g me x past other);
 }
 
 -- ---- what the loop over steps keeps
 
-pub stands_start : (g : Group) (me : ℕ) (s : Stand) → s ≡ no_stand → StandsAs g me [] s
-unfolding replayed standing parts_of
-stands_start g me s e = subst (StandsAs g me []) (sym e) (record { path = refl; sealed = refl; parts = refl })
+-- the path is there from the start, and so much was taken
+abbrev pub StandsSoFar : Group → ℕ → List TraceStep → List TraceStep → Stand → Type 0
+StandsSoFar g me h past s = (s.path ≡ (replayed me h).places) × HasTaken g me past s
 
-pub stands_own : (g : Group) (xs : List TraceStep) (i : ℕ) (x : TraceStep) → i < length xs → x ≡ get_or xs i x → AreSteps g (reverse xs) → (me : ℕ) → x.client ≡ me
-    → (s t : Stand) (m : Option ToClient) → StandsAs g me (reverse (take i xs)) s → m ≡ read_by x.input x.returned → t ≡ stand_with (completed_with x.returned) m s
-    → StandsAs g me (reverse (take (i + 1) xs)) t
-stands_own g xs i x lt is steps me mine s t m before read e =
-    let one = (earlier_steps g (reverse (drop (i + 1) xs)) (x ∷ reverse (take i xs)) (steps_then g xs i x lt is steps)).1 in
-    subst (λ (h : List TraceStep). StandsAs g me h t) (sym (newest_step xs i x lt is))
-    (subst (StandsAs g me (x ∷ reverse (take i xs))) (sym (e ∙ ap (λ (a : Option ToClient). stand_with (completed_with x.returned) a s) read))
-    (stands_joined g (reverse (take i xs)) x one me mine s before))
+pub stands_start : (g : Group) (me : ℕ) (h : List TraceStep) (s : Stand) → s.path ≡ (replayed me h).places → s.sealed ≡ 0 → s.parts ≡ [] → StandsSoFar g me h [] s
+unfolding standing parts_of
+stands_start g me h s path sealed parts = (path, record { sealed = sealed; parts = parts })
 
-pub stands_other : (g : Group) (xs : List TraceStep) (i : ℕ) (x : TraceStep) → i < length xs → x ≡ get_or xs i x → (me : ℕ) → (x.client ≡ me → ⊥)
-    → (s : Stand) → StandsAs g me (reverse (take i xs)) s → StandsAs g me (reverse (take (i + 1) xs)) s
-stands_other g xs i x lt is me other s before =
-    subst (λ (h : List TraceStep). StandsAs g me h s) (sym (newest_step xs i x lt is)) (stands_kept g (reverse (take i xs)) x me other s before)
+pub stands_own : (g : Group) (h xs : List TraceStep) (i : ℕ) (x : TraceStep) → i < length xs → x ≡ get_or xs i x → AreSteps g (reverse xs) → (me : ℕ) → x.client ≡ me
+    → (s t : Stand) (m : Option ToClient) → StandsSoFar g me h (reverse (take i xs)) s → m ≡ read_by x.input x.returned → t ≡ stand_with m s
+    → StandsSoFar g me h (reverse (take (i + 1) xs)) t
+stands_own g h xs i x lt is steps me mine s t m before read e =
+    let one = (earlier_steps g (reverse (drop (i + 1) xs)) (x ∷ reverse (take i xs)) (steps_then g xs i x lt is steps)).1 in (
+      ap (λ (u : Stand). u.path) e ∙ with_path m s ∙ before.0,
+      subst (λ (k : List TraceStep). HasTaken g me k t) (sym (newest_step xs i x lt is))
+          (subst (HasTaken g me (x ∷ reverse (take i xs))) (sym (e ∙ ap (λ (a : Option ToClient). stand_with a s) read))
+          (taken_joined g (reverse (take i xs)) x one me mine s before.1)),
+    )
+
+pub stands_other : (g : Group) (h xs : List TraceStep) (i : ℕ) (x : TraceStep) → i < length xs → x ≡ get_or xs i x → (me : ℕ) → (x.client ≡ me → ⊥)
+    → (s : Stand) → StandsSoFar g me h (reverse (take i xs)) s → StandsSoFar g me h (reverse (take (i + 1) xs)) s
+stands_other g h xs i x lt is me other s before = (
+  before.0,
+  subst (λ (k : List TraceStep). HasTaken g me k s) (sym (newest_step xs i x lt is)) (taken_kept g (reverse (take i xs)) x me other s before.1),
+)
 
 -- ---- all clients
 

@@ -1,20 +1,8 @@
--- The places of a path, as `vic_view` replays it. Their type has no name outside that crate, and gets one here.
+-- Places of a path at which a call was done.
 use Rattle.std.specs.Prelude.{Bool, true, false, Option, Some, None}
-use Rattle.vic_dict.specs.declared.op.Entry.{Entry}
 use Rattle.vic_dict.specs.declared.op.Outcome.{Outcome}
 use Rattle.vic_dict.specs.declared.op.Outcome.TheVariants as outcome
-use Rattle.vic_view.specs.Making.{IsPlaceEntry}
-
--- what a property speaks of
-abbrev subject_of : {A : Type 0} → (A → Type 0) → Type 0
-subject_of {A} property = A
-
--- an entry of a path, and how its client completed the call here, if it did
-abbrev pub PathPlace : Type 0
-PathPlace = subject_of IsPlaceEntry
-
-abbrev pub place_with : Entry → Option Outcome → PathPlace
-place_with e o = record { entry = e; outcome = o }
+use Rattle.vic_view.specs.declared.replay.Place.{Place}
 
 -- the call was completed as done
 abbrev pub is_done_with : Option Outcome → Bool
@@ -24,6 +12,6 @@ is_done_with (Some (outcome.Aborted u)) = false
 is_done_with (Some (outcome.Refused r)) = false
 is_done_with (Some (outcome.Halted k)) = false
 
-abbrev pub is_done_at : Option PathPlace → Bool
+abbrev pub is_done_at : Option Place → Bool
 is_done_at None = false
 is_done_at (Some p) = is_done_with p.outcome

@@ -10,11 +10,10 @@ ghost use Rattle.vic_view.specs.Making.{IsPlaceEntry};
 ghost use Rattle.vic_view.specs.Plain.{prefix_of};
 
 use crate::by_hash::hash_of;
-use crate::stand::Place;
 use std::alloc::Global;
 use vic_dict::{Bytes, Entry, Mode, Names, NoMemory};
 use vic_fields::{put_digest, put_entry, put_u8};
-use vic_view::Transcript;
+use vic_view::{Place, Transcript};
 use vic_wire::Digest32;
 
 fn mode_code(mode: Mode) -> u8
@@ -62,7 +61,7 @@ pub(crate) fn put_chain_texts(
 {
     let mut last = hash_of(genesis_text_of(alloc, t.mode, t.count)?.as_slice());
     for place in path {
-        let text = chain_text_of(alloc, &last, place.entry())?;
+        let text = chain_text_of(alloc, &last, &place.entry)?;
         last = hash_of(text.as_slice());
         texts.push(text)?;
     }

@@ -7,6 +7,7 @@
 
 pub mod by_hash;
 mod chains;
+mod contents;
 pub mod listing;
 mod nodes;
 mod sealed;

@@ -10,6 +10,7 @@ ghost use Rattle.vic_apart.specs.Stands.{AreStands};
 
 use crate::by_hash::are_texts_apart;
 use crate::chains::{genesis_text_of, put_chain_texts};
+use crate::contents::put_contents;
 use crate::nodes::put_part_texts;
 use crate::sealed::put_left_texts;
 use crate::stand::{Stand, all_stands};
@@ -77,9 +78,9 @@ fn put_sealed(
     Ok(())
 }
 
-/// The texts of which the claim on collisions speaks: of the group, of each client's path, of each part that was taken, and of each
-/// dictionary up to a client's highest seal. It costs the transcript, for each client a look at each step and a comparison with each
-/// path, and all the texts. Each sealed dictionary is there whole, so it is meant for small ones.
+/// The texts of which the claim on collisions speaks: of the group, of each client's path, of each part that was taken, of each
+/// dictionary up to a client's highest seal, and of each content that was sent to be kept or taken. It costs the transcript, for each
+/// client a look at each step and a comparison with each path, and all the texts. Each sealed dictionary is there whole, so it is meant for small ones.
 pub fn listed_texts(alloc: Global, t: &Transcript) -> Result<Names, NoMemory>
     requires { IsLawful (group_of t.now) (history_of t.now) }
     ensures { IfOk result (λ texts. texts ≡ listed (group_of t.now) (history_of t.now)) }
@@ -90,6 +91,7 @@ pub fn listed_texts(alloc: Global, t: &Transcript) -> Result<Names, NoMemory>
     put_paths(alloc, t, all.as_slice(), &mut texts)?;
     put_parts(alloc, t, all.as_slice(), &mut texts)?;
     put_sealed(alloc, t, all.as_slice(), &mut texts)?;
+    put_contents(alloc, t, &mut texts)?;
     Ok(texts)
 }
 

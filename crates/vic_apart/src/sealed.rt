@@ -5,31 +5,16 @@ ghost use Rattle.std.specs.List.{AllByRecursion};
 ghost use Rattle.vic_dict.specs.Dictionary.{Fits, after};
 ghost use Rattle.vic_laws.specs.Meanings.{gathered, zero_to};
 ghost use Rattle.vic_trie.specs.Weights.{weight_of};
-ghost use Rattle.vic_view.specs.Replay.{common};
 ghost use Rattle.vic_view.specs.Making.{IsPlaceEntry};
-ghost use Rattle.vic_apart.specs.Places.{is_done_at};
+ghost use Rattle.vic_apart.specs.Places.{is_done_with, is_done_at};
 ghost use Rattle.vic_apart.specs.Sealed.{is_done_among, lengths_with, paths_in, left_texts};
 
 use crate::nodes::put_tree_texts;
-use crate::stand::{Place, Stand};
+use crate::stand::Stand;
 use std::alloc::Global;
-use vic_dict::{Entry, Names, NoMemory};
-use vic_rules::same_entry;
+use vic_dict::{Entry, Names, NoMemory, Outcome};
 use vic_trie::Trie;
-
-/// How many entries two paths have in common at their front.
-fn common_length(a: &[Place], b: &[Place]) -> usize
-    ensures { result ≡ common a.now b.now }
-{
-    let mut length = 0;
-    for (i, place) in a.iter().enumerate() {
-        if !(i < b.len() && same_entry(place.entry(), b[i].entry())) {
-            return length;
-        }
-        length += 1;
-    }
-    length
-}
+use vic_view::{Place, common_length};
 
 /// How many entries a path has in common with each client's.
 fn common_lengths(alloc: Global, mine: &[Place], all: &[Stand]) -> Result<Vec<usize>, NoMemory>
@@ -42,11 +27,21 @@ fn common_lengths(alloc: Global, mine: &[Place], all: &[Stand]) -> Result<Vec<us
     Ok(lengths)
 }
 
+/// Whether the call of a place was completed there as done.
+fn is_done(place: &Place) -> bool
+    ensures { result ≡ is_done_with place.now.outcome }
+{
+    match &place.outcome {
+        Some(Outcome::Done(_)) => true,
+        _ => false,
+    }
+}
+
 /// Whether a path has a place with this number whose call its client completed there as done.
 fn is_done_in(path: &[Place], number: usize) -> bool
     ensures { result ≡ is_done_at (slice_get path.now number) }
 {
-    number < path.len() && path[number].is_done()
+    number < path.len() && is_done(&path[number])
 }
 
 /// Whether the owner of a place's entry completed the call there as done, its own path being the same up to there.
@@ -94,7 +89,7 @@ pub(crate) fn put_left_texts(
     let mut dict = Trie::new(alloc);
     put_tree_texts(alloc, &dict, texts)?;
     for number in 0..mine.sealed {
-        let entry = path[number].entry();
+        let entry = &path[number].entry;
         let done = is_done_by(lengths.as_slice(), all, entry.client, number);
         leave(&mut dict, entry, done)?;
         put_tree_texts(alloc, &dict, texts)?;

@@ -1,8 +1,10 @@
+use crate::contents::put_contents_at;
 use crate::nodes::{put_part_texts, put_tree_texts};
 use crate::{ByHash, are_apart, are_texts_apart, listed_texts};
 use std::alloc::Global;
 use std::test::Fail;
-use vic_dict::{Bytes, Mode, Names, NoMemory};
+use vic_dict::{Bytes, Mode, Names, NoMemory, Outcome};
+use vic_rules::{Input, TraceStep};
 use vic_tag::GroupKey;
 use vic_trie::Trie;
 use vic_view::Transcript;
@@ -71,6 +73,31 @@ fn nothing_done(rt: HostRuntime) -> Result<(), Fail> {
     let texts = listed_texts(alloc, &t)?;
     assert!(rt; are_these(&texts, &[&[5, 1, 0, 3], &[2], &[2], &[2]]));
     assert!(rt; are_apart(alloc, &t)?);
+    Ok(())
+}
+
+/// A step at which a client takes a payload and sends one.
+fn step(alloc: Global, taken: &[u8], sent: &[u8]) -> Result<TraceStep, NoMemory> {
+    Ok(TraceStep {
+        client: 1,
+        input: Input::Payload(Bytes::of(alloc, taken)?),
+        sent: Some(Bytes::of(alloc, sent)?),
+        returned: None,
+        object: None,
+    })
+}
+
+// A content that is sent to be kept, and then one that was taken; neither of a call or of an answer that the client halted on.
+#[test]
+fn texts_of_two_contents(rt: HostRuntime) -> Result<(), Fail> {
+    let alloc = rt.alloc();
+    let mut texts = Names::new(alloc);
+    put_contents_at(alloc, &step(alloc, b"\x48yy", b"\x27x")?, &mut texts)?;
+    put_contents_at(alloc, &step(alloc, b"\x43", b"\x24")?, &mut texts)?;
+    let mut halted = step(alloc, b"\x48z", b"\x26\0\0\0\0")?;
+    halted.returned = Some(Outcome::Halted(9));
+    put_contents_at(alloc, &halted, &mut texts)?;
+    assert!(rt; are_these(&texts, &[&[6, b'x'], &[6, b'y', b'y']]));
     Ok(())
 }
 

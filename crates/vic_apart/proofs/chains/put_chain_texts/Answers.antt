@@ -1,6 +1,4 @@
 use Rattle.std.proofs.Common.{ap, ◌∙◌}
-use Rattle.vic_dict.specs.declared.op.Entry.{Entry}
-use Rattle.vic_wire.specs.Texts.{chain_text}
 use Rattle.vic_wire.specs.Hashes.{hash}
 use Rattle.vic_view.specs.Transcripts.{group_of}
 use Rattle.vic_apart.proofs.Chained.{chained_start, chained_next}
@@ -14,5 +12,5 @@ pub loop-place-preserved : goal.loop-place-preserved
 loop-place-preserved c =
     chained_next (group_of c.args.t.now) c.args.texts.now c.loop-place.texts c.push.new.self c.loop-place.last.bytes c.hash_of-last-in-loop-place.result.bytes c.in_ok-text.text
     c.args.path.now c.loop-place.place-index c.place-item.result c.loop-place-test.true c.place-item.is c.loop-place.invariant
-    (c.in_ok-text.ensures ∙ ap (λ (e : Entry). chain_text c.loop-place.last.bytes e) c.entry.ensures)
+    c.in_ok-text.ensures
     (c.hash_of-last-in-loop-place.ensures ∙ ap hash c.as_slice-in-loop-place.ensures) c.in_ok-push.ensures.ok

@@ -1,5 +1,5 @@
-use Rattle.std.proofs.Common.{◌≡◌, ◌<◌, List, length, get_or, ap, ◌∙◌, arith}
-use Rattle.vic_apart.specs.Places.{PathPlace}
+use Rattle.std.proofs.Common.{◌≡◌, ◌<◌, List, length, get_or, sym, ap, ◌∙◌, arith}
+use Rattle.vic_view.specs.declared.replay.Place.{Place}
 use Rattle.vic_apart.specs.Sealed.{lengths_with}
 use Rattle.vic_apart.proofs.Leaving.{leaves_start, leaves_next}
 use Rattle.vic_apart.proofs.sealed.put_left_texts.Goals as goal
@@ -11,9 +11,9 @@ loop-number-init c =
 pub loop-number-preserved : goal.loop-number-preserved
 loop-number-preserved c =
     let lengths : c.as_slice.result.now ≡ lengths_with c.args.mine.now.path c.args.all.now =
-    c.as_slice.ensures.value ∙ c.in_ok-lengths.ensures ∙ ap (λ (ps : List PathPlace). lengths_with ps c.args.all.now) c.as_slice-path.ensures in
+    c.as_slice.ensures.value ∙ c.in_ok-lengths.ensures ∙ ap (λ (ps : List Place). lengths_with ps c.args.all.now) c.as_slice-path.ensures in
     let within : c.loop-number.number < length c.args.mine.now.path = omega (arith, c.loop-number-test.true, c.requires.within) in
-    let is = c.index-path-number.is ∙ ap (λ (ps : List PathPlace). get_or ps c.loop-number.number c.index-path-number.result) c.as_slice-path.ensures in
+    let is = c.index-path-number.is ∙ ap (λ (ps : List Place). get_or ps c.loop-number.number c.index-path-number.result) c.as_slice-path.ensures in
     leaves_next c.args.all.now c.args.mine.now.path c.args.texts.now c.loop-number.texts c.put_tree_texts-in-loop-number.new.texts c.loop-number.dict c.leave.new.dict
-    c.loop-number.number c.index-path-number.result c.entry-entry.result.now c.as_slice.result.now c.is_done_by-done.result
-    within is c.entry-entry.ensures lengths c.is_done_by-done.ensures c.loop-number.invariant c.in_ok-leave.ensures.ok c.in_ok-leave.ensures.weighs c.in_ok-put_tree_texts-2.ensures
+    c.loop-number.number c.index-path-number.result (get_or c.as_slice-path.result.now c.loop-number.number c.index-path-number.result).entry c.as_slice.result.now c.is_done_by-done.result
+    within is (ap (λ (p : Place). p.entry) (sym c.index-path-number.is)) lengths c.is_done_by-done.ensures c.loop-number.invariant c.in_ok-leave.ensures.ok c.in_ok-leave.ensures.weighs c.in_ok-put_tree_texts-2.ensures
