@@ -159,7 +159,7 @@ stored_at : (g : Group) (h : List TraceStep) → IsLawful g h → g.mode ≡ mod
 stored_at g h lawful objects e k v is c =
     let sends : (move_of g c.past c.call).sends ≡ Some (Invokes e.seq (op.Put k v)) = c.sends ∙ ap (λ q. Some (Invokes e.seq q)) is in
     let now : AreSteps g (c.call ∷ c.past) = earlier_steps g c.later (c.call ∷ c.past) (subst (AreSteps g) c.is lawful.steps) in
-    elim (calls_are_asked g h lawful c.later c.call c.past c.is e.seq (op.Put k v) sends) [
+    elim ((calls_are_asked g h lawful c.later c.call c.past c.is e.seq (op.Put k v) sends).asked) [
       | inl a ↦ absurd (not_asked g c.call.client (standing g c.call.client c.past) c.call.input objects now.1.may e.seq k v sends a)
       | inr b ↦
           let same : (k ≡ b.name) × (v ≡ reference_of b.content) = same_put k b.name v (reference_of b.content) b.is in
