@@ -1,5 +1,5 @@
 -- What a client of a drill may be asked for, and what may be counted.
-use Rattle.std.proofs.Common.{◌≡◌, ℕ, ◌+◌, ◌<◌, ◌≤◌, ◌^◌, Bool, true, false, ◌&&◌, List, length, Option, Some, is_none, IsTrue, refl, sym, ap, subst, ◌∙◌, arith, slice_get, get_or}
+use Rattle.std.proofs.Common.{◌≡◌, ℕ, ◌+◌, ◌<◌, ◌≤◌, ◌^◌, Bool, false, ◌&&◌, List, length, Option, Some, is_none, IsTrue, refl, sym, ap, subst, ◌∙◌, arith, slice_get, get_or}
 use Rattle.std.proofs.lemmas.List.Sums.{count_by-le-length}
 use Rattle.std.proofs.lemmas.Option.{slice_get_read}
 use Rattle.vic_dict.specs.declared.op.Outcome.{Outcome}
@@ -12,11 +12,10 @@ use Rattle.vic_client.specs.Kept.{is_idle as is_idle_kept}
 use Rattle.vic_order.specs.Scenes.{stands}
 use Rattle.vic_gen.specs.Drawing.{Drawing, moved as step_on}
 use Rattle.vic_drill.specs.Drills.{Drill as Definition, waits_for, ends_done, ends_aborted, ends_refused, count_of}
-use Rattle.vic_drill.specs.Laws.{RunsHonestly}
 use Rattle.vic_drill.proofs.Honest.{drawn-runs}
 use Rattle.vic_run_drill.specs.declared.seat.Seat.{Seat}
 use Rattle.vic_run_drill.specs.declared.run.Drill.{Drill}
-use Rattle.vic_run_drill.specs.Running.{SeatStands, CanCount, Stands, IsGoing, IsAtRest}
+use Rattle.vic_run_drill.specs.Running.{SeatStands, CanCount, Stands, IsGoing}
 use Rattle.vic_run_drill.proofs.Going.{seat_stands, is_idle}
 
 -- there are no more of them than steps

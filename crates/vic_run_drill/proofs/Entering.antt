@@ -1,5 +1,5 @@
 -- Clients that come in one after the other, and their key.
-use Rattle.std.proofs.Common.{◌≡◌, ℕ, zero, suc, ◌+◌, List, [], ◌∷◌, ◌++◌, length, map, replicate, Option, Some, None, Result, Ok, Err, codes, refl, sym, ap, subst, ◌∙◌, arith, slice_get}
+use Rattle.std.proofs.Common.{◌≡◌, ℕ, ◌+◌, List, [], ◌∷◌, ◌++◌, length, replicate, Option, None, Result, Ok, Err, codes, refl, sym, ap, subst, ◌∙◌, arith}
 use Rattle.std.proofs.lemmas.List.{length-append}
 use Rattle.std.specs.Prelude.{MatchOption}
 use Rattle.std.specs.Str.{chars}
@@ -10,7 +10,6 @@ use Rattle.vic_tag.specs.declared.key.KeyFault.{KeyFault}
 use Rattle.vic_tag.specs.Keys.{fault_in}
 use Rattle.vic_drill.specs.Drills.{group_of}
 use Rattle.vic_run_drill.specs.declared.seat.Seat.{Seat}
-use Rattle.vic_run_drill.specs.declared.seat.UnderWay.{UnderWay}
 use Rattle.vic_run_drill.specs.declared.seat.UnderWay.TheVariants as under
 use Rattle.vic_run_drill.specs.Running.{requests, answers, SeatStands, HaveComeIn}
 use Rattle.vic_run_drill.proofs.Rows.{get_more, replicate_push}

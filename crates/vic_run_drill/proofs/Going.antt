@@ -1,24 +1,19 @@
 -- What the code of a drill stands for, event by event.
-use Rattle.std.proofs.Common.{◌≡◌, ℕ, zero, suc, ◌+◌, ◌-◌, ◌*◌, ◌<◌, ◌≤◌, ◌^◌, Bool, true, false, ◌||◌, List, [], ◌∷◌, length, map, Option, Some, None, option_map, nat_lt, if◌then◌else◌, refl, sym, ap, subst, ◌∙◌, arith, slice_get, slice_set}
+use Rattle.std.proofs.Common.{◌≡◌, ℕ, ◌+◌, ◌<◌, ◌≤◌, ◌^◌, Bool, true, false, List, length, Option, Some, None, nat_lt, if◌then◌else◌, refl, sym, ap, subst, ◌∙◌, arith, slice_get, slice_set}
 use Rattle.std.proofs.lemmas.List.{length-set}
-use Rattle.std.proofs.lemmas.List.Sums.{count_by-le-length}
 use Rattle.vic_dict.specs.declared.op.Outcome.{Outcome}
-use Rattle.vic_rules.specs.declared.trace.Input.{Input}
 use Rattle.vic_rules.specs.declared.trace.Input.TheVariants as input
-use Rattle.vic_rules.specs.declared.trace.TraceStep.{TraceStep}
-use Rattle.vic_rules.specs.Client.{Standing, step, IsIdle}
-use Rattle.vic_rules.specs.History.{standing}
-use Rattle.vic_order.specs.Order.{Server, Ordered, sealed_count, ordered_at}
+use Rattle.vic_rules.specs.Client.{step, IsIdle}
+use Rattle.vic_order.specs.Order.{Server}
 use Rattle.vic_order.specs.Serving.{by_rule}
-use Rattle.vic_order.specs.Scenes.{Scene, Queue, queue_of, stands, waits_in, Asks, Serves, Takes, steps, happens}
+use Rattle.vic_order.specs.Scenes.{Queue, queue_of, stands, waits_in, Asks, Serves, Takes, steps, happens}
 use Rattle.vic_gen.specs.declared.Act.{Act}
 use Rattle.vic_gen.specs.declared.Act.TheVariants as act
-use Rattle.vic_gen.specs.Drawing.{Drawing, moved as step_on, picked, act_of, acted}
-use Rattle.vic_drill.specs.Drills.{Drill as Definition, makes, acts, acts_next, waits_for, goes_on, turn_of, turn, turn_below, repeats, first_waiting, server_in, unsealed_in, polls, closes_by, closes, ends_done, count_of}
+use Rattle.vic_gen.specs.Drawing.{Drawing, act_of, acted}
+use Rattle.vic_drill.specs.Drills.{Drill as Definition, makes, acts, acts_next, waits_for, goes_on}
 use Rattle.vic_drill.specs.Laws.{RunsHonestly}
-use Rattle.vic_drill.proofs.Acts.{act-may, acted-acts, picked-member}
-use Rattle.vic_drill.proofs.Waiting.{IsFirst, first_is}
-use Rattle.vic_drill.proofs.Honest.{drawn-runs, more-runs, goes_on-runs, polls-runs, acts-runs, rests-idle}
+use Rattle.vic_drill.proofs.Acts.{act-may, acted-acts}
+use Rattle.vic_drill.proofs.Honest.{drawn-runs, goes_on-runs, polls-runs, acts-runs, rests-idle}
 use Rattle.vic_run_drill.specs.declared.seat.Seat.{Seat}
 use Rattle.vic_run_drill.specs.declared.seat.UnderWay.{UnderWay}
 use Rattle.vic_run_drill.specs.declared.seat.UnderWay.TheVariants as under
@@ -26,8 +21,8 @@ use Rattle.vic_run_drill.specs.declared.seat.Went.{Went}
 use Rattle.vic_run_drill.specs.declared.seat.Went.TheVariants as went
 use Rattle.vic_run_drill.specs.declared.tally.Tally.{Tally}
 use Rattle.vic_run_drill.specs.declared.run.Drill.{Drill}
-use Rattle.vic_run_drill.specs.Running.{requests, answers, is_under_way, SeatStands, step_at, Steps, input_of, calls_of, Goes, counted, ShowsScene, Stands, WentOn, Closes}
-use Rattle.vic_run_drill.proofs.Showing.{uncounted, within, up_here, down_here, waits_here, stands_here, shows_asked, shows_taken, shows_served, shows_same}
+use Rattle.vic_run_drill.specs.Running.{requests, is_under_way, SeatStands, step_at, Steps, input_of, calls_of, Goes, counted, ShowsScene, Stands, WentOn}
+use Rattle.vic_run_drill.proofs.Showing.{uncounted, within, up_here, waits_here, stands_here, shows_asked, shows_taken, shows_served, shows_same}
 
 -- whether a message went on, and how that is counted
 abbrev pub has_gone : Went → Bool

@@ -1,24 +1,21 @@
 -- The phases of a drill: events again and again, and stopping where nothing changes any more.
-use Rattle.std.proofs.Common.{◌≡◌, ℕ, zero, suc, ◌+◌, ◌-◌, ◌*◌, ◌<◌, ◌≤◌, ◌^◌, Bool, true, false, List, [], ◌∷◌, length, map, replicate, Option, Some, None, option_map, nat_lt, if◌then◌else◌, refl, sym, ap, subst, ◌∙◌, arith, slice_get}
+use Rattle.std.proofs.Common.{◌≡◌, ℕ, zero, suc, ◌+◌, ◌-◌, ◌<◌, ◌≤◌, Bool, true, false, List, [], ◌∷◌, length, replicate, Option, Some, None, option_map, if◌then◌else◌, refl, sym, ap, subst, ◌∙◌, arith}
 use Rattle.std.proofs.lemmas.Bool.{lt-ltb, le-ltb}
 use Rattle.std.specs.Prelude.{Result, Ok, Err, IfOk, OnOk}
 use Rattle.vic_dict.specs.declared.bytes.NoMemory.{NoMemory}
 use Rattle.vic_dict.specs.declared.op.Mode.TheVariants as mode
-use Rattle.vic_server.specs.Replay.{opening as opening_server}
-use Rattle.vic_rules.specs.History.{standing}
 use Rattle.vic_order.specs.Order.{Server, Ordered, fresh_server, ready, sealed_count, ordered_at}
 use Rattle.vic_order.specs.Scenes.{Scene, server_at, Asks}
 use Rattle.vic_rules.specs.declared.trace.Input.TheVariants as input
-use Rattle.vic_gen.specs.Drawing.{drawing_from, moved as step_on, picked, drawn}
-use Rattle.vic_drill.specs.Drills.{Drill as Definition, begun, group_of, makes, waits_for, goes_on, acts_next, turn_of, turn, turn_below, repeats, first_waiting, server_in, unsealed_in, polls, closes_by, closes}
+use Rattle.vic_gen.specs.Drawing.{drawing_from, moved as step_on, picked}
+use Rattle.vic_drill.specs.Drills.{Drill as Definition, begun, makes, waits_for, goes_on, acts_next, turn_of, turn, turn_below, repeats, first_waiting, server_in, unsealed_in, polls, closes_by, closes}
 use Rattle.vic_drill.specs.Laws.{RunsHonestly}
 use Rattle.vic_drill.proofs.Waiting.{IsFirst, first_is}
-use Rattle.vic_drill.proofs.Honest.{drawn-runs, more-runs, begun-runs}
-use Rattle.vic_drill.proofs.Drilled.{owner-member, closes-runs}
-use Rattle.vic_run_drill.specs.declared.seat.Seat.{Seat}
+use Rattle.vic_drill.proofs.Honest.{more-runs, begun-runs, runs-safe}
+use Rattle.vic_drill.proofs.Drilled.{owner-member}
 use Rattle.vic_run_drill.specs.declared.tally.Tally.{Tally}
 use Rattle.vic_run_drill.specs.declared.run.Drill.{Drill}
-use Rattle.vic_run_drill.specs.Running.{ShowsScene, Stands, HaveComeIn, WentOn, Closes}
+use Rattle.vic_run_drill.specs.Running.{Stands, HaveComeIn, WentOn, Closes}
 
 -- ---- again and again
 
@@ -135,7 +132,7 @@ module _ (r : Drill) (d : Definition) (n : ℕ) (at : Stands r d n) where
         let one : Some at.runs.server ≡ Some r.served.server = sym at.runs.run.one ∙ server_is in
         let same : r.served.server ≡ at.runs.server = cc in
         let there : ordered_at at.runs.server (sealed_count r.served.server + 1) ≡ Some found.0 = ap (λ (v : Server). ordered_at v (sealed_count r.served.server + 1)) (sym same) ∙ found.1.0 in
-        let who = owner-member d.scene at.runs.server d at.runs.run (sealed_count r.served.server + 1) found.0 there in
+        let who = owner-member d.scene at.runs.server d (runs-safe (length r.seats.items) d n at.runs) (sealed_count r.served.server + 1) found.0 there in
         let count = at.scene.count in
         let some : 0 < owner = omega (arith, who.0, found.1.1) in
         let most : owner ≤ length r.seats.items = omega (arith, who.1, found.1.1, count) in

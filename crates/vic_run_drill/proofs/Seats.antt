@@ -1,15 +1,13 @@
 -- What a client's call makes of its seat.
-use Rattle.std.proofs.Common.{◌≡◌, ℕ, List, ◌∷◌, Option, refl, sym, ap, subst, ◌∙◌}
+use Rattle.std.proofs.Common.{◌≡◌, ℕ, List, Option, refl, sym, ap, subst, ◌∙◌}
 use Rattle.vic_wire.specs.Hashes.{Group}
 use Rattle.vic_rules.specs.declared.trace.Input.{Input}
-use Rattle.vic_rules.specs.declared.trace.Input.TheVariants as input
 use Rattle.vic_rules.specs.declared.trace.TraceStep.{TraceStep}
 use Rattle.vic_rules.specs.Client.{Standing, Move, step, payload_of}
 use Rattle.vic_rules.specs.History.{standing}
 use Rattle.vic_laws.proofs.Standings.{standing_moved}
 use Rattle.vic_client.specs.declared.step.Step.{Step}
 use Rattle.vic_client.specs.Kept.{Kept, StandsFor, IsSame, move_of, sent_at}
-use Rattle.vic_client.specs.Shows.{Shows}
 use Rattle.vic_run_drill.specs.declared.seat.Seat.{Seat}
 use Rattle.vic_run_drill.specs.Running.{sent_on, SeatStands, step_at, Steps}
 

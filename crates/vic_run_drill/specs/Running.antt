@@ -1,5 +1,5 @@
 -- What the code of a drill keeps of it, and what its parts do.
-use Rattle.std.specs.Prelude.{◌≡◌, ℕ, ◌+◌, ◌<◌, ◌^◌, Bool, true, false, List, [], ◌∷◌, ◌++◌, map, length, codes, replicate, Option, Some, None, slice_get, if◌then◌else◌}
+use Rattle.std.specs.Prelude.{◌≡◌, ℕ, ◌+◌, ◌<◌, ◌^◌, Bool, true, false, List, [], ◌∷◌, ◌++◌, map, length, codes, replicate, Option, Some, None, slice_get}
 use Rattle.vic_dict.specs.declared.op.Outcome.{Outcome}
 use Rattle.vic_wire.specs.Hashes.{Group}
 use Rattle.vic_rules.specs.declared.trace.Input.{Input}
@@ -58,7 +58,7 @@ pub record SeatStands (g : Group) (h : List TraceStep) (m : Seat) (i : ℕ) : Ty
 abbrev pub step_at : Group → List TraceStep → ℕ → Input → TraceStep
 step_at g h i given =
     let v = step g i (standing g i h) given in
-    record { client = i; input = given; sent = payload_of g i v.next v.sends; returned = v.returns }
+    record { client = i; input = given; sent = payload_of g i v.next v.sends; returned = v.returns; object = v.object }
 
 -- a client made its step: what it sent is under way, and it stands where the history then leaves it
 pub record Steps (g : Group) (h : List TraceStep) (i : ℕ) (given : Input) (new : Seat) : Type 0 where

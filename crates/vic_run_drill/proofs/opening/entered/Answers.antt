@@ -1,4 +1,4 @@
-use Rattle.std.proofs.Common.{refl, rules}
+use Rattle.std.proofs.Common.{rules}
 use Rattle.vic_rules.specs.History.{standing}
 use Rattle.vic_run_drill.proofs.opening.entered.Goals as goal
 

@@ -1,7 +1,7 @@
-use Rattle.std.proofs.Common.{◌≡◌, ℕ, ◌<◌, ◌^◌, List, ◌∙◌, arith}
+use Rattle.std.proofs.Common.{◌≡◌, ℕ, List, ◌∙◌, arith}
 use Rattle.vic_drill.specs.Drills.{Drill as Definition, begun, turn_below, repeats, closes, print_of_drill}
 use Rattle.vic_drill.proofs.Drilled.{drills_are_honest}
-use Rattle.vic_run_drill.specs.Running.{Stands, summary_lines}
+use Rattle.vic_run_drill.specs.Running.{summary_lines}
 use Rattle.vic_run_drill.proofs.Phases.{if_ok_map}
 use Rattle.vic_run_drill.proofs.Summing.{summary_is, printed}
 use Rattle.vic_run_drill.proofs.run.summary_of.Goals as goal

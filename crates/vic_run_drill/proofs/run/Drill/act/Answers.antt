@@ -1,4 +1,4 @@
-use Rattle.std.proofs.Common.{◌≡◌, ℕ, ◌+◌, ◌-◌, ◌<◌, ◌^◌, List, length, Some, refl, ap, ◌∙◌, arith, slice_get}
+use Rattle.std.proofs.Common.{◌≡◌, ℕ, ◌+◌, ◌-◌, ◌<◌, ◌^◌, length, Some, refl, ap, ◌∙◌, arith, slice_get}
 use Rattle.std.specs.Vec.{with_item}
 use Rattle.vic_gen.specs.Drawing.{Drawing, act_of, acted}
 use Rattle.vic_run_drill.specs.declared.seat.Seat.{Seat}

@@ -1,4 +1,4 @@
-use Rattle.std.proofs.Common.{◌≡◌, ℕ, ◌+◌, ◌-◌, ◌<◌, ◌≤◌, List, length, Some, None, refl, sym, subst, ◌∙◌, arith, slice_get}
+use Rattle.std.proofs.Common.{◌≡◌, ℕ, ◌+◌, ◌-◌, ◌<◌, length, refl, sym, subst, ◌∙◌, arith}
 use Rattle.std.specs.Vec.{with_item}
 use Rattle.vic_drill.specs.Drills.{Drill as Definition}
 use Rattle.vic_run_drill.specs.declared.run.Drill.{Drill}

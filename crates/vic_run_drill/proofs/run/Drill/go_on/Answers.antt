@@ -1,4 +1,4 @@
-use Rattle.std.proofs.Common.{◌≡◌, ℕ, ◌+◌, ◌-◌, ◌<◌, List, length, Some, refl, sym, ap, subst, arith, slice_get}
+use Rattle.std.proofs.Common.{◌≡◌, ℕ, ◌+◌, ◌-◌, ◌<◌, length, Some, refl, subst, arith, slice_get}
 use Rattle.std.specs.Vec.{with_item}
 use Rattle.vic_run_drill.specs.declared.seat.Seat.{Seat}
 use Rattle.vic_run_drill.specs.declared.seat.Went.{Went}

@@ -1,4 +1,4 @@
-use Rattle.std.proofs.Common.{◌≡◌, ℕ, ◌+◌, ◌<◌, ◌≤◌, Bool, true, false, sym, subst, ◌∙◌, rules, arith}
+use Rattle.std.proofs.Common.{◌≡◌, ℕ, ◌+◌, ◌≤◌, Bool, true, false, sym, subst, rules, arith}
 use Rattle.vic_drill.specs.Drills.{Drill as Definition, closes, repeats}
 use Rattle.vic_run_drill.specs.Running.{Stands, Closes}
 use Rattle.vic_run_drill.proofs.Phases.{repeats_more, repeats_end, more_stands}

@@ -1,7 +1,6 @@
-use Rattle.std.proofs.Common.{◌≡◌, ℕ, ◌+◌, ◌<◌, ◌≤◌, Bool, true, false, length, ap, subst, ◌∙◌, arith}
+use Rattle.std.proofs.Common.{◌≡◌, ◌+◌, Bool, false, length, ap, subst, ◌∙◌, arith}
 use Rattle.vic_gen.specs.Drawing.{Drawing, moved as step_on, picked}
 use Rattle.vic_drill.specs.Drills.{Drill as Definition, acts_next, turn}
-use Rattle.vic_run_drill.specs.declared.run.Drill.{Drill}
 use Rattle.vic_run_drill.specs.Running.{Stands, WentOn}
 use Rattle.vic_run_drill.proofs.Asking.{drawn_stands, drawn_from}
 use Rattle.vic_run_drill.proofs.Phases.{turned_on, turned_next, on_ok_map}

@@ -1,4 +1,4 @@
-use Rattle.std.proofs.Common.{Some, sym}
+use Rattle.std.proofs.Common.{Some}
 use Rattle.vic_rules.specs.History.{standing}
 use Rattle.vic_run_drill.specs.Running.{input_of}
 use Rattle.vic_run_drill.proofs.Seats.{steps_so}
