@@ -68,6 +68,7 @@ may_ask g h i m given at idle can = by_input given can
 
     by_input : (given : Input) → CanAsk m given → MayStep g (standing g i h) given
     by_input (input.Call op) able = (rests, (sym (ap (λ (k : Group). k.mode) at.group) ∙ able.0.0, (able.1.0, (able.1.1, omega (arith, able.0.1, at.stands.calls)))))
+    by_input (input.Object call) able = (rests, (sym (ap (λ (k : Group). k.mode) at.group) ∙ able.0.0, (able.1.0, (able.1.1, omega (arith, able.0.1, at.stands.calls)))))
     by_input input.Poll able = rests
     by_input input.Sync able = rests
     by_input (input.Payload payload) able = absurd able

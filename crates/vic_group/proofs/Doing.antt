@@ -10,7 +10,7 @@ use Rattle.vic_order.specs.Serving.{Serving}
 use Rattle.vic_view.specs.declared.transcript.Transcript.{Transcript}
 use Rattle.vic_view.specs.Transcripts.{steps_of, history_of}
 use Rattle.vic_order.specs.Scenes.{SceneOf, Queue, queued, server_at, set_server, serves, takes, steps, waits_in, has_byte, oldest}
-use Rattle.vic_script.specs.Scenes.{said, returned_in}
+use Rattle.vic_script.specs.Scenes.{said, returned_in, object_in}
 use Rattle.vic_group.specs.declared.member.Member.{Member}
 use Rattle.vic_group.specs.World.{Shows, Acts, Joins, Stays, step_at}
 use Rattle.vic_group.proofs.Scenes.{placed_here, up_here, down_here, shows_step, shows_taken, shows_served, set_same}
@@ -87,22 +87,22 @@ joined t after s x joins h = ap (λ (xs : List TraceStep). reverse xs) joins.ste
 -- what a client made of its oldest answer as it came through a change
 pub taken_as : {V : Type 0} (t after : Transcript) (ms : List Member) (vs : List (Option V)) (s : SceneOf V) (i k : ℕ) (m n : Member) (change : List ℕ → List ℕ) (payload first : List ℕ) (before out : List ℕ) → Shows t ms vs s → i ≡ k + 1
     → slice_get ms k ≡ Some m → k < length ms → m.down ≡ first ∷ drop 1 m.down → payload ≡ change first → Acts s.group s.history i (input.Payload payload) (record m { down = drop 1 m.down }) n
-    → Joins (step_at s.group s.history i (input.Payload payload)) t after → out ≡ before ++ said i (step_at s.group s.history i (input.Payload payload)).returned
-    → (out ≡ before ++ said i (returned_in (takes change s i).history)) × Shows after (slice_set ms k n) vs (takes change s i)
+    → Joins (step_at s.group s.history i (input.Payload payload)) t after → out ≡ before ++ said i (step_at s.group s.history i (input.Payload payload)).returned (step_at s.group s.history i (input.Payload payload)).object
+    → (out ≡ before ++ said i (returned_in (takes change s i).history) (object_in (takes change s i).history)) × Shows after (slice_set ms k n) vs (takes change s i)
 taken_as t after ms vs s i k m n change payload first before out shows is at lt some changed acts joins told =
     let x : TraceStep = step_at s.group s.history i (input.Payload payload) in
     let now : Shows after (slice_set ms k n) vs (takes change s i) = shows_taken t ms vs s i k m shows is at after change payload first (drop 1 m.down) n lt some changed acts joins in
-    (told ∙ ap (λ (h : List TraceStep). before ++ said i (returned_in h)) (sym (joined t after s x joins shows.history) ∙ now.history), now)
+    (told ∙ ap (λ (h : List TraceStep). before ++ said i (returned_in h) (object_in h)) (sym (joined t after s x joins shows.history) ∙ now.history), now)
 
 -- what a client made of a payload from elsewhere
 pub heard_as : {V : Type 0} (t after : Transcript) (ms : List Member) (vs : List (Option V)) (s : SceneOf V) (i k : ℕ) (m n : Member) (payload : List ℕ) (before out : List ℕ) → Shows t ms vs s → i ≡ k + 1
     → slice_get ms k ≡ Some m → k < length ms → Acts s.group s.history i (input.Payload payload) m n → Joins (step_at s.group s.history i (input.Payload payload)) t after
-    → out ≡ before ++ said i (step_at s.group s.history i (input.Payload payload)).returned
-    → (out ≡ before ++ said i (returned_in (steps s i (input.Payload payload)).history)) × Shows after (slice_set ms k n) vs (steps s i (input.Payload payload))
+    → out ≡ before ++ said i (step_at s.group s.history i (input.Payload payload)).returned (step_at s.group s.history i (input.Payload payload)).object
+    → (out ≡ before ++ said i (returned_in (steps s i (input.Payload payload)).history) (object_in (steps s i (input.Payload payload)).history)) × Shows after (slice_set ms k n) vs (steps s i (input.Payload payload))
 heard_as t after ms vs s i k m n payload before out shows is at lt acts joins told =
     let x : TraceStep = step_at s.group s.history i (input.Payload payload) in
     let now : Shows after (slice_set ms k n) vs (steps s i (input.Payload payload)) = shows_step t ms vs s i k m shows is at after (input.Payload payload) n lt acts joins in
-    (told ∙ ap (λ (h : List TraceStep). before ++ said i (returned_in h)) (sym (joined t after s x joins shows.history) ∙ now.history), now)
+    (told ∙ ap (λ (h : List TraceStep). before ++ said i (returned_in h) (object_in h)) (sym (joined t after s x joins shows.history) ∙ now.history), now)
 
 -- ---- serving
 
@@ -143,8 +143,8 @@ serve_left {V = V} t ms vs ws s k m n (Err e) shows at kept = subst (λ (us : Li
 -- what a client made of a payload, if memory sufficed
 pub heard_if : {T V : Type 0} (r : Result T NoMemory) (t after : Transcript) (ms : List Member) (vs : List (Option V)) (s : SceneOf V) (i k : ℕ) (m n : Member) (payload : List ℕ) (before out : List ℕ) → Shows t ms vs s → i ≡ k + 1
     → slice_get ms k ≡ Some m → k < length ms → OnOk r (Acts s.group s.history i (input.Payload payload) m n) → OnOk r (Joins (step_at s.group s.history i (input.Payload payload)) t after)
-    → OnOk r (out ≡ before ++ said i (step_at s.group s.history i (input.Payload payload)).returned)
-    → OnOk r ((out ≡ before ++ said i (returned_in (steps s i (input.Payload payload)).history)) × Shows after (slice_set ms k n) vs (steps s i (input.Payload payload)))
+    → OnOk r (out ≡ before ++ said i (step_at s.group s.history i (input.Payload payload)).returned (step_at s.group s.history i (input.Payload payload)).object)
+    → OnOk r ((out ≡ before ++ said i (returned_in (steps s i (input.Payload payload)).history) (object_in (steps s i (input.Payload payload)).history)) × Shows after (slice_set ms k n) vs (steps s i (input.Payload payload)))
 heard_if (Err e) t after ms vs s i k m n payload before out shows is at lt acts joins told = tt
 heard_if (Ok done) t after ms vs s i k m n payload before out shows is at lt acts joins told = heard_as t after ms vs s i k m n payload before out shows is at lt acts joins told
 

@@ -12,7 +12,8 @@ use Rattle.vic_script.specs.declared.line.Line.{Line}
 use Rattle.vic_script.specs.declared.line.Line.TheVariants as line
 use Rattle.vic_script.specs.Lines.{is_place}
 use Rattle.vic_order.specs.Scenes.{SceneOf, steps, serves, resends, copies, joins, last_taken, last_sent, is_client, is_server, server_at, waits_in, has_byte, Event, Asks, Takes, Flips, Hears}
-use Rattle.vic_script.specs.Scenes.{hears_if, most_turns, turns, events_of, is_plain_call, asked_tests, line_tests, bad_kind}
+use Rattle.vic_rules.specs.declared.object.ObjectCall.{ObjectCall}
+use Rattle.vic_script.specs.Scenes.{hears_if, most_turns, turns, events_of, is_plain_call, is_object_call, asked_tests, line_tests, bad_kind}
 use Rattle.vic_view.specs.declared.transcript.Transcript.{Transcript}
 use Rattle.vic_group.specs.declared.member.Member.{Member}
 use Rattle.vic_group.specs.declared.world.World.{World}
@@ -42,6 +43,22 @@ module _ {S V : Type 0} (state : S → V) (rule : Serving V) where
   pub uncalled_line : (s : SceneOf V) (i : ℕ) (o : Op) (w : World S) → is_plain_call s o ≡ false → ShowsScene state w s → Does state rule s (line.Call i o) (Ok (Some 1)) w [] []
   unfolding bad_kind
   uncalled_line s i o w other shows = (first_fails 1 (is_plain_call s o) (asked_tests s i) other, shows)
+
+  -- a call on objects of a client that is asked for it
+  pub object_called_line : (r : Result (Option ℕ) NoMemory) (s : SceneOf V) (i : ℕ) (call copy : ObjectCall) (w : World S) → copy ≡ call → is_object_call s call ≡ true
+      → IfOk r (λ bad. (first_failing (asked_tests s i) ≡ bad) × MatchOption bad (ShowsScene state w (steps s i (input.Object copy))) (λ kind. ShowsScene state w s)) → OnErr r (ShowsScene state w s)
+      → Does state rule s (line.Object i call) r w [] []
+  unfolding bad_kind
+  object_called_line (Err e) s i call copy w same objects went kept = kept
+  object_called_line (Ok None) s i call copy w same objects went kept = (
+    ap (λ (b : Bool). if b then first_failing (asked_tests s i) else Some 1) objects ∙ went.0,
+    (refl, subst (λ (c : ObjectCall). ShowsScene state w (steps s i (input.Object c))) same went.1),
+  )
+  object_called_line (Ok (Some k)) s i call copy w same objects went kept = (ap (λ (b : Bool). if b then first_failing (asked_tests s i) else Some 1) objects ∙ went.0, went.1)
+
+  pub object_uncalled_line : (s : SceneOf V) (i : ℕ) (call : ObjectCall) (w : World S) → is_object_call s call ≡ false → ShowsScene state w s → Does state rule s (line.Object i call) (Ok (Some 1)) w [] []
+  unfolding bad_kind
+  object_uncalled_line s i call w other shows = (first_fails 1 (is_object_call s call) (asked_tests s i) other, shows)
 
   -- a line by which a client is asked for something
   pub asks : (r : Result (Option ℕ) NoMemory) (s : SceneOf V) (l : Line) (i : ℕ) (given : Input) (w : World S) (out : List ℕ) → line_tests s l ≡ asked_tests s i → events_of rule s l ≡ Asks i given ∷ []
@@ -157,12 +174,13 @@ module _ {S V : Type 0} (state : S → V) (rule : Serving V) where
       subst (λ (k : ℕ). Does state rule s (line.Move k n) (Ok (Some 6)) w [] []) e (second_fails 2 6 (is_client s i) (is_server s n) there gone, shows)
 
   -- a line of the header, once a script has opened
-  pub header_line : (s : SceneOf V) (l : Line) (w : World S) → ((n : ℕ) × (l ≡ line.Clients n)) ⊎ (((digits : List ℕ) × (l ≡ line.Key digits)) ⊎ ((name : List ℕ) × (n : ℕ) × (l ≡ line.Hostile name n)))
+  pub header_line : (s : SceneOf V) (l : Line) (w : World S) → ((n : ℕ) × (l ≡ line.Clients n)) ⊎ (((n : ℕ) × (l ≡ line.Objects n)) ⊎ (((digits : List ℕ) × (l ≡ line.Key digits)) ⊎ ((name : List ℕ) × (n : ℕ) × (l ≡ line.Hostile name n))))
       → ShowsScene state w s → (bad_kind s l ≡ Some 1) × ShowsScene state w s
   unfolding bad_kind
   header_line s l w (inl a) shows = (ap (λ (k : Line). first_failing (line_tests s k)) a.1, shows)
   header_line s l w (inr (inl a)) shows = (ap (λ (k : Line). first_failing (line_tests s k)) a.1, shows)
-  header_line s l w (inr (inr a)) shows = (ap (λ (k : Line). first_failing (line_tests s k)) a.2, shows)
+  header_line s l w (inr (inr (inl a))) shows = (ap (λ (k : Line). first_failing (line_tests s k)) a.1, shows)
+  header_line s l w (inr (inr (inr a))) shows = (ap (λ (k : Line). first_failing (line_tests s k)) a.2, shows)
 
   -- a line that does nothing
   pub skipped_line : (s : SceneOf V) (l : Line) (w : World S) (out : List ℕ) → l ≡ line.Skip → ShowsScene state w s → Does state rule s l (Ok None) w out out

@@ -1,5 +1,5 @@
 -- A script's lines, done in a world that shows where the script stands.
-use Rattle.std.proofs.Common.{◌≡◌, ℕ, ◌+◌, ◌-◌, ◌<◌, ◌≤◌, ◌^◌, Bool, true, false, List, [], ◌∷◌, ◌++◌, length, take, Option, Some, None, is_some, is_none, Result, Ok, Err, refl, sym, ap, subst, ◌∙◌, arith, append_assoc, append-nil}
+use Rattle.std.proofs.Common.{◌≡◌, ℕ, ◌+◌, ◌-◌, ◌<◌, ◌≤◌, ◌^◌, Bool, true, false, List, [], ◌∷◌, ◌++◌, length, take, Option, Some, None, is_some, is_none, Result, Ok, Err, refl, sym, ap, subst, ◌∙◌, arith, append_assoc, append-nil, slice_get}
 use Rattle.std.proofs.lemmas.Bool.{le-ltb, lt-ltb}
 use Rattle.std.specs.Prelude.{IfOk, if◌then◌else◌, nat_lt}
 use Rattle.std.specs.Result.{result_ok}
@@ -8,8 +8,8 @@ use Rattle.std.proofs.lemmas.List.{take_all}
 use Rattle.vic_dict.specs.declared.op.Mode.{Mode}
 use Rattle.vic_dict.specs.declared.op.Mode.TheVariants as mode
 use Rattle.vic_wire.specs.Hashes.{Group}
+use Rattle.vic_view.specs.declared.transcript.Transcript.{Transcript}
 use Rattle.vic_view.specs.Transcripts.{history_of, group_of as transcript_group}
-use Rattle.vic_order.specs.Order.{Server}
 use Rattle.vic_script.specs.declared.line.Line.{Line}
 use Rattle.vic_script.specs.declared.line.Line.TheVariants as line
 use Rattle.vic_script.specs.Lines.{lines_of, line_of}
@@ -21,16 +21,18 @@ use Rattle.vic_runs.specs.Claims.{FitsLine}
 use Rattle.vic_runs.specs.Reached.{IsReached}
 use Rattle.vic_runs.proofs.Runs.{TriedReaches, opens_reached, tried}
 use Rattle.vic_group.specs.declared.header.Header.{Header}
+use Rattle.vic_group.specs.declared.header.Headed.{Headed}
 use Rattle.vic_group.specs.declared.header.Headed.TheVariants as headed
 use Rattle.vic_group.specs.declared.play.BadLine.{BadLine}
 use Rattle.vic_group.specs.declared.play.End.TheVariants as end
 use Rattle.vic_group.specs.declared.play.Played.{Played}
 use Rattle.vic_group.specs.declared.play.Ran.{Ran}
 use Rattle.vic_group.specs.declared.play.Ran.TheVariants as ran
+use Rattle.vic_group.specs.declared.member.Member.{Member}
 use Rattle.vic_group.specs.declared.world.World.{World}
-use Rattle.vic_group.specs.World.{MemberStands, ShowsScene, MayDo}
+use Rattle.vic_group.specs.World.{MemberStands, ShowsScene, IsReady, MayDo}
 use Rattle.vic_server.specs.Replay.{Kept}
-use Rattle.vic_group.specs.Playing.{state, scene_of, Shows, header_by, HasFew, Leads, Tries, tried_at, Follows, Leaves, ended_by, end_of}
+use Rattle.vic_group.specs.Playing.{state, scene_of, Shows, header_by, place_by, HasFew, Leads, Tries, tried_at, Follows, Leaves, ended_by, end_of}
 use Rattle.vic_group.proofs.Members.{stand_at}
 use Rattle.vic_group.proofs.Scenes.{same_scene}
 
@@ -40,12 +42,18 @@ use Rattle.vic_group.proofs.Scenes.{same_scene}
 pub scene_same : (w : World Kept) (s : Scene) → ShowsScene state w s → s ≡ scene_of w
 scene_same w s h = same_scene s (scene_of w) (sym h.group) (sym h.history) (sym h.up) (sym h.down) (sym h.served_by) (sym h.servers)
 
--- where so few lines were done, the client that a line calls may call once more
-pub may_of : (w : World Kept) (n : ℕ) (l : Line) → Shows w → IsReached (scene_of w) n → n + 1 < 2 ^ 32 → MayDo w l
-may_of w n (line.Call i o) shows r few = λ plain above m at.
+-- where so few lines were done, each client may call once more
+is_ready : (w : World Kept) (n i : ℕ) (k : Mode) (m : Member) → Shows w → IsReached (scene_of w) n → n + 1 < 2 ^ 32 → w.transcript.mode ≡ k → slice_get w.members.items (i - 1) ≡ Some m → IsReady k m
+is_ready w n i k m shows r few is at =
     let so = stand_at (MemberStands (scene_of w).group (scene_of w).history) 1 (i - 1) w.members.items m shows.clients at in
-    (ap (λ (x : Group). x.mode) so.group ∙ r.plain, omega (arith, few, r.calls (1 + (i - 1)), so.stands.calls))
+    (ap (λ (x : Group). x.mode) so.group ∙ is, omega (arith, few, r.calls (1 + (i - 1)), so.stands.calls))
+
+-- also the one that a line calls
+pub may_of : (w : World Kept) (n : ℕ) (l : Line) → Shows w → IsReached (scene_of w) n → n + 1 < 2 ^ 32 → MayDo w l
+may_of w n (line.Call i o) shows r few = λ plain above m at. is_ready w n i mode.Plain m shows r few plain at
+may_of w n (line.Object i c) shows r few = λ objects above m at. is_ready w n i mode.Objects m shows r few objects at
 may_of w n (line.Clients k) shows r few = tt
+may_of w n (line.Objects k) shows r few = tt
 may_of w n (line.Key digits) shows r few = tt
 may_of w n (line.Hostile name k) shows r few = tt
 may_of w n (line.Poll i) shows r few = tt
@@ -67,8 +75,11 @@ pub known_all : (n : ℕ) (script : List ℕ) → length script ≤ n → script
 known_all n script few = sym (take_all (n + 1) script (omega (arith, few)))
 
 -- a line that begins a header
-pub leads_clients : (l : Option Line) (count : ℕ) → l ≡ Some (line.Clients count) → FitsLine (line.Clients count) → Leads Before l (headed.Goes (Some (record { count = count; key = None })))
-leads_clients l count e fits = subst (λ (o : Option Line). Leads Before o (headed.Goes (Some (record { count = count; key = None })))) (sym e) (refl, fits)
+pub leads_clients : (l : Option Line) (count : ℕ) (r : Headed) → l ≡ Some (line.Clients count) → FitsLine (line.Clients count) → r ≡ headed.Goes (Some (record { mode = mode.Plain; count = count; key = None })) → Leads Before l r
+leads_clients l count r e fits is = subst (λ (o : Option Line). Leads Before o r) (sym e) (subst (λ (x : Headed). Leads Before (Some (line.Clients count)) x) (sym is) (refl, fits))
+
+pub leads_objects : (l : Option Line) (count : ℕ) (r : Headed) → l ≡ Some (line.Objects count) → FitsLine (line.Objects count) → r ≡ headed.Goes (Some (record { mode = mode.Objects; count = count; key = None })) → Leads Before l r
+leads_objects l count r e fits is = subst (λ (o : Option Line). Leads Before o r) (sym e) (subst (λ (x : Headed). Leads Before (Some (line.Objects count)) x) (sym is) (refl, fits))
 
 no_second : (o : Option (List ℕ)) (t : Tried) → is_some o ≡ true → (if is_none o then t else Fails 1) ≡ Fails 1
 no_second (Some k) t e = refl
@@ -79,66 +90,35 @@ first_key (Some k) t e = absurd cc
 first_key None t e = refl
 
 -- a second key
-pub leads_again : (h : Header) (digits : List ℕ) → is_some h.key ≡ true → Leads (Heads (header_by h)) (Some (line.Key digits)) (headed.Bad 1)
-leads_again h digits e = no_second h.key (Does (Heads (record (header_by h) { key = result_ok (decode_of digits) })) []) e
+pub leads_again : (h : Header) (digits : List ℕ) → is_some h.key ≡ true → HasFew (Some h) → Leads (Heads (header_by h)) (Some (line.Key digits)) (headed.Bad (Some h) 1)
+leads_again h digits e few = (no_second h.key (Does (Heads (record (header_by h) { key = result_ok (decode_of digits) })) []) e, (refl, few))
 
 -- the first one
 pub leads_keyed : (h : Header) (digits key : List ℕ) → is_some h.key ≡ false → result_ok (decode_of digits) ≡ Some key → HasFew (Some h)
-    → Leads (Heads (header_by h)) (Some (line.Key digits)) (headed.Goes (Some (record { count = h.count; key = Some key })))
+    → Leads (Heads (header_by h)) (Some (line.Key digits)) (headed.Goes (Some (record { mode = h.mode; count = h.count; key = Some key })))
 leads_keyed h digits key e spelled few = (
   first_key h.key (Does (Heads (record (header_by h) { key = result_ok (decode_of digits) })) []) e ∙ ap (λ (o : Option (List ℕ)). Does (Heads (record (header_by h) { key = o })) []) spelled,
   few,
 )
-
--- a line that isn't of a header
-abbrev pub NotOfHeader : Line → Type 0
-NotOfHeader (line.Key digits) = ⊥
-NotOfHeader line.Skip = ⊥
-NotOfHeader l = Unit {0}
-
-same-ended : (h : Told) (l : Line) → NotOfHeader l → try_line (Heads h) (Some l) ≡ try_line (Stands (opening (group_by h))) (Some l)
-same-ended h (line.Key digits) other = absurd other
-same-ended h line.Skip other = absurd other
-same-ended h (line.Clients count) other = refl
-same-ended h (line.Hostile name k) other = refl
-same-ended h (line.Call i o) other = refl
-same-ended h (line.Poll i) other = refl
-same-ended h (line.Sync i) other = refl
-same-ended h (line.Serve i) other = refl
-same-ended h (line.Take i) other = refl
-same-ended h (line.Run i) other = refl
-same-ended h (line.Give i payload) other = refl
-same-ended h (line.Again i) other = refl
-same-ended h (line.Flip i k) other = refl
-same-ended h (line.Resend i) other = refl
-same-ended h (line.Copy k t) other = refl
-same-ended h (line.Move i k) other = refl
-
-pub leads_ended : (h : Header) (l : Option Line) (x : Line) → HasFew (Some h) → l ≡ Some x → NotOfHeader x → Leads (Heads (header_by h)) l (headed.Ends h)
-leads_ended h l x few e other = subst (λ (o : Option Line). Leads (Heads (header_by h)) o (headed.Ends h)) (sym e) (refl, (same-ended (header_by h) x other, few))
-
-pub leads_grammar : (h : Header) (l : Option Line) → HasFew (Some h) → l ≡ None → Leads (Heads (header_by h)) l (headed.Ends h)
-leads_grammar h l few e = subst (λ (o : Option Line). Leads (Heads (header_by h)) o (headed.Ends h)) (sym e) (refl, (refl, few))
 
 -- ---- a line
 
 none-some : (kind : ℕ) → None ≡ Some kind → ⊥
 none-some kind e = absurd cc
 
-follows-tried : (n : ℕ) (t : Tried) (w : World Kept) (old new : List ℕ) → TriedReaches t (n + 1) → Tries t w old new None → Follows n t w old new None
-follows-tried n (Fails kind) w old new r h = absurd (none-some kind h.0)
-follows-tried n (Does Before text) w old new r h = absurd h.1.1
-follows-tried n (Does (Heads header) text) w old new r h = absurd h.1.1
-follows-tried n (Does (Stands s) text) w old new r h = (refl, (h.1.0, (h.1.1, r)))
+follows-tried : (n : ℕ) (t : Tried) (s : Scene) (w : World Kept) (old new : List ℕ) → TriedReaches t (n + 1) → Tries t s w old new None → Follows n t s w old new None
+follows-tried n (Fails kind) s w old new r h = absurd (none-some kind h.0)
+follows-tried n (Does Before text) s w old new r h = absurd h.1.1
+follows-tried n (Does (Heads header) text) s w old new r h = absurd h.1.1
+follows-tried n (Does (Stands next) text) s w old new r h = (refl, (h.1.0, (h.1.1, r)))
 
 -- a line within the limit that was done
 pub follows_none : (behind n : ℕ) (s : Scene) (text : List ℕ) (w : World Kept) (old new : List ℕ) → behind ≤ limit → IsReached s n → n + 1 < 2 ^ 32
-    → Tries (try_line (Stands s) (line_of (Some mode.Plain) text)) w old new None → Follows n (tried_at behind (Stands s) text) w old new None
+    → Tries (try_line (Stands s) (line_of (Some s.group.mode) text)) s w old new None → Follows n (tried_at behind (Stands s) text) s w old new None
 follows_none behind n s text w old new within r few h =
     let t : Tried = try_line (Stands s) (line_of (Some s.group.mode) text) in
-    let done : Tries t w old new None = subst (λ (m : Mode). Tries (try_line (Stands s) (line_of (Some m) text)) w old new None) (sym r.plain) h in
     let reaches : TriedReaches t (n + 1) = tried (Stands s) (line_of (Some s.group.mode) text) n r few (text_fits (Some s.group.mode) text) in
-    subst (λ (b : Bool). Follows n (if b then Fails 7 else t) w old new None) (sym (le-ltb limit behind within)) (follows-tried n t w old new reaches done)
+    subst (λ (b : Bool). Follows n (if b then Fails 7 else t) s w old new None) (sym (le-ltb limit behind within)) (follows-tried n t s w old new reaches h)
 
 -- ---- the next line
 
@@ -166,12 +146,12 @@ printed-nothing : (p : Run) → printed_before [] p ≡ p
 printed-nothing p = refl
 
 -- a line was done, and the run goes on from there
-pub goes_on : (n : ℕ) (run : Run) (place : Place) (t : Tried) (rest : Place → Run) (w : World Kept) (old new : List ℕ) → run ≡ printed_before old (follow n place t rest) → Follows n t w old new None
+pub goes_on : (n : ℕ) (run : Run) (place : Place) (t : Tried) (rest : Place → Run) (was : Scene) (w : World Kept) (old new : List ℕ) → run ≡ printed_before old (follow n place t rest) → Follows n t was w old new None
     → (Shows w × IsReached (scene_of w) (n + 1)) × (run ≡ printed_before new (rest (Stands (scene_of w))))
-goes_on n run place (Fails kind) rest w old new e h = absurd cc
-goes_on n run place (Does Before text) rest w old new e h = absurd h.1.1
-goes_on n run place (Does (Heads header) text) rest w old new e h = absurd h.1.1
-goes_on n run place (Does (Stands s) text) rest w old new e h =
+goes_on n run place (Fails kind) rest was w old new e h = absurd cc
+goes_on n run place (Does Before text) rest was w old new e h = absurd h.1.1
+goes_on n run place (Does (Heads header) text) rest was w old new e h = absurd h.1.1
+goes_on n run place (Does (Stands s) text) rest was w old new e h =
     let same : s ≡ scene_of w = scene_same w s h.1.1.0 in (
       (subst (λ (x : Scene). ShowsScene state w x) same h.1.1.0, subst (λ (x : Scene). IsReached x (n + 1)) same h.1.1.1),
       e ∙ printed-twice old text (rest (Stands s)) ∙ ap (λ (o : List ℕ). printed_before o (rest (Stands s))) (sym h.1.0) ∙ ap (λ (x : Scene). printed_before new (rest (Stands x))) same,
@@ -187,17 +167,24 @@ run_line run total before n behind place out rest text others e lines is =
 
 -- ---- what the lines come to
 
-stopped-so : (run : Run) (out : List ℕ) (place : Place) (n kind : ℕ) → run ≡ printed_before out (stops place n kind) → Leaves run (ran.Stopped out (record { number = n; kind = kind }))
-stopped-so run out place n kind e = (ap (λ (r : Run). r.bad) e, ap (λ (r : Run). r.text) e ∙ append-nil out)
+stopped-so : (run : Run) (t : Transcript) (out : List ℕ) (place : Place) (n kind : ℕ) → run ≡ printed_before out (stops place n kind) → transcript_group t ≡ group_in (scene_in place) → history_of t ≡ history_in (scene_in place)
+    → Leaves run (ran.Stopped t out (record { number = n; kind = kind }))
+stopped-so run t out place n kind e group history = (
+  ap (λ (r : Run). r.bad) e,
+  (ap (λ (r : Run). r.text) e ∙ append-nil out, (group ∙ ap (λ (r : Run). group_in r.scene) (sym e), history ∙ ap (λ (r : Run). history_in r.scene) (sym e))),
+)
 
 -- a line was bad
-pub leaves_stop : (n : ℕ) (run : Run) (place : Place) (t : Tried) (rest : Place → Run) (w : World Kept) (old new : List ℕ) (b : BadLine) → run ≡ printed_before old (follow n place t rest)
-    → Follows n t w old new (Some b) → Leaves run (ran.Stopped new b)
-leaves_stop n run place (Does next made) rest w old new b e h = absurd cc
-leaves_stop n run place (Fails kind) rest w old new b e h =
+pub leaves_stop : (n : ℕ) (run : Run) (s : Scene) (t : Tried) (rest : Place → Run) (w : World Kept) (done : Transcript) (old new : List ℕ) (b : BadLine) → run ≡ printed_before old (follow n (Stands s) t rest)
+    → Follows n t s w old new (Some b) → done ≡ w.transcript → Leaves run (ran.Stopped done new b)
+leaves_stop n run s (Does next made) rest w done old new b e h is = absurd cc
+leaves_stop n run s (Fails kind) rest w done old new b e h is =
     let bad : BadLine = record { number = n; kind = kind } in
     let same : b ≡ bad = cc in
-    subst (λ (x : BadLine). Leaves run (ran.Stopped new x)) (sym same) (subst (λ (o : List ℕ). Leaves run (ran.Stopped o bad)) (sym h.1) (stopped-so run old place n kind e))
+    let shows : ShowsScene state w s = h.1.1 in
+    let group : transcript_group done ≡ s.group = ap (λ (t : Transcript). transcript_group t) is ∙ shows.group in
+    let history : history_of done ≡ s.history = ap (λ (t : Transcript). history_of t) is ∙ shows.history in
+    subst (λ (x : BadLine). Leaves run (ran.Stopped done new x)) (sym same) (subst (λ (o : List ℕ). Leaves run (ran.Stopped done o bad)) (sym h.1.0) (stopped-so run done old (Stands s) n kind e group history))
 
 pub play_nil : (total before n : ℕ) (place : Place) → play total before n place [] ≡ record { scene = scene_in place; text = []; bad = bad_end n place }
 unfolding play
@@ -223,10 +210,13 @@ heading_line run total before n behind place rest text others e lines is =
     ∙ ap (λ (k : ℕ). follow n place (tried_at k place text) (λ next. play total k (n + 1) next (lines_of others))) (sym is)
 
 -- its next line is bad
-pub head_stops : (run : Run) (n kind : ℕ) (place : Place) (t : Tried) (rest : Place → Run) → run ≡ follow n place t rest → t ≡ Fails kind → Leaves run (ran.Stopped [] (record { number = n; kind = kind }))
-head_stops run n kind place t rest e is =
-    let stopped : run ≡ stops place n kind = e ∙ ap (λ (x : Tried). follow n place x rest) is in
-    (ap (λ (r : Run). r.bad) stopped, ap (λ (r : Run). r.text) stopped)
+pub head_stops : (run : Run) (n kind : ℕ) (place : Place) (t : Tried) (rest : Place → Run) → run ≡ follow n place t rest → t ≡ Fails kind → run ≡ stops place n kind
+head_stops run n kind place t rest e is = e ∙ ap (λ (x : Tried). follow n place x rest) is
+
+-- and nothing was done
+pub unopened_leaves : (h : Option Header) (t : Transcript) (n kind : ℕ) → transcript_group t ≡ group_in (scene_in (place_by h)) → history_of t ≡ [] → Leaves (stops (place_by h) n kind) (ran.Stopped t [] (record { number = n; kind = kind }))
+unopened_leaves None t n kind group none = (refl, (refl, (group, none)))
+unopened_leaves (Some h) t n kind group none = (refl, (refl, (group, none)))
 
 -- or leads on
 pub head_goes : (run : Run) (n : ℕ) (place next : Place) (t : Tried) (rest : Place → Run) → run ≡ follow n place t rest → t ≡ Does next [] → run ≡ rest next
@@ -264,7 +254,7 @@ opened_shows w g shows = subst (λ (s : Scene). ShowsScene state w s) (scene_sam
 pub opened_reached : (w : World Kept) (h : Header) (n : ℕ) → ShowsScene state w (opening (group_by (header_by h))) → IsReached (scene_of w) n
 opened_reached w h n shows =
     let g : Group = group_by (header_by h) in
-    subst (λ (s : Scene). IsReached s n) (scene_same w (opening g) shows) (opens_reached g n shows.lawful.group refl)
+    subst (λ (s : Scene). IsReached s n) (scene_same w (opening g) shows) (opens_reached g n shows.lawful.group)
 
 -- ---- the whole script
 
@@ -299,9 +289,25 @@ prints_whole r w out left p h = (
 )
 
 -- a line was bad
-pub prints_stopped : (r : Run) (out : List ℕ) (b : BadLine) → Leaves r (ran.Stopped out b) → (p : Played) → (p.text ≡ out ++ bad_line (record { number = b.number; kind = b.kind })) × (p.end ≡ end.Bad) → (p.text ≡ print_of r) × (p.end ≡ end_of r)
+pub prints_stopped : (r : Run) (t : Transcript) (out : List ℕ) (b : BadLine) → Leaves r (ran.Stopped t out b) → (p : Played) → (p.text ≡ out ++ bad_line (record { number = b.number; kind = b.kind })) × (p.end ≡ end.Bad) → (p.text ≡ print_of r) × (p.end ≡ end_of r)
 unfolding print_of
-prints_stopped r out b left p h = (
-  h.0 ∙ ap (λ (o : List ℕ). o ++ bad_line (record { number = b.number; kind = b.kind })) (sym left.1) ∙ ap (λ (x : Option Bad). r.text ++ end_text (group_in r.scene) (history_in r.scene) x) (sym left.0),
+prints_stopped r t out b left p h = (
+  h.0 ∙ ap (λ (o : List ℕ). o ++ bad_line (record { number = b.number; kind = b.kind })) (sym left.1.0) ∙ ap (λ (x : Option Bad). r.text ++ end_text (group_in r.scene) (history_in r.scene) x) (sym left.0),
   h.1 ∙ ap (λ (x : Option Bad). ended_by x (is_forged (group_in r.scene) (history_in r.scene))) (sym left.0),
 )
+
+-- ---- what was done
+
+-- its transcript
+abbrev pub IsOf : Ran → Transcript → Type 0
+IsOf (ran.Whole w text) t = t ≡ w.transcript
+IsOf (ran.Stopped done text b) t = t ≡ done
+
+-- it is the group and the history of the run
+pub tells_group : (r : Run) (x : Ran) (t : Transcript) → Leaves r x → IsOf x t → transcript_group t ≡ group_in r.scene
+tells_group r (ran.Whole w text) t left is = ap (λ (y : Transcript). transcript_group y) is ∙ ap (λ (o : Option Scene). group_in o) (sym left.1.1.0)
+tells_group r (ran.Stopped done text b) t left is = ap (λ (y : Transcript). transcript_group y) is ∙ left.1.1.0
+
+pub tells_history : (r : Run) (x : Ran) (t : Transcript) → Leaves r x → IsOf x t → history_of t ≡ history_in r.scene
+tells_history r (ran.Whole w text) t left is = ap (λ (y : Transcript). history_of y) is ∙ ap (λ (o : Option Scene). history_in o) (sym left.1.1.0)
+tells_history r (ran.Stopped done text b) t left is = ap (λ (y : Transcript). history_of y) is ∙ left.1.1.1

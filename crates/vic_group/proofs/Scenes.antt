@@ -143,7 +143,7 @@ module _ {V : Type 0} (t : Transcript) (ms : List Member) (vs : List (Option V))
             (subst (λ (j : ℕ). MemberStands s.group (x ∷ s.history) n j) same so);
         lawful = record {
           group = shows.lawful.group;
-          steps = (shows.lawful.steps, record { member = (omega (arith, is), omega (arith, is, lt, shows.count)); may = may; sent = refl; returned = refl });
+          steps = (shows.lawful.steps, record { member = (omega (arith, is), omega (arith, is, lt, shows.count)); may = may; sent = refl; returned = refl; object = refl });
         };
       }
 

@@ -1,8 +1,8 @@
 -- What trying a line makes of a world, and what is then printed.
 use Rattle.std.specs.Prelude.{◌≡◌, ℕ, ◌+◌, ◌<◌, ◌≤◌, Bool, true, false, List, [], ◌++◌, map, Option, Some, None, nat_lt, if◌then◌else◌}
-use Rattle.vic_dict.specs.declared.op.Mode.TheVariants as mode
 use Rattle.vic_order.specs.Order.{Server}
 use Rattle.vic_server.specs.Replay.{Kept}
+use Rattle.vic_view.specs.declared.transcript.Transcript.{Transcript}
 use Rattle.vic_view.specs.Transcripts.{history_of, group_of as transcript_group}
 use Rattle.vic_script.specs.declared.line.Line.{Line}
 use Rattle.vic_script.specs.Lines.{line_of}
@@ -42,9 +42,9 @@ Shows w = ShowsScene state w (scene_of w)
 
 -- ---- the header
 
--- the header that has been read, of a group without objects
+-- the header that has been read
 abbrev pub header_by : Header → Told
-header_by h = record { mode = mode.Plain; count = h.count; key = h.key }
+header_by h = record { mode = h.mode; count = h.count; key = h.key }
 
 -- where it leaves a script, if it has begun
 abbrev pub place_by : Option Header → Place
@@ -61,7 +61,7 @@ HasFew (Some h) = (0 < h.count) × (h.count ≤ 64)
 abbrev pub Leads : Place → Option Line → Headed → Type 0
 Leads place l (headed.Goes next) = (try_line place l ≡ Does (place_by next) []) × HasFew next
 Leads place l (headed.Ends h) = (place ≡ Heads (header_by h)) × ((try_line place l ≡ try_line (Stands (opening (group_by (header_by h)))) l) × HasFew (Some h))
-Leads place l (headed.Bad kind) = try_line place l ≡ Fails kind
+Leads place l (headed.Bad h kind) = (try_line place l ≡ Fails kind) × ((place ≡ place_by h) × HasFew h)
 
 -- ---- the lines behind it
 
@@ -77,19 +77,19 @@ ShowsReached w Before n = ⊥
 ShowsReached w (Heads h) n = ⊥
 ShowsReached w (Stands s) n = ShowsScene state w s × IsReached s n
 
--- what trying a line made of a world and of what was printed before
-abbrev pub Tries : Tried → World Kept → List ℕ → List ℕ → Option ℕ → Type 0
-Tries (Fails kind) w old new bad = (bad ≡ Some kind) × (new ≡ old)
-Tries (Does place text) w old new bad = (bad ≡ None) × ((new ≡ old ++ text) × ShowsPlace w place)
+-- what trying a line in a scene made of a world and of what was printed before
+abbrev pub Tries : Tried → Scene → World Kept → List ℕ → List ℕ → Option ℕ → Type 0
+Tries (Fails kind) s w old new bad = (bad ≡ Some kind) × ((new ≡ old) × ShowsScene state w s)
+Tries (Does place text) s w old new bad = (bad ≡ None) × ((new ≡ old ++ text) × ShowsPlace w place)
 
 -- a line that ends so far in a script is tried
 abbrev pub tried_at : ℕ → Place → List ℕ → Tried
 tried_at behind place text = if nat_lt limit behind then Fails 7 else try_line place (line_of (mode_in (scene_in place)) text)
 
 -- the same for the line of a number
-abbrev pub Follows : ℕ → Tried → World Kept → List ℕ → List ℕ → Option BadLine → Type 0
-Follows n (Fails kind) w old new bad = (bad ≡ Some (record { number = n; kind = kind })) × (new ≡ old)
-Follows n (Does place text) w old new bad = (bad ≡ None) × ((new ≡ old ++ text) × ShowsReached w place (n + 1))
+abbrev pub Follows : ℕ → Tried → Scene → World Kept → List ℕ → List ℕ → Option BadLine → Type 0
+Follows n (Fails kind) s w old new bad = (bad ≡ Some (record { number = n; kind = kind })) × ((new ≡ old) × ShowsScene state w s)
+Follows n (Does place text) s w old new bad = (bad ≡ None) × ((new ≡ old ++ text) × ShowsReached w place (n + 1))
 
 -- how a run ends: with a bad line, or else by whether a tag was taken that no client had made before
 abbrev pub ended_by : Option Bad → Bool → End
@@ -100,7 +100,12 @@ ended_by None false = end.Whole
 abbrev pub end_of : Run → End
 end_of r = ended_by r.bad (is_forged (group_in r.scene) (history_in r.scene))
 
--- what the lines of a run come to: what they printed, and the bad line; or, where none is bad, a world that shows where it stands
+-- a transcript is what a run did
+abbrev pub Tells : Run → Transcript → Type 0
+Tells r t = (transcript_group t ≡ group_in r.scene) × (history_of t ≡ history_in r.scene)
+
+-- what the lines of a run come to: what was done, what they printed, and the bad line; or, where none is bad, a world that shows where it
+-- stands
 abbrev pub Leaves : Run → Ran → Type 0
-Leaves r (ran.Stopped text b) = (r.bad ≡ Some (record { number = b.number; kind = b.kind })) × (r.text ≡ text)
+Leaves r (ran.Stopped t text b) = (r.bad ≡ Some (record { number = b.number; kind = b.kind })) × ((r.text ≡ text) × Tells r t)
 Leaves r (ran.Whole w text) = (r.bad ≡ None) × ((r.text ≡ text) × ((r.scene ≡ Some (scene_of w)) × Shows w))

@@ -3,8 +3,10 @@ use Rattle.std.specs.Prelude.{◌≡◌, ℕ, ◌+◌, ◌<◌, ◌≤◌, ◌^�
 use Rattle.std.specs.List.{AllByRecursion}
 use Rattle.vic_dict.specs.declared.bytes.NoMemory.{NoMemory}
 use Rattle.vic_dict.specs.Dictionary.{Fits, AreBytesIn}
+use Rattle.vic_dict.specs.declared.op.Mode.{Mode}
 use Rattle.vic_dict.specs.declared.op.Mode.TheVariants as mode
 use Rattle.vic_wire.specs.Hashes.{Group}
+use Rattle.vic_rules.specs.Objects.{FitsObject, AreBytesInObject}
 use Rattle.vic_rules.specs.declared.trace.Input.{Input}
 use Rattle.vic_rules.specs.declared.trace.Input.TheVariants as input
 use Rattle.vic_rules.specs.declared.trace.TraceStep.{TraceStep}
@@ -18,7 +20,8 @@ use Rattle.vic_script.specs.declared.line.Line.{Line}
 use Rattle.vic_script.specs.declared.line.Line.TheVariants as line
 use Rattle.vic_order.specs.Scenes.{SceneOf, queued, server_at, last_taken, last_sent, is_client, Event, Serves, after_events}
 use Rattle.vic_script.specs.Scenes.{print_of_events, most_turns, turns, events_of, bad_kind}
-use Rattle.vic_honest.specs.Claims.{IsHonestScene}
+use Rattle.vic_honest.specs.SafeRuns.{AreApart}
+use Rattle.vic_honest.specs.Claims.{IsHonestScene, HoldsAnyway}
 use Rattle.vic_runs.specs.Reached.{IsHonestlyReached}
 use Rattle.vic_group.specs.declared.member.Member.{Member}
 use Rattle.vic_group.specs.declared.servers.Servers.{Servers}
@@ -57,18 +60,20 @@ pub record Shows {V : Type 0} (t : Transcript) (ms : List Member) (vs : List (Op
 abbrev pub ShowsScene : {S V : Type 0} → (S → V) → World S → SceneOf V → Type 0
 ShowsScene state w s = Shows w.transcript w.members.items (states state w.servers) s
 
--- a client of a plain group that may call once more
-abbrev pub IsReady : Member → Type 0
-IsReady m = (m.client.mode ≡ mode.Plain) × (m.client.calls + 1 < 2 ^ 32)
+-- a client of a group of this mode that may call once more
+abbrev pub IsReady : Mode → Member → Type 0
+IsReady k m = (m.client.mode ≡ k) × (m.client.calls + 1 < 2 ^ 32)
 
--- the operation of a line that calls one is bytes
+-- the texts of a line that calls are bytes
 abbrev pub HasBytes : Line → Type 0
 HasBytes (line.Call i o) = AreBytesIn o
+HasBytes (line.Object i c) = AreBytesInObject c
 HasBytes l = Unit {0}
 
--- a client whom a line calls, in a group of mode plain, may call once more
+-- a client whom a line calls, in a group of the mode that has such calls, may call once more
 abbrev pub MayDo : {S : Type 0} → World S → Line → Type 0
-MayDo w (line.Call i o) = w.transcript.mode ≡ mode.Plain → 0 < i → (m : Member) → slice_get w.members.items (i - 1) ≡ Some m → IsReady m
+MayDo w (line.Call i o) = w.transcript.mode ≡ mode.Plain → 0 < i → (m : Member) → slice_get w.members.items (i - 1) ≡ Some m → IsReady mode.Plain m
+MayDo w (line.Object i c) = w.transcript.mode ≡ mode.Objects → 0 < i → (m : Member) → slice_get w.members.items (i - 1) ≡ Some m → IsReady mode.Objects m
 MayDo w l = Unit {0}
 
 -- ---- what a member does
@@ -77,7 +82,7 @@ MayDo w l = Unit {0}
 abbrev pub step_at : Group → List TraceStep → ℕ → Input → TraceStep
 step_at g h i given =
     let v = step g i (standing g i h) given in
-    record { client = i; input = given; sent = payload_of g i v.next v.sends; returned = v.returns }
+    record { client = i; input = given; sent = payload_of g i v.next v.sends; returned = v.returns; object = v.object }
 
 -- a client made its step, as it may: what it sent joined its queue, and it stands where the history then leaves it
 pub record Acts (g : Group) (h : List TraceStep) (i : ℕ) (given : Input) (old new : Member) : Type 0 where
@@ -99,7 +104,8 @@ pub record Stays (before after : Transcript) : Type 0 where
 
 -- what a client may be asked: a call that fits, while it may call once more
 abbrev pub CanAsk : Member → Input → Type 0
-CanAsk m (input.Call op) = IsReady m × (Fits op × AreBytesIn op)
+CanAsk m (input.Call op) = IsReady mode.Plain m × (Fits op × AreBytesIn op)
+CanAsk m (input.Object c) = IsReady mode.Objects m × (FitsObject c × AreBytesInObject c)
 CanAsk m input.Poll = Unit {0}
 CanAsk m input.Sync = Unit {0}
 CanAsk m (input.Payload payload) = ⊥
@@ -133,9 +139,11 @@ Does state rule s l (Err e) w before after = IsLeft state rule s l w
 -- ---- honest servers
 
 -- the world shows where clients stand that have one server, which answers as one that follows the rule: an honest run of theirs leads
--- there, no client was called more than n times, and what holds of such runs holds there
+-- there, and no client was called more than n times. What holds of such runs holds there, in a group with objects unless two different
+-- contents that clients sent have one hash
 pub record StandsHonestly {S V : Type 0} (state : S → V) (rule : Serving V) (w : World S) (n : ℕ) : Type 0 where
   pub scene : SceneOf V
   pub shows : ShowsScene state w scene
   pub reached : IsHonestlyReached (AnswersAs rule) scene n
-  pub holds : IsHonestScene scene reached.comes.events reached.comes.server
+  pub anyway : HoldsAnyway scene.group scene.history reached.comes.server
+  pub holds : AreApart scene.group scene.history → IsHonestScene scene reached.comes.events reached.comes.server

@@ -1,10 +1,10 @@
-//! The header of a script: how many clients the group has, and its key.
+//! The header of a script: the kind of the group, how many clients it has, and its key.
 
-ghost use Rattle.std.specs.Prelude.{◌≡◌, IfOk, Some, None, unwrap_or};
-ghost use Rattle.vic_dict.specs.declared.op.Mode.TheVariants as mode;
+ghost use Rattle.std.specs.Prelude.{◌≡◌, [], IfOk, Some, None, unwrap_or};
 ghost use Rattle.vic_order.specs.Scenes.{opening};
 ghost use Rattle.vic_script.specs.Lines.{line_of};
-ghost use Rattle.vic_script.specs.Run.{zero_key as zeros, group_by, mode_in, scene_in, Before, Heads};
+ghost use Rattle.vic_script.specs.Run.{zero_key as zeros, group_by, group_in, mode_in, scene_in, Before, Heads};
+ghost use Rattle.vic_view.specs.Transcripts.{group_of, history_of};
 ghost use Rattle.vic_group.specs.World.{ShowsScene};
 ghost use Rattle.vic_group.specs.Playing.{state, header_by, place_by, HasFew, Leads};
 
@@ -15,10 +15,12 @@ use vic_dict::{Bytes, Mode, NoMemory};
 use vic_server::Served;
 use vic_tag::GroupKey;
 use vic_text::{Line, LineFault, read_line};
+use vic_view::Transcript;
 
-/// A header, as far as it goes: the number of clients of a group without objects, and its key, once a line has named it.
+/// A header, as far as it goes: the kind of the group, the number of its clients, and its key, once a line has named it.
 #[derive(Drop)]
 pub(crate) struct Header {
+    pub(crate) mode: Mode,
     pub(crate) count: u8,
     pub(crate) key: Option<GroupKey>,
 }
@@ -30,8 +32,8 @@ pub(crate) enum Headed {
     Goes(Option<Header>),
     /// It isn't of the header, which stays like this: an event follows, or a bad line.
     Ends(Header),
-    /// It is bad, by this kind.
-    Bad(u8),
+    /// It is bad by this kind, behind so much of a header.
+    Bad(Option<Header>, u8),
 }
 
 /// Reads a line behind this much of a header.
@@ -55,18 +57,30 @@ fn opening_line(alloc: Global, text: &[u8]) -> Result<Headed, NoMemory>
 {
     match read_line(alloc, text, None) {
         Ok(Line::Skip) => Ok(Headed::Goes(None)),
-        Ok(Line::Clients(count)) => Ok(Headed::Goes(Some(Header { count, key: None }))),
-        Ok(_) | Err(LineFault::Grammar) => Ok(Headed::Bad(1)),
+        Ok(Line::Clients(count)) => Ok(begun(Mode::Plain, count)),
+        Ok(Line::Objects(count)) => Ok(begun(Mode::Objects, count)),
+        Ok(_) | Err(LineFault::Grammar) => Ok(Headed::Bad(None, 1)),
         Err(LineFault::NoMemory) => Err(NoMemory),
     }
+}
+
+/// A header begins, of a group of this kind with so many clients.
+fn begun(mode: Mode, count: u8) -> Headed
+    ensures { result ≡ Headed.Goes (Some (record { mode = mode; count = count; key = None })) }
+{
+    Headed::Goes(Some(Header {
+        mode,
+        count,
+        key: None,
+    }))
 }
 
 /// Reads a line behind the first one of a header.
 fn later_line(alloc: Global, header: Header, text: &[u8]) -> Result<Headed, NoMemory>
     requires { HasFew (Some header) }
-    ensures { IfOk result (λ r. Leads (Heads (header_by header)) (line_of (Some mode.Plain) text.now) r) }
+    ensures { IfOk result (λ r. Leads (Heads (header_by header)) (line_of (Some header.mode) text.now) r) }
 {
-    match read_line(alloc, text, Some(Mode::Plain)) {
+    match read_line(alloc, text, Some(header.mode)) {
         Ok(Line::Skip) => Ok(Headed::Goes(Some(header))),
         Ok(Line::Key(digits)) => keyed(alloc, header, &digits),
         Ok(_) | Err(LineFault::Grammar) => Ok(Headed::Ends(header)),
@@ -80,10 +94,11 @@ fn keyed(alloc: Global, header: Header, digits: &Bytes) -> Result<Headed, NoMemo
     ensures { IfOk result (λ r. Leads (Heads (header_by header)) (Some (Line.Key digits.now)) r) }
 {
     if header.key.is_some() {
-        return Ok(Headed::Bad(1));
+        return Ok(Headed::Bad(Some(header), 1));
     }
     let key = spelled_key(alloc, digits.as_slice())?;
     Ok(Headed::Goes(Some(Header {
+        mode: header.mode,
         count: header.count,
         key: Some(key),
     })))
@@ -104,8 +119,21 @@ pub(crate) fn opened(alloc: Global, header: Header) -> Result<World<Served>, NoM
     requires { HasFew (Some header) }
     ensures { IfOk result (λ w. ShowsScene state w (opening (group_by (header_by header)))) }
 {
-    let Header { count, key } = header;
+    let Header { mode, count, key } = header;
     let key = key_of(alloc, key)?;
-    let server = Served::gathered(alloc, Mode::Plain, count)?;
-    World::new(alloc, count, Mode::Plain, key, server)
+    let server = Served::gathered(alloc, mode, count)?;
+    World::new(alloc, count, mode, key, server)
+}
+
+/// The transcript of a script that stops behind so much of a header: nothing was done in its group, or in a group of one where the
+/// header hasn't begun.
+pub(crate) fn without_steps(alloc: Global, header: Option<Header>) -> Result<Transcript, NoMemory>
+    ensures group { IfOk result (λ t. group_of t ≡ group_in (scene_in (place_by header))) }
+    ensures history { IfOk result (λ t. history_of t ≡ []) }
+{
+    let Some(Header { mode, count, key }) = header else {
+        return Ok(Transcript::new(alloc, Mode::Plain, 1, zero_key(alloc)?));
+    };
+    let key = key_of(alloc, key)?;
+    Ok(Transcript::new(alloc, mode, count, key))
 }

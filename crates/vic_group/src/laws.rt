@@ -2,6 +2,7 @@
 //! use alone. They are laws over the definitions; the functions do nothing.
 
 ghost use Rattle.vic_laws.specs.Claims.{HashesTellPaths, SealsHold, ViewsAreLegal};
+ghost use Rattle.vic_laws.specs.ContentClaims.{LoadsGetTheLast};
 ghost use Rattle.vic_laws.specs.Meanings.{AbortedByConflict, SealedAnswersStand};
 ghost use Rattle.vic_laws.specs.OrderClaims.{AnswersStand, CompletedOnce, DoneMeetsNoConflict, ViewsAgree, ViewsInRealTime, ViewsComplete, ViewsShowOnlyCalls};
 
@@ -36,4 +37,10 @@ pub fn legal()
     ensures aborts { AbortedByConflict }
     ensures complete { ViewsComplete }
     ensures only_calls { ViewsShowOnlyCalls }
+{}
+
+/// In a group with objects, unless a tag was forged or two texts collide: a load that returns a content returns that of the last done
+/// store of its name before it, in its client's view.
+pub fn contents()
+    ensures { LoadsGetTheLast }
 {}

@@ -15,8 +15,8 @@ use crate::queue::Queue;
 use crate::said::put_said;
 use crate::servers::Servers;
 use std::alloc::Global;
-use vic_client::{Client, Pending};
-use vic_dict::{Bytes, NoMemory, Outcome};
+use vic_client::{Client, Pending, Step};
+use vic_dict::{Bytes, NoMemory};
 use vic_server::Serve;
 use vic_view::{Input, TraceStep, Transcript};
 
@@ -92,15 +92,19 @@ impl Member {
         &mut self,
         alloc: Global,
         input: Input,
-        sent: Option<Bytes>,
-        returned: Option<Outcome>,
+        step: Step,
         transcript: &mut Transcript,
     ) -> Result<(), NoMemory>
-        ensures ok { OnOk result (self.new ≡ record self.old { up = queued self.old.up sent; taken = or_before (payload_in input) self.old.taken; sent = or_before sent self.old.sent }) }
-        ensures joins { OnOk result (Joins (record { client = self.old.client.id; input = input; sent = sent; returned = returned }) transcript.old transcript.new) }
+        ensures ok { OnOk result (self.new ≡ record self.old { up = queued self.old.up step.send; taken = or_before (payload_in input) self.old.taken; sent = or_before step.send self.old.sent }) }
+        ensures joins { OnOk result (Joins (record { client = self.old.client.id; input = input; sent = step.send; returned = step.returned; object = step.object }) transcript.old transcript.new) }
         ensures err { OnErr result (self.new ≡ self.old) }
         ensures stays { OnErr result (Stays transcript.old transcript.new) }
     {
+        let Step {
+            send: sent,
+            returned,
+            object,
+        } = step;
         let taken = payload_copy(alloc, &input)?;
         let last = copied(alloc, &sent)?;
         let told = copied(alloc, &sent)?;
@@ -112,6 +116,7 @@ impl Member {
             input,
             sent: told,
             returned,
+            object,
         };
         match transcript.push(step) {
             Ok(()) => {
@@ -136,12 +141,14 @@ impl Member {
     {
         match input {
             Input::Call(op) => self.client.plan_call(alloc, op),
+            Input::Object(call) => self.client.plan_object(alloc, call),
             Input::Poll => self.client.plan_poll(alloc),
             _ => self.client.plan_sync(alloc),
         }
     }
 
-    /// The client calls, polls or syncs. Where memory runs out, nothing has changed.
+    /// The client calls, polls or syncs. Where memory runs out, nothing has changed. What it is asked for moves into the transcript, and
+    /// what it sends is copied twice: for the transcript, and to be sent again.
     pub fn ask(
         &mut self,
         alloc: Global,
@@ -158,7 +165,13 @@ impl Member {
         let mut pending = self.plan(alloc, &input)?;
         let sent = pending.step.send.take();
         let returned = pending.step.returned.take();
-        self.make(alloc, input, sent, returned, transcript)?;
+        let object = pending.step.object.take();
+        let step = Step {
+            send: sent,
+            returned,
+            object,
+        };
+        self.make(alloc, input, step, transcript)?;
         self.client.keep(pending);
         Ok(())
     }
@@ -168,22 +181,22 @@ impl Member {
         &mut self,
         alloc: Global,
         payload: Bytes,
-        sent: Option<Bytes>,
-        returned: Option<Outcome>,
+        step: Step,
         transcript: &mut Transcript,
         out: &mut Bytes,
     ) -> Result<(), NoMemory>
-        ensures ok { OnOk result (self.new ≡ record self.old { up = queued self.old.up sent; taken = Some payload; sent = or_before sent self.old.sent }) }
-        ensures joins { OnOk result (Joins (record { client = self.old.client.id; input = input.Payload payload; sent = sent; returned = returned }) transcript.old transcript.new) }
-        ensures out { OnOk result (out.new ≡ out.old ++ said self.old.client.id returned) }
+        ensures ok { OnOk result (self.new ≡ record self.old { up = queued self.old.up step.send; taken = Some payload; sent = or_before step.send self.old.sent }) }
+        ensures joins { OnOk result (Joins (record { client = self.old.client.id; input = input.Payload payload; sent = step.send; returned = step.returned; object = step.object }) transcript.old transcript.new) }
+        ensures out { OnOk result (out.new ≡ out.old ++ said self.old.client.id step.returned step.object) }
         ensures err { OnErr result (self.new ≡ self.old) }
         ensures stays { OnErr result (Stays transcript.old transcript.new) }
     {
-        put_said(out, alloc, self.client.id(), &returned)?;
-        self.make(alloc, Input::Payload(payload), sent, returned, transcript)
+        put_said(out, alloc, self.client.id(), &step.returned, &step.object)?;
+        self.make(alloc, Input::Payload(payload), step, transcript)
     }
 
-    /// The client takes a payload, and what is printed of that is appended. Where memory runs out, nothing has changed but the text.
+    /// The client takes a payload, and what is printed of that is appended. Where memory runs out, nothing has changed but the text. The
+    /// payload and what the client returned move into the transcript; the payload is copied once, to be taken again.
     pub fn take(
         &mut self,
         alloc: Global,
@@ -193,7 +206,7 @@ impl Member {
     ) -> Result<(), NoMemory>
         ensures acts { (g : Group) (h : List AStep) (i : ℕ) → MemberStands g h self.old i → OnOk result (Acts g h i (input.Payload payload) self.old self.new) }
         ensures joins { (g : Group) (h : List AStep) (i : ℕ) → MemberStands g h self.old i → OnOk result (Joins (step_at g h i (input.Payload payload)) transcript.old transcript.new) }
-        ensures out { (g : Group) (h : List AStep) (i : ℕ) → MemberStands g h self.old i → OnOk result (out.new ≡ out.old ++ said i (step_at g h i (input.Payload payload)).returned) }
+        ensures out { (g : Group) (h : List AStep) (i : ℕ) → MemberStands g h self.old i → OnOk result (out.new ≡ out.old ++ said i (step_at g h i (input.Payload payload)).returned (step_at g h i (input.Payload payload)).object) }
         ensures err { OnErr result (self.new ≡ self.old) }
         ensures stays { OnErr result (Stays transcript.old transcript.new) }
     {
@@ -201,7 +214,13 @@ impl Member {
         let mut pending = self.client.hear(alloc, payload.as_slice())?;
         let sent = pending.step.send.take();
         let returned = pending.step.returned.take();
-        match self.tell(alloc, payload, sent, returned, transcript, out) {
+        let object = pending.step.object.take();
+        let step = Step {
+            send: sent,
+            returned,
+            object,
+        };
+        match self.tell(alloc, payload, step, transcript, out) {
             Ok(()) => {
                 self.client.keep(pending);
                 Ok(())
@@ -260,7 +279,7 @@ impl Member {
     ) -> Result<(), NoMemory>
         ensures acts { (g : Group) (h : List AStep) (i : ℕ) → MemberStands g h self.old i → OnOk result (Acts g h i (input.Payload payload) (record self.old { down = drop 1 self.old.down }) self.new) }
         ensures joins { (g : Group) (h : List AStep) (i : ℕ) → MemberStands g h self.old i → OnOk result (Joins (step_at g h i (input.Payload payload)) transcript.old transcript.new) }
-        ensures out { (g : Group) (h : List AStep) (i : ℕ) → MemberStands g h self.old i → OnOk result (out.new ≡ out.old ++ said i (step_at g h i (input.Payload payload)).returned) }
+        ensures out { (g : Group) (h : List AStep) (i : ℕ) → MemberStands g h self.old i → OnOk result (out.new ≡ out.old ++ said i (step_at g h i (input.Payload payload)).returned (step_at g h i (input.Payload payload)).object) }
         ensures err { OnErr result (self.new ≡ self.old) }
         ensures stays { OnErr result (Stays transcript.old transcript.new) }
     {

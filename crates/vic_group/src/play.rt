@@ -1,25 +1,25 @@
 //! Running a script.
 
 ghost use Rattle.std.specs.Prelude.{◌≡◌, ◌<◌, ◌≤◌, ◌+◌, ◌++◌, ◌^◌, IfOk, length, take, None, []};
-ghost use Rattle.vic_dict.specs.declared.op.Mode.TheVariants as mode;
 ghost use Rattle.vic_script.specs.declared.line.Line.{Line};
 ghost use Rattle.vic_script.specs.Lines.{line_of, lines_of};
 ghost use Rattle.vic_order.specs.Serving.{by_rule};
 ghost use Rattle.vic_script.specs.Scenes.{bad_kind, done_line};
-ghost use Rattle.vic_script.specs.Run.{limit, Before, Stands, scene_in, run_of, try_line, tried_by, bad_end, play as play_by};
+ghost use Rattle.vic_script.specs.Run.{limit, Before, Stands, scene_in, stops, run_of, try_line, tried_by, bad_end, play as play_by};
 ghost use Rattle.vic_script.specs.Print.{print_of_script, bad_line, end_text, is_forged};
 ghost use Rattle.vic_view.specs.Transcripts.{group_of, history_of};
 ghost use Rattle.vic_runs.specs.Reached.{IsReached};
 ghost use Rattle.vic_group.specs.World.{MayDo};
 ghost use Rattle.vic_group.specs.Playing.{scene_of, place_by, HasFew, Shows, Tries, tried_at, Follows, Leaves, ended_by, end_of};
 
-use crate::header::{Headed, Header, head_line, opened};
+use crate::header::{Headed, Header, head_line, opened, without_steps};
 use crate::place::{first_line, place_behind};
 use crate::world::{World, WorldFault};
 use std::alloc::Global;
-use vic_dict::{Bytes, Mode, NoMemory};
+use vic_dict::{Bytes, NoMemory};
 use vic_server::Served;
 use vic_text::{Line, LineFault, SCRIPT_LIMIT, put_bad_line, read_line};
+use vic_view::Transcript;
 
 /// How the run of a script ends.
 #[derive(Clone, Copy, Debug, PartialEq, Eq)]
@@ -51,8 +51,8 @@ pub struct BadLine {
 pub(crate) enum Ran {
     /// Every line was done: the world that they left, and what they printed.
     Whole(World<Served>, Bytes),
-    /// What the lines before a bad one printed, and the bad line.
-    Stopped(Bytes, BadLine),
+    /// What the clients did before a bad line, what was printed before it, and the bad line.
+    Stopped(Transcript, Bytes, BadLine),
 }
 
 /// Runs a script, and answers what it prints. What stands behind its byte 16,777,217 isn't looked at. It costs what its lines cost
@@ -62,7 +62,7 @@ pub fn play(alloc: Global, script: &[u8]) -> Result<Played, NoMemory>
 {
     match run_script(alloc, script)? {
         Ran::Whole(world, text) => finished(alloc, &world, text),
-        Ran::Stopped(text, bad) => stopped(alloc, text, bad),
+        Ran::Stopped(_, text, bad) => stopped(alloc, text, bad),
     }
 }
 
@@ -97,7 +97,7 @@ fn run_known(alloc: Global, known: &[u8]) -> Result<Ran, NoMemory>
         let (text, others) = first_line(rest);
         let behind = place_behind(known.len(), before, text);
         if SCRIPT_LIMIT < behind {
-            return Ok(unopened(alloc, number, 7));
+            return unopened(alloc, header, number, 7);
         }
         match head_line(alloc, header, text)? {
             Headed::Goes(next) => {
@@ -110,7 +110,7 @@ fn run_known(alloc: Global, known: &[u8]) -> Result<Ran, NoMemory>
                 let world = opened(alloc, header)?;
                 return run_on(alloc, world, known.len(), before, number, rest);
             }
-            Headed::Bad(kind) => return Ok(unopened(alloc, number, kind)),
+            Headed::Bad(header, kind) => return unopened(alloc, header, number, kind),
         }
     }
     closed(alloc, header, number)
@@ -122,16 +122,17 @@ fn closed(alloc: Global, header: Option<Header>, number: u32) -> Result<Ran, NoM
     ensures { IfOk result (λ r. Leaves (record { scene = scene_in (place_by header); text = []; bad = bad_end number (place_by header) }) r) }
 {
     match header {
-        None => Ok(unopened(alloc, number, 1)),
+        None => unopened(alloc, None, number, 1),
         Some(header) => Ok(Ran::Whole(opened(alloc, header)?, Bytes::new(alloc))),
     }
 }
 
-/// The run of a script in which this line is bad, before any event.
-fn unopened(alloc: Global, number: u32, kind: u8) -> Ran
-    ensures { result ≡ Ran.Stopped [] (record { number = number; kind = kind }) }
+/// The run of a script in which this line is bad, before any event and behind so much of a header.
+fn unopened(alloc: Global, header: Option<Header>, number: u32, kind: u8) -> Result<Ran, NoMemory>
+    ensures { IfOk result (λ r. Leaves (stops (place_by header) number kind) r) }
 {
-    Ran::Stopped(Bytes::new(alloc), BadLine { number, kind })
+    let transcript = without_steps(alloc, header)?;
+    Ok(Ran::Stopped(transcript, Bytes::new(alloc), BadLine { number, kind }))
 }
 
 /// Does the lines behind the header, the first of which has this number, up to the first bad one.
@@ -159,7 +160,7 @@ fn run_on(
         let (text, others) = first_line(rest);
         let behind = place_behind(total, before, text);
         match do_line(alloc, &mut world, number, behind, text, &mut out)? {
-            Some(bad) => return Ok(Ran::Stopped(out, bad)),
+            Some(bad) => return Ok(Ran::Stopped(world.into_transcript(), out, bad)),
             None => {
                 before = behind;
                 number += 1;
@@ -182,7 +183,7 @@ fn do_line(
     requires shows { Shows world.old }
     requires reached { IsReached (scene_of world.old) number }
     requires few { number + 1 < 2 ^ 32 }
-    ensures { IfOk result (λ bad. Follows number (tried_at behind (Stands (scene_of world.old)) text.now) world.new out.old out.new bad) }
+    ensures { IfOk result (λ bad. Follows number (tried_at behind (Stands (scene_of world.old)) text.now) (scene_of world.old) world.new out.old out.new bad) }
 {
     if SCRIPT_LIMIT < behind {
         return Ok(Some(BadLine { number, kind: 7 }));
@@ -201,10 +202,11 @@ fn try_text(
     out: &mut Bytes,
 ) -> Result<Option<u8>, NoMemory>
     requires shows { Shows world.old }
-    requires may { (l : Line) → line_of (Some mode.Plain) text.now ≡ Some l → MayDo world.old l }
-    ensures { IfOk result (λ bad. Tries (try_line (Stands (scene_of world.old)) (line_of (Some mode.Plain) text.now)) world.new out.old out.new bad) }
+    requires may { (l : Line) → line_of (Some world.old.transcript.mode) text.now ≡ Some l → MayDo world.old l }
+    ensures { IfOk result (λ bad. Tries (try_line (Stands (scene_of world.old)) (line_of (Some world.old.transcript.mode) text.now)) (scene_of world.old) world.new out.old out.new bad) }
 {
-    match read_line(alloc, text, Some(Mode::Plain)) {
+    let mode = world.transcript().mode;
+    match read_line(alloc, text, Some(mode)) {
         Ok(line) => try_line_on(alloc, world, &line, out),
         Err(LineFault::Grammar) => Ok(Some(1)),
         Err(LineFault::NoMemory) => Err(NoMemory),
@@ -219,7 +221,7 @@ fn try_line_on(
 ) -> Result<Option<u8>, NoMemory>
     requires shows { Shows world.old }
     requires may { MayDo world.old line.now }
-    ensures { IfOk result (λ bad. Tries (tried_by (bad_kind (scene_of world.old) line.now) (done_line by_rule (scene_of world.old) line.now)) world.new out.old out.new bad) }
+    ensures { IfOk result (λ bad. Tries (tried_by (bad_kind (scene_of world.old) line.now) (done_line by_rule (scene_of world.old) line.now)) (scene_of world.old) world.new out.old out.new bad) }
 {
     match world.apply(alloc, line) {
         Ok(text) => {

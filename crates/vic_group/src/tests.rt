@@ -409,7 +409,7 @@ fn ends_plainly(alloc: Global, t: &Transcript, print: &[u8]) -> Result<bool, NoM
 fn runs_plainly(alloc: Global, script: &[u8], print: &[u8]) -> Result<bool, NoMemory> {
     match run_script(alloc, script)? {
         Ran::Whole(world, _) => ends_plainly(alloc, world.transcript(), print),
-        Ran::Stopped(_, _) => Ok(false),
+        Ran::Stopped(_, _, _) => Ok(false),
     }
 }
 

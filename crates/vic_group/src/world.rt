@@ -7,21 +7,24 @@ ghost use Rattle.vic_rules.specs.History.{IsLawful};
 ghost use Rattle.vic_rules.specs.Trust.{IsForged};
 ghost use Rattle.vic_rules.specs.Client.{first_failing};
 ghost use Rattle.vic_dict.specs.Dictionary.{Fits};
+ghost use Rattle.vic_rules.specs.Objects.{FitsObject};
 ghost use Rattle.vic_order.specs.Order.{fresh_server, ready, same_mode};
 ghost use Rattle.vic_group.specs.declared.member.Member.{Member as AMember};
 ghost use Rattle.vic_group.specs.World.{HasBytes};
 ghost use Rattle.vic_script.specs.declared.line.Line.TheVariants as line;
 ghost use Rattle.vic_script.specs.Lines.{is_place as place_test};
 ghost use Rattle.vic_order.specs.Scenes.{SceneOf, opening_with, steps, serves, waits_in, has_byte, server_at, Takes, Flips, Hears};
-ghost use Rattle.vic_script.specs.Scenes.{done_line, bad_kind, turns, asked_tests, fits_op, is_honest_line};
+ghost use Rattle.vic_script.specs.Scenes.{done_line, bad_kind, turns, asked_tests, fits_op, fits_object, is_honest_line};
 ghost use Rattle.vic_script.specs.Print.{end_text, is_forged};
 
 use crate::member::Member;
+use crate::objects;
 use crate::opening::entered_all;
 use crate::servers::Servers;
 use std::alloc::Global;
 use thiserror::Error;
 use vic_dict::{Bytes, Mode, NoMemory, Op};
+use vic_rules::ObjectCall;
 use vic_script::Line;
 use vic_server::Serve;
 use vic_tag::GroupKey;
@@ -68,12 +71,26 @@ fn is_plain_call(kind: Mode, op: &Op) -> bool
     }
 }
 
+/// Whether a call on objects is one of a group with objects, and within its lengths.
+fn is_object_call(kind: Mode, call: &ObjectCall) -> bool
+    ensures is { result ≡ (same_mode kind Mode.Objects && fits_object call.now) }
+    ensures objects { IsTrue result → kind ≡ Mode.Objects }
+    ensures fits { IsTrue result → FitsObject call.now }
+{
+    match kind {
+        Mode::Plain => false,
+        Mode::Objects => objects::fits(call),
+    }
+}
+
 // What the type says of a line's texts. It does nothing.
 fn line_bytes(line: &Line)
     ensures { HasBytes line.now }
 {
-    if let Line::Call(_, op) = line {
-        op.are_bytes();
+    match line {
+        Line::Call(_, op) => op.are_bytes(),
+        Line::Object(_, call) => objects::are_bytes(call),
+        _ => (),
     }
 }
 
@@ -93,7 +110,7 @@ impl<S: Serve + Drop> World<S> {
         requires few { count ≤ 64 }
         ensures shows { IfOk result (λ w. ShowsScene S.state w (opening_with (record { mode = mode; count = count; key = key }) (S.state server))) }
         // Where the server answers as one that follows the rule and has them all ready, they are clients with one honest server.
-        ensures honest { mode ≡ Mode.Plain → AnswersAs S.rule (S.state server) (fresh_server mode count ready) → IfOk result (λ w. StandsHonestly S.state S.rule w 0) }
+        ensures honest { AnswersAs S.rule (S.state server) (fresh_server mode count ready) → IfOk result (λ w. StandsHonestly S.state S.rule w 0) }
     {
         // A key has 1 to 64 bytes.
         let _length = key.len();
@@ -246,6 +263,24 @@ impl<S: Serve + Drop> World<S> {
         self.ask(alloc, who, input)
     }
 
+    fn object_line(
+        &mut self,
+        alloc: Global,
+        who: u32,
+        call: &ObjectCall,
+    ) -> Result<Option<u8>, NoMemory>
+        requires { MayDo self.old (line.Object who call.now) }
+        ensures { (s : SceneOf S.State) → ShowsScene S.state self.old s → Does S.state S.rule s (line.Object who call.now) result self.new [] [] }
+    {
+        if !is_object_call(self.transcript.mode, call) {
+            return Ok(Some(1));
+        }
+        // The texts of a call are bytes.
+        objects::are_bytes(call);
+        let input = Input::Object(objects::copy_of(alloc, call)?);
+        self.ask(alloc, who, input)
+    }
+
     fn serve_line(&mut self, alloc: Global, who: u32) -> Result<Option<u8>, NoMemory>
         ensures { (s : SceneOf S.State) → ShowsScene S.state self.old s → Does S.state S.rule s (line.Serve who) result self.new [] [] }
     {
@@ -385,8 +420,9 @@ impl<S: Serve + Drop> World<S> {
         ensures { (s : SceneOf S.State) → ShowsScene S.state self.old s → Does S.state S.rule s line.now result self.new out.old out.new }
     {
         match line {
-            Line::Clients(_) | Line::Key(_) | Line::Hostile(_, _) => Ok(Some(1)),
+            Line::Clients(_) | Line::Objects(_) | Line::Key(_) | Line::Hostile(_, _) => Ok(Some(1)),
             Line::Call(who, op) => self.call_line(alloc, *who, op),
+            Line::Object(who, call) => self.object_line(alloc, *who, call),
             Line::Poll(who) => self.ask(alloc, *who, Input::Poll),
             Line::Sync(who) => self.ask(alloc, *who, Input::Sync),
             Line::Serve(who) => self.serve_line(alloc, *who),
@@ -406,8 +442,8 @@ impl<S: Serve + Drop> World<S> {
     /// that the turns of a `run` line that were done stay done, the last of which may have been served alone. A client that a line
     /// calls has called fewer than 4,294,967,295 times.
     ///
-    /// It costs the step or the serving of the line, and in a `run` line those of each turn. A `copy` line costs the server's whole
-    /// state, but where a server is copied onto itself.
+    /// It costs the step or the serving of the line, and in a `run` line those of each turn. A call is copied from the line, with the
+    /// content that it stores. A `copy` line costs the server's whole state, but where a server is copied onto itself.
     pub fn apply(&mut self, alloc: Global, line: &Line) -> Result<Bytes, WorldFault>
         requires { MayDo self.old line.now }
         ensures done { (s : SceneOf S.State) → ShowsScene S.state self.old s → IfOk result (λ text.
@@ -432,6 +468,13 @@ impl<S: Serve + Drop> World<S> {
         ensures { result.now ≡ self.now.transcript }
     {
         &self.transcript
+    }
+
+    /// The same, where the world is let go.
+    pub fn into_transcript(self) -> Transcript
+        ensures { result ≡ self.transcript }
+    {
+        self.transcript
     }
 
     /// Server 1, as it stands.

@@ -1,4 +1,4 @@
-use Rattle.std.proofs.Common.{◌≡◌, List, ℕ, [], Option, Some, subst, sym}
+use Rattle.std.proofs.Common.{List, ℕ, [], Option, Some, subst, sym}
 use Rattle.vic_script.specs.Run.{scene_in, bad_end}
 use Rattle.vic_group.specs.declared.header.Header.{Header}
 use Rattle.vic_group.specs.declared.play.Ran.TheVariants as ran

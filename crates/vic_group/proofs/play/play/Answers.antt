@@ -16,7 +16,7 @@ returns-in-Whole c =
     let left : Leaves (run_of c.args.script.now) (ran.Whole c.in-Whole.world c.in-Whole.text) = subst (λ (r : Ran). Leaves (run_of c.args.script.now) r) c.in-Whole.is c.in_ok-world.ensures in
     if_ok-map c.finished.result _ _ (prints_whole (run_of c.args.script.now) c.in-Whole.world c.in-Whole.text left) c.finished.ensures
 
-pub returns-in-Stopped : goal.returns-in-Stopped
-returns-in-Stopped c =
-    let left : Leaves (run_of c.args.script.now) (ran.Stopped c.in-Stopped.text c.in-Stopped.bad) = subst (λ (r : Ran). Leaves (run_of c.args.script.now) r) c.in-Stopped.is c.in_ok-world.ensures in
-    if_ok-map c.stopped.result _ _ (prints_stopped (run_of c.args.script.now) c.in-Stopped.text c.in-Stopped.bad left) c.stopped.ensures
+pub returns : goal.returns
+returns c =
+    let left : Leaves (run_of c.args.script.now) (ran.Stopped c.in-Stopped.field-0 c.in-Stopped.text c.in-Stopped.bad) = subst (λ (r : Ran). Leaves (run_of c.args.script.now) r) c.in-Stopped.is c.in_ok-world.ensures in
+    if_ok-map c.stopped.result _ _ (prints_stopped (run_of c.args.script.now) c.in-Stopped.field-0 c.in-Stopped.text c.in-Stopped.bad left) c.stopped.ensures

@@ -1,11 +1,10 @@
-use Rattle.std.proofs.Common.{◌≡◌, ◌≤◌, ℕ, ◌+◌, List, [], length, Option, None, refl, sym, ap, subst, ◌∙◌, arith}
+use Rattle.std.proofs.Common.{◌≡◌, ◌≤◌, ℕ, ◌+◌, List, length, Option, sym, ap, subst, ◌∙◌, arith}
 use Rattle.std.proofs.lemmas.Bool.{eqb-true}
 use Rattle.vic_script.specs.declared.line.Line.{Line}
 use Rattle.vic_script.specs.Lines.{lines_of, line_of}
-use Rattle.vic_script.specs.Run.{limit, Place, Before, scene_in, mode_in, place_behind, Played as Run, play}
+use Rattle.vic_script.specs.Run.{limit, Place, Before, scene_in, mode_in, place_behind, stops, Played as Run, play}
 use Rattle.vic_group.specs.declared.header.Headed.{Headed}
 use Rattle.vic_group.specs.declared.header.Headed.TheVariants as headed
-use Rattle.vic_group.specs.declared.play.Ran.{Ran}
 use Rattle.vic_group.specs.Playing.{header_by, place_by, Leads, Leaves, tried_at}
 use Rattle.vic_group.proofs.Playing.{heading_line, tried_long, tried_short, head_stops, head_goes, head_ends, opened_shows, opened_reached, lines_none, play_nil, if_ok-map}
 use Rattle.vic_script.specs.Run.{group_by}
@@ -21,8 +20,8 @@ returns-then-behind-gt-SCRIPT_LIMIT c =
     let others : List ℕ = c.first_line.result.1.now in
     let run : Run = play total 0 1 Before (lines_of c.args.known.now) in
     let on = heading_line run total c.loop-rest.before n behind place c.loop-rest.rest.now text others c.loop-rest.invariant.run c.first_line.ensures.lines c.place_behind-behind.ensures in
-    subst (λ (r : Ran). Leaves run r) (sym c.unopened.ensures)
-    (head_stops run n 7 place (tried_at behind place text) (λ next. play total behind (n + 1) next (lines_of others)) on (tried_long behind place text (omega (arith, c.if-behind-gt-SCRIPT_LIMIT.true))))
+    let stopped = head_stops run n 7 place (tried_at behind place text) (λ next. play total behind (n + 1) next (lines_of others)) on (tried_long behind place text (omega (arith, c.if-behind-gt-SCRIPT_LIMIT.true))) in
+    if_ok-map c.unopened.result _ _ (λ r h. subst (λ (x : Run). Leaves x r) (sym stopped) h) c.unopened.ensures
 
 pub returns-in-Bad : goal.returns-in-Bad
 returns-in-Bad c =
@@ -35,10 +34,11 @@ returns-in-Bad c =
     let run : Run = play total 0 1 Before (lines_of c.args.known.now) in
     let spelled : Option Line = line_of (mode_in (scene_in place)) text in
     let on = heading_line run total c.loop-rest.before n behind place c.loop-rest.rest.now text others c.loop-rest.invariant.run c.first_line.ensures.lines c.place_behind-behind.ensures in
-    let leads : Leads place spelled (headed.Bad c.in-Bad.kind) = subst (λ (h : Headed). Leads place spelled h) c.in-Bad.is c.in_ok-next.ensures in
+    let leads : Leads place spelled (headed.Bad c.in-Bad.header c.in-Bad.kind) = subst (λ (h : Headed). Leads place spelled h) c.in-Bad.is c.in_ok-next.ensures in
     let within : behind ≤ limit = omega (arith, c.if-behind-gt-SCRIPT_LIMIT.false) in
-    subst (λ (r : Ran). Leaves run r) (sym c.unopened-in-Bad.ensures)
-    (head_stops run n c.in-Bad.kind place (tried_at behind place text) (λ next. play total behind (n + 1) next (lines_of others)) on (tried_short behind place text within ∙ leads))
+    let stopped = head_stops run n c.in-Bad.kind place (tried_at behind place text) (λ next. play total behind (n + 1) next (lines_of others)) on (tried_short behind place text within ∙ leads.0)
+    ∙ ap (λ (p : Place). stops p n c.in-Bad.kind) leads.1.0 in
+    if_ok-map c.unopened-in-Bad.result _ _ (λ r h. subst (λ (x : Run). Leaves x r) (sym stopped) h) c.unopened-in-Bad.ensures
 
 pub opened-requires : goal.opened-requires
 opened-requires c =

@@ -17,8 +17,8 @@ returns-in-Some c =
     let others : List ℕ = c.first_line.result.1.now in
     let run : Run = play total c.args.place c.args.first (Stands (scene_of c.args.opened)) (lines_of c.args.lines.now) in
     let on = run_line run total c.loop-rest.before n behind (Stands s) c.loop-rest.out c.loop-rest.rest.now text others c.loop-rest.invariant.run c.first_line.ensures.lines c.place_behind-behind.ensures in
-    leaves_stop n run (Stands s) (tried_at behind (Stands s) text) (λ next. play total behind (n + 1) next (lines_of others)) c.do_line.new.world c.loop-rest.out c.do_line.new.out c.in-Some.bad
-    on (rw (sym c.in-Some.is) c.in_ok-bad.ensures)
+    leaves_stop n run s (tried_at behind (Stands s) text) (λ next. play total behind (n + 1) next (lines_of others)) c.do_line.new.world c.into_transcript.result c.loop-rest.out c.do_line.new.out c.in-Some.bad
+    on (rw (sym c.in-Some.is) c.in_ok-bad.ensures) c.into_transcript.ensures
 
 pub loop-rest-preserved : goal.loop-rest-preserved
 loop-rest-preserved c =
@@ -30,7 +30,7 @@ loop-rest-preserved c =
     let others : List ℕ = c.first_line.result.1.now in
     let run : Run = play total c.args.place c.args.first (Stands (scene_of c.args.opened)) (lines_of c.args.lines.now) in
     let on = run_line run total c.loop-rest.before n behind (Stands s) c.loop-rest.out c.loop-rest.rest.now text others c.loop-rest.invariant.run c.first_line.ensures.lines c.place_behind-behind.ensures in
-    let next = goes_on n run (Stands s) (tried_at behind (Stands s) text) (λ next. play total behind (n + 1) next (lines_of others)) c.do_line.new.world c.loop-rest.out c.do_line.new.out on (rw (sym c.in-None.is) c.in_ok-bad.ensures) in
+    let next = goes_on n run (Stands s) (tried_at behind (Stands s) text) (λ next. play total behind (n + 1) next (lines_of others)) s c.do_line.new.world c.loop-rest.out c.do_line.new.out on (rw (sym c.in-None.is) c.in_ok-bad.ensures) in
     record {
       shows = next.0.0;
       reached = next.0.1;

@@ -15,6 +15,9 @@ returns-in-Clients-2 g c = λ s shows. header_line g.S.Serve.state g.S.Serve.rul
 pub returns-in-Clients-3 : goal.returns-in-Clients-3
 returns-in-Clients-3 g c = λ s shows. header_line g.S.Serve.state g.S.Serve.rule s c.args.line.now c.args.self.now c.in-Clients.is shows
 
+pub returns-in-Clients-4 : goal.returns-in-Clients-4
+returns-in-Clients-4 g c = λ s shows. header_line g.S.Serve.state g.S.Serve.rule s c.args.line.now c.args.self.now c.in-Clients.is shows
+
 pub returns-in-Skip : goal.returns-in-Skip
 returns-in-Skip g c = λ s shows. skipped_line g.S.Serve.state g.S.Serve.rule s c.args.line.now c.args.self.now c.args.out.now c.in-Skip.is shows
 

@@ -17,9 +17,9 @@ returns-clause-shows g c =
     (record { count = made.count; up = made.up; down = made.down; server = made.server; clients = made.clients })
 
 pub returns-clause-honest : goal.returns-clause-honest
-returns-clause-honest g c plain alike =
+returns-clause-honest g c alike =
     let k : Group = record { mode = c.args.mode; count = c.args.count; key = c.args.key } in
     let some : 0 < length c.args.key = omega (arith, c.len-length.ensures.some, c.len-length.ensures.value) in
     let few : length c.args.key ≤ 64 = omega (arith, c.len-length.ensures.block, c.len-length.ensures.value) in
     stands_opening g.S.Serve.state g.S.Serve.rule _ k (g.S.Serve.state c.args.server) (returns-clause-shows g c)
-    (record { count = (c.requires.some, c.requires.few); key = (some, few) }) plain alike
+    (record { count = (c.requires.some, c.requires.few); key = (some, few) }) alike
