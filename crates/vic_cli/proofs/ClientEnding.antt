@@ -3,7 +3,6 @@ use Rattle.std.proofs.Common.{◌≡◌, ◌⊎◌, inl, inr, ℕ, ◌<◌, ◌�
 use Rattle.std.specs.Prelude.{codes}
 use Rattle.std.specs.Str.{bytes_eq}
 use Rattle.vic_dict.specs.declared.bytes.NoMemory.{NoMemory}
-use Rattle.vic_dict.specs.Lists.{AreBytes}
 use Rattle.vic_rules.specs.Client.{at_start}
 use Rattle.vic_client.specs.Kept.{Kept, StandsFor, group_of}
 use Rattle.vic_wire.specs.Hashes.{Group}
@@ -61,6 +60,11 @@ six_right name address id count key kind n r right many h =
     subst (λ (b : Bool). IfOk r (λ c. IsClientOf (if b then counted address id key kind (number_in 64 count) else None) c)) (sym right)
     (subst (λ (o : Option ℕ). IfOk r (λ c. IsClientOf (counted address id key kind o) c)) (sym many) h)
 
+-- words that are wrong are no client's
+pub none_known : (o : Option ClientWords) (c : Kept) → IsClientOf o (Some c) → o ≡ None → ⊥
+none_known None c is e = is
+none_known (Some w) c is e = cc
+
 -- ---- what is composed
 
 pub stands_known : (o : Option ClientWords) (c : Kept) → IsClientOf o (Some c) → StandsFor c at_start
@@ -101,7 +105,7 @@ composes_whole w c t script old new s text is read tells = composes_session w c 
 
 pub composes_long : (w : ClientWords) (c : Kept) (t : Taken) (script : List ℕ) (old new : Told) (s : Status) (text : List ℕ) → IsClientOf (Some w) (Some c)
     → InputGives t.old t.new t.before t.now t.ended (input.TooLong script) → TellsSession (group_of c) c.id script old new s text → Composes (Some w) t old new s text
-composes_long w c t script old new s text is read tells = composes_session w c t script old new s text is (read.0, inr read.1) (λ few. let long = read.1 in absurd (omega (arith, few, long))) tells
+composes_long w c t script old new s text is read tells = composes_session w c t script old new s text is (read.0, inr (read.2, read.1)) (λ few. let long = read.1 in absurd (omega (arith, few, long))) tells
 
 -- ---- how it ends
 
@@ -125,8 +129,8 @@ written_whole o t old new k s text (of_words wrong same is line) all =
     subst (λ (x : Status). ClientEnds o t old new k x) (sym is) (wrong, (same, subst (λ (l : List ℕ). WroteAll l k) line all))
 written_whole o t old new k s text (of_fault right rose same is line) all =
     subst (λ (x : Status). ClientEnds o t old new k x) (sym is) (right, (rose, (same, subst (λ (l : List ℕ). WroteAll l k) line all)))
-written_whole o t old new k s text (of_memory same is line) all =
-    subst (λ (x : Status). ClientEnds o t old new k x) (sym is) (s, (text, (of_memory same is line, front_of text k all)))
+written_whole o t old new k s text (of_memory quiet same is line) all =
+    subst (λ (x : Status). ClientEnds o t old new k x) (sym is) (s, (text, (of_memory quiet same is line, front_of text k all)))
 written_whole o t old new k s text (of_session end printed did (inl told)) all =
     subst (λ (x : Status). ClientEnds o t old new k x) (sym told.0) (session_ends o t old new k end printed did (subst (λ (l : List ℕ). WroteAll l k) told.1 all))
 written_whole o t old new k s text (of_session end printed did (inr none)) all =
@@ -150,18 +154,18 @@ read_whole t script given is told few = by_end is.1
     nothing [] spent = refl
     nothing (b ∷ rest) spent = absurd cc
 
-    by_end : IsReadWhole t ⊎ (limit < length script) → given ≡ script
+    by_end : IsReadWhole t ⊎ ((t.now ≡ t.before) × (limit < length script)) → given ≡ script
     by_end (inl whole) =
         let none : took.0 ≡ [] = nothing took.0 (subst (λ (l : Option (List ℕ)). IsSpent l) took.1 whole.1.1) in
         took.2 ∙ ap (λ (l : List ℕ). script ++ l) none ∙ append-nil script
-    by_end (inr long) = let size = ap length took.2 ∙ length-append script took.0 in absurd (omega (arith, long, few, size))
+    by_end (inr past) = let size = ap length took.2 ∙ length-append script took.0 in let long = past.1 in absurd (omega (arith, long, few, size))
 
 module _ (w : ClientWords) (t : Taken) (old new : Told) (read_well : Rose t.before t.now → ⊥) (quiet : Rose old.faults new.faults → ⊥) (given : List ℕ) (is_given : t.old ≡ Some given) (few : length given ≤ limit)
     (bytes : List ℕ) (told : old.left ≡ Some bytes) (served : IsServed w.group w.me given (frames_of bytes).0) where
   well : (s : Status) (text : List ℕ) → Composes (Some w) t old new s text → (s ≡ status.Ok) ⊎ (s ≡ status.NoMemory)
   well s text (of_words wrong same is line) = absurd cc
   well s text (of_fault right rose same is line) = absurd (read_well rose)
-  well s text (of_memory same is line) = inr is
+  well s text (of_memory calm same is line) = inr is
   well s text (of_session end printed did (inr none)) = inr none.0
   well s text (of_session end printed did (inl told_so)) = by_end (complete w.group w.me did.0 old new [] printed end did.1.1.1.session quiet bytes told there)
     where

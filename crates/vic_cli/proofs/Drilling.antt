@@ -1,12 +1,10 @@
 -- How the command of a drill ends, of what it composed and how the writing went.
-use Rattle.std.proofs.Common.{◌≡◌, ◌⊎◌, inl, inr, ℕ, List, [], Option, Some, None, refl, sym, subst}
-use Rattle.std.specs.Prelude.{IsSome}
+use Rattle.std.proofs.Common.{inl, inr, ℕ, List, Option, Some, None, refl, sym, subst}
 use Rattle.vic_text.specs.declared.status.Status.{Status}
 use Rattle.vic_text.specs.declared.status.Status.TheVariants as status
-use Rattle.vic_text.specs.Statuses.{usage_line, no_memory_line}
-use Rattle.vic_cli.specs.Output.{Given, Finishes, WroteAll, WroteFront}
+use Rattle.vic_cli.specs.Output.{Given, Finishes, WroteAll}
 use Rattle.vic_cli.specs.declared.drill.DrillWords.{DrillWords}
-use Rattle.vic_cli.specs.Drilling.{print_for, IsText, Composes, Ends, IsComplete}
+use Rattle.vic_cli.specs.Drilling.{IsText, Composes, Ends, IsComplete}
 use Rattle.vic_cli.proofs.Serving.{whole_is_front, no_none}
 
 -- what is composed may be written

@@ -27,7 +27,7 @@ use Rattle.vic_script.proofs.Forged.{is_forged-Decides}
 use Rattle.vic_order.specs.Honest.{IsSame}
 use Rattle.vic_script_runs.proofs.Leading.{scripts_come}
 use Rattle.vic_script_runs.proofs.Honest.{honest_runs}
-use Rattle.vic_runs.proofs.Runs.{all_hold, holds_at, none_forged}
+use Rattle.vic_runs.proofs.Runs.{all_hold, holds_at, holds_anyway, none_forged}
 use Rattle.vic_runs.proofs.Halted.{none_for_halting}
 use Rattle.vic_runs.proofs.Prints.{prints_returns}
 use Rattle.vic_group.specs.declared.play.End.{End}
@@ -218,8 +218,9 @@ honestly script honest = record {
   comes = λ s is. (honest_runs script honest s is).0;
   lines = λ s is. (honest_runs script honest s is).1;
   tags_made = (none_forged script honest).0;
-  holds = λ s is. holds_at IsSame s (honest_runs script honest s is).0;
-  none_halted = none_for_halting script honest;
+  anyway = λ s is. holds_anyway IsSame s (honest_runs script honest s is).0;
+  holds = λ s is apart. holds_at IsSame s (honest_runs script honest s is).0 apart;
+  none_halted = λ apart. none_for_halting script honest apart;
 }
 
 -- what was lawful at the end was so at each earlier moment, and so was the claim
@@ -248,6 +249,7 @@ claimed script =
       stands = answers_stand (group_of script) (history_of script) good.lawful;
       sealed = sealed_answers_stand (group_of script) (history_of script) good.lawful;
       aborts = aborted_by_conflict (group_of script) (history_of script) good.lawful;
+      contents = good.loads;
       agreed = agreements_reach (group_of script) (history_of script) good.lawful;
       tags = is_forged-Decides (group_of script) (history_of script);
       says_so = said_last (run_of script);

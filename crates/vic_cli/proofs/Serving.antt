@@ -2,7 +2,6 @@
 use Rattle.std.proofs.Common.{◌≡◌, ◌⊎◌, inl, inr, ℕ, false, List, [], Option, Some, None, refl, sym, subst, append-nil}
 use Rattle.std.specs.Prelude.{IsSome}
 use Rattle.std.proofs.lemmas.Bool.{false≢true}
-use Rattle.vic_ports.specs.Causes.{Rose}
 use Rattle.vic_ports.specs.Links.{Lines}
 use Rattle.vic_gate.specs.declared.worker.WorkEnd.{WorkEnd}
 use Rattle.vic_order.specs.Order.{Server}
@@ -12,7 +11,7 @@ use Rattle.vic_ports.specs.Written.{AppendedAll, AppendedFront}
 use Rattle.vic_server.specs.Replay.{Kept, opening}
 use Rattle.vic_text.specs.declared.status.Status.{Status}
 use Rattle.vic_text.specs.declared.status.Status.TheVariants as status
-use Rattle.vic_text.specs.Statuses.{usage_line, no_memory_line, link_fault_line}
+use Rattle.vic_text.specs.Statuses.{no_memory_line}
 use Rattle.vic_cli.specs.Output.{Given, Finishes, WroteAll, WroteFront}
 use Rattle.vic_cli.specs.declared.serve.Asked.{Asked}
 use Rattle.vic_cli.specs.Serving.{Opened, IsServed, IsUntouched, WasServed, Plans, Ends, IsComplete, kept_at, serve_text}

@@ -30,6 +30,9 @@ whole_number word = at_most 4294967295 (word_number word)
 abbrev pub calls_number : List ℕ → Option ℕ
 calls_number word = number_in 100000 word
 
--- the kind of a group. The word `objects` joins once there is a server for objects
+-- the kind of a group
 abbrev pub mode_of : List ℕ → Option Mode
-mode_of word = if bytes_eq word (codes "plain") then Some mode.Plain else None
+mode_of word =
+    if bytes_eq word (codes "plain") then Some mode.Plain
+    else if bytes_eq word (codes "objects") then Some mode.Objects
+    else None

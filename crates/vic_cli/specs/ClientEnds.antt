@@ -1,5 +1,5 @@
 -- How the command of a client ends: what was read, what went to the link, what was written, and why.
-use Rattle.std.specs.Prelude.{◌≡◌, ℕ, ◌<◌, ◌≤◌, ◌⊎◌, List, [], ◌∷◌, length, Option, Some, None, IsSome}
+use Rattle.std.specs.Prelude.{◌≡◌, ℕ, ◌<◌, ◌≤◌, ◌⊎◌, List, [], length, Option, Some, None, IsSome}
 use Rattle.vic_dict.specs.Lists.{AreBytes}
 use Rattle.vic_wire.specs.declared.message.Digest32.{Digest32}
 use Rattle.vic_rules.specs.History.{IsLawful}
@@ -19,9 +19,9 @@ use Rattle.vic_cli.specs.Output.{Taken, Given, IsReadWhole, WroteAll, WroteFront
 use Rattle.vic_cli.specs.ClientWords.{ClientWords}
 use Rattle.vic_cli.specs.Telling.{text_by, TellsEnd}
 
--- the script that was read: all of the source with its end, or a front past the limit
+-- the script that was read: all of the source with its end, or a front past the limit. No read failed
 abbrev pub IsScript : Taken → List ℕ → Type 0
-IsScript t script = LeavesBehind script t.old t.new × (IsReadWhole t ⊎ (limit < length script))
+IsScript t script = LeavesBehind script t.old t.new × (IsReadWhole t ⊎ ((t.now ≡ t.before) × (limit < length script)))
 
 -- a session, of which the client's steps are a lawful history of it alone where the link tells its bytes
 pub record HasSession (w : ClientWords) (script : List ℕ) (old new : Told) (end : SessionEnd) (printed : List ℕ) : Type 0 where
@@ -35,12 +35,12 @@ Did None t old new end printed = ⊥
 Did (Some w) t old new end printed = (script : List ℕ) × (IsScript t script × ((end ≡ ends.Ok → IsReadWhole t) × HasSession w script old new end printed))
 
 -- what the command is about to write, with which status: the usage line where the words are wrong; that a read failed, where one
--- did; that memory ran out for the words or the script; or what a session printed and how it ended, where there was memory for that.
+-- did; that memory ran out for the words or the script, and no read failed; or what a session printed and how it ended, where there was memory for that.
 -- But for a session, the link is as it was
 pub data Composes (words : Option ClientWords) (t : Taken) (old new : Told) (s : Status) (text : List ℕ) : Type 0 where
   of_words : words ≡ None → new ≡ old → s ≡ status.Usage → text ≡ usage_line → Composes words t old new s text
   of_fault : IsSome words → Rose t.before t.now → new ≡ old → s ≡ status.ReadFault → text ≡ read_fault_line → Composes words t old new s text
-  of_memory : new ≡ old → s ≡ status.NoMemory → text ≡ no_memory_line → Composes words t old new s text
+  of_memory : t.now ≡ t.before → new ≡ old → s ≡ status.NoMemory → text ≡ no_memory_line → Composes words t old new s text
   of_session : (end : SessionEnd) (printed : List ℕ) → Did words t old new end printed → TellsEnd end printed s text → Composes words t old new s text
 
 -- a session ended so, and what it printed was written, with the line of its end

@@ -9,6 +9,7 @@ use Rattle.vic_rules.specs.Views.{view_of, HasAll, ShowsOnlyCalls, Agree, IsInRe
 use Rattle.vic_laws.specs.Claims.{HashesTellPathsIn, SealsHoldIn}
 use Rattle.vic_laws.specs.OrderClaims.{CompletedOnceIn, DoneMeetsNoConflictIn, AnswersStandIn}
 use Rattle.vic_laws.specs.Meanings.{AbortedByConflictIn, SealedAnswersStandIn}
+use Rattle.vic_laws.specs.ContentClaims.{LoadsGetTheLastIn}
 use Rattle.vic_ports.specs.Causes.{Rose}
 use Rattle.vic_ports.specs.Written.{AppendedAll}
 use Rattle.vic_order.specs.Scenes.{Scene}
@@ -17,7 +18,8 @@ use Rattle.vic_script.specs.Print.{print_of_script, is_forged, all_views, all_ag
 use Rattle.vic_runs.specs.Agreements.{AgreementsCountIn}
 use Rattle.vic_order.specs.Honest.{ComesHonestly, IsSame}
 use Rattle.vic_runs.specs.Claims.{line_of_step}
-use Rattle.vic_honest.specs.Claims.{IsHonestScene}
+use Rattle.vic_honest.specs.SafeRuns.{AreApart}
+use Rattle.vic_honest.specs.Claims.{IsHonestScene, HoldsAnyway}
 use Rattle.vic_script_runs.specs.Events.{script_events}
 use Rattle.vic_script_runs.specs.Claims.{ComesOf}
 use Rattle.vic_text.specs.declared.status.Status.{Status}
@@ -76,11 +78,14 @@ pub record IsHonest (script : List ℕ) : Type 0 where
   pub lines : (s : Scene) (is : (run_of script).scene ≡ Some s) → (comes s is).events ≡ script_events script
   -- every tag that a client took was made by a client before
   pub tags_made : is_forged (group_of script) (history_of script) ≡ false
-  -- so what holds of honest runs holds there: each completed call returned what becomes of it in the server's log, no step returned
-  -- that a check failed, and more
-  pub holds : (s : Scene) (is : (run_of script).scene ≡ Some s) → IsHonestScene s (comes s is).events (comes s is).server
-  -- no line is bad for that its client has halted
-  pub none_halted : (b : Bad) → bad_line_of script ≡ Some b → b.kind ≡ 3 → ⊥
+  -- each client's path is the oldest entries of the server's log, up to some position
+  pub anyway : (s : Scene) (is : (run_of script).scene ≡ Some s) → HoldsAnyway s.group s.history (comes s is).server
+  -- and where contents are apart (in a group with objects no two different ones that clients sent have one hash; in a plain group none is
+  -- sent), what holds of honest runs holds there: each completed call returned what becomes of it in the server's log, no step
+  -- returned that a check failed, each load that returned a content returned the one that was stored last, and more
+  pub holds : (s : Scene) (is : (run_of script).scene ≡ Some s) → AreApart s.group s.history → IsHonestScene s (comes s is).events (comes s is).server
+  -- and then no line is bad for that its client has halted
+  pub none_halted : AreApart (group_of script) (history_of script) → (b : Bad) → bad_line_of script ≡ Some b → b.kind ≡ 3 → ⊥
 
 -- what holds of the run of a script, whatever its lines give, change, repeat or send again, and whatever servers they copy and join
 pub record IsAsClaimed (script : List ℕ) : Type 0 where
@@ -113,6 +118,9 @@ pub record IsAsClaimed (script : List ℕ) : Type 0 where
   pub sealed : SealedAnswersStandIn (group_of script) (history_of script)
   -- a call is aborted exactly by the least entry of another client, above the seal of its Reply and below the call, that conflicts with it
   pub aborts : AbortedByConflictIn (group_of script) (history_of script)
+  -- in a group with objects each content that a load returned is that of the last done store of its name before the load's get, in its
+  -- client's view, unless a tag was forged or two listed texts collide
+  pub contents : LoadsGetTheLastIn (group_of script) (history_of script)
   -- each call that stands in two clients' views stands within the number that is printed for the two
   pub agreed : AgreementsCountIn (group_of script) (history_of script)
   -- the test that decides between the statuses 0 and 1, and that the print tells, is true exactly where a tag is forged

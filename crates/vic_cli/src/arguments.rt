@@ -50,13 +50,14 @@ pub fn calls_number(word: &[u8]) -> Option<u32>
     }
 }
 
-/// The kind of a group: `plain`. This is the one place that `objects` is to join, once there is a server for them.
+/// The kind of a group: `plain`, with a dictionary of short values, or `objects`, with whole contents.
 pub fn mode_of(word: &[u8]) -> Option<Mode>
-    ensures is { result ≡ mode_by word.now }
-    ensures plain { IfSome result (λ kind. kind ≡ Mode.Plain) }
+    ensures { result ≡ mode_by word.now }
 {
     if is_name(word, b"plain") {
         Some(Mode::Plain)
+    } else if is_name(word, b"objects") {
+        Some(Mode::Objects)
     } else {
         None
     }

@@ -1,6 +1,7 @@
 //! The command of a client.
 
-ghost use Rattle.std.specs.Prelude.{◌≡◌, Some, map, string_bytes};
+ghost use Rattle.std.specs.Prelude.{◌≡◌, Some, None, map, string_bytes};
+ghost use Rattle.vic_ports.specs.InputGives.{TakesAtMost, most_taken};
 ghost use Rattle.vic_rules.specs.Client.{at_start};
 ghost use Rattle.vic_client.specs.Kept.{StandsFor, group_of};
 ghost use Rattle.vic_cli.specs.Output.{taken_of, given_of, text_bytes};
@@ -24,7 +25,8 @@ fn compose_client<S: Source, L: Link>(
     link: &mut L,
 ) -> Composed
     requires { StandsFor client.old at_start }
-    ensures { (w : ClientWords) → IsClientOf (Some w) (Some client.old) → Composes (Some w) (taken_of (S.left source.old) (S.left source.new) (S.faults source.old) (S.faults source.new) (S.ended source.new)) (L.told link.old) (L.told link.new) result.status (text_bytes result.text) }
+    ensures given { (w : ClientWords) → IsClientOf (Some w) (Some client.old) → Composes (Some w) (taken_of (S.left source.old) (S.left source.new) (S.faults source.old) (S.faults source.new) (S.ended source.new)) (L.told link.old) (L.told link.new) result.status (text_bytes result.text) }
+    ensures taken { TakesAtMost most_taken (S.left source.old) (S.left source.new) }
 {
     match read_input(alloc, source) {
         Input::Whole(script) => compose_session(alloc, client, script.as_slice(), link),
@@ -41,7 +43,9 @@ fn compose<S: Source, L: Link>(
     source: &mut S,
     link: &mut L,
 ) -> Composed
-    ensures { Composes (client_words (map string_bytes words.now)) (taken_of (S.left source.old) (S.left source.new) (S.faults source.old) (S.faults source.new) (S.ended source.new)) (L.told link.old) (L.told link.new) result.status (text_bytes result.text) }
+    ensures given { Composes (client_words (map string_bytes words.now)) (taken_of (S.left source.old) (S.left source.new) (S.faults source.old) (S.faults source.new) (S.ended source.new)) (L.told link.old) (L.told link.new) result.status (text_bytes result.text) }
+    ensures unread { client_words (map string_bytes words.now) ≡ None → source.new ≡ source.old }
+    ensures taken { TakesAtMost most_taken (S.left source.old) (S.left source.new) }
 {
     match client_of(alloc, words) {
         Ok(Some(mut client)) => compose_client(alloc, &mut client, source, link),
@@ -62,6 +66,8 @@ pub fn run_client<S: Source, K: Sink, L: Link>(
 ) -> Status
     ensures ends { ClientEnds (client_words (map string_bytes words.now)) (taken_of (S.left source.old) (S.left source.new) (S.faults source.old) (S.faults source.new) (S.ended source.new)) (L.told link.old) (L.told link.new) (given_of (K.held sink.old) (K.held sink.new) (K.faults sink.old) (K.faults sink.new)) result }
     ensures complete { IsClientComplete (client_words (map string_bytes words.now)) (taken_of (S.left source.old) (S.left source.new) (S.faults source.old) (S.faults source.new) (S.ended source.new)) (L.told link.old) (L.told link.new) (given_of (K.held sink.old) (K.held sink.new) (K.faults sink.old) (K.faults sink.new)) result }
+    ensures unread { client_words (map string_bytes words.now) ≡ None → source.new ≡ source.old }
+    ensures taken { TakesAtMost most_taken (S.left source.old) (S.left source.new) }
 {
     let composed = compose(alloc, words, source, link);
     finish(sink, composed.status, composed.text.as_slice())

@@ -123,9 +123,39 @@ fn tells_a_bad_line(rt: HostRuntime) -> Result<(), Fail> {
     Ok(())
 }
 
-// No group of objects can be joined yet; and a count, a number, a key, a mode, an address and a name that are none.
+// Client 1 of 1, of a group with objects.
+const WITH_OBJECTS: [&str; 6] = ["client", "h:1", "1", "1", "0b", "objects"];
+
+// It says so in its greeting, and its lines are calls on objects.
+#[test]
+fn does_a_script_of_objects(rt: HostRuntime) -> Result<(), Fail> {
+    let (status, printed, sent) = run(
+        rt.alloc(),
+        &WITH_OBJECTS,
+        b"store a x\nload a",
+        b"\0\0\0\x01\x41\0\0\0\x02\x46\x07\0\0\0\x02\x46\x02\0\0\0\x01\x49",
+    )?;
+    assert_eq!(rt; status, Status::Ok);
+    assert_eq!(rt;
+        printed.as_slice(),
+        b"object refused 7\nrefused 2\nobject refused 2\nbye\n".as_slice()
+    );
+    assert!(rt;
+        sent.as_slice()
+            .starts_with(b"\0\0\0\x04\x21\x01\x01\x01\0\0\0\x02\x27x")
+    );
+    let (status, printed, _) = run(rt.alloc(), &WITH_OBJECTS, b"put a x", REFUSED)?;
+    assert_eq!(rt; status, Status::BadLine);
+    assert_eq!(rt;
+        printed.as_slice(),
+        b"line 1: not a line of this script\n".as_slice()
+    );
+    Ok(())
+}
+
+// A count, a number, a key, a mode, an address and a name that are none.
 const WRONG: [&str; 10] = [
-    "client h:1 1 1 0b objects",
+    "client h:1 1 1 0b object",
     "client h:1 1 65 0b plain",
     "client h:1 2 1 0b plain",
     "client h:1 0 1 0b plain",

@@ -36,7 +36,6 @@ struct Planned {
 // What the words ask for, where they are right.
 fn read_words(words: &[String]) -> Option<Asked>
     ensures is { result ≡ serve_words (map string_bytes words.now) }
-    ensures plain { IfSome result (λ a. a.kind ≡ Mode.Plain) }
     ensures clients { IfSome result (λ a. (0 < a.clients) × (a.clients ≤ 64)) }
     ensures connections { IfSome result (λ a. (0 < a.connections) × (a.connections ≤ 64)) }
 {

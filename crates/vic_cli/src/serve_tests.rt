@@ -18,6 +18,13 @@ const COMES_AND_LEAVES: &[u8] = b"\0\0\0\x04\x21\x01\0\x01\0\0\0\x01\x29";
 /// What it is sent: Hi, and Gone.
 const HI_AND_GONE: &[u8] = b"\0\0\0\x01\x41\0\0\0\x01\x49";
 
+/// A client of a group with objects comes in, has a content kept and asks for it, and leaves.
+const KEEPS_AND_FETCHES: &[u8] =
+    b"\0\0\0\x04\x21\x01\x01\x01\0\0\0\x06\x27hello\0\0\0\x21\x28\x31\x4a\xb0\x41\xde\xca\x3c\xb4\x2b\xe7\x4b\xc9\x91\x13\x25\xb3\x90\x43\x64\x59\x0e\xb4\x60\x0b\x87\x5d\x64\x08\x9f\x69\xe0\x77\0\0\0\x01\x29";
+
+/// What it is sent: Hi, Kept, the content, and Gone.
+const KEPT_AND_CONTENT: &[u8] = b"\0\0\0\x01\x41\0\0\0\x01\x47\0\0\0\x06\x48hello\0\0\0\x01\x49";
+
 /// Somebody who hasn't come in asks for a turn.
 const ASKS: &[u8] = b"\0\0\0\x01\x24";
 
@@ -35,7 +42,25 @@ type Row = (
     &'static [&'static [u8]],
 );
 
-const ROWS: [Row; 15] = [
+const ROWS: [Row; 17] = [
+    // The server of a group with objects keeps a content, which is a change.
+    (
+        "serve h:1 1 objects 1",
+        &[KEEPS_AND_FETCHES],
+        0,
+        Status::Ok,
+        b"connections 1\nordered 0\nsealed 0\nchanges 3\nlink faults 0\nbad frames 0\nno memory 0\n",
+        &[KEPT_AND_CONTENT],
+    ),
+    // A client of a group of the other kind doesn't come in.
+    (
+        "serve h:1 1 objects 1",
+        &[COMES_AND_LEAVES],
+        0,
+        Status::Ok,
+        b"connections 1\nordered 0\nsealed 0\nchanges 0\nlink faults 0\nbad frames 0\nno memory 0\n",
+        &[b"\0\0\0\x02\x46\x06\0\0\0\x02\x46\x06"],
+    ),
     (
         "serve h:1 1 plain 1",
         &[COMES_AND_LEAVES],

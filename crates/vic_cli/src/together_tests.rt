@@ -47,6 +47,22 @@ fn caller_of(alloc: Global, address: &str, number: usize) -> Result<Caller, Fail
     })
 }
 
+/// Client `number` of eight of a group with objects, which stores a content of its own, loads it and settles.
+fn storer_of(alloc: Global, address: &str, number: usize) -> Result<Caller, Fail> {
+    let words = format!(in alloc; "client {address} {number} 8 0b objects")?;
+    let script = format!(in alloc;
+        "store k{number} content-{number}\nload k{number}\nsettle 1000"
+    )?;
+    let script = Bytes::of(alloc, script.as_bytes())?;
+    Ok(Caller {
+        number,
+        words: words_of(alloc, words.as_str())?,
+        source: MemorySource::new(script, Calls::new(alloc)),
+        sink: MemorySink::new(alloc, Calls::new(alloc)),
+        status: None,
+    })
+}
+
 /// The command of one client.
 fn calls<R: Net<Listener = TcpListener, Stream = TcpStream>>(
     rt: &R,
@@ -104,6 +120,22 @@ fn has_called(alloc: Global, caller: &Caller) -> Result<bool, Fail> {
     )
 }
 
+/// Whether a client's command ended well, with its content stored and loaded.
+fn has_stored(alloc: Global, caller: &Caller) -> Result<bool, Fail> {
+    let number = caller.number;
+    let printed = caller.sink.held().as_slice();
+    let loaded = format!(in alloc; "\nobject content 9 content-{number}\nstate sealed ")?;
+    // The reference that the get found: a word of 73 characters.
+    let behind = b"done stored\nobject stored\ndone value ".len() + 73;
+    Ok(
+        caller.status == Some(Status::Ok)
+            && printed.starts_with(b"done stored\nobject stored\ndone value %")
+            && behind <= printed.len()
+            && printed[behind..].starts_with(loaded.as_bytes())
+            && printed.ends_with(b"\nbye\n"),
+    )
+}
+
 #[test]
 fn eight_clients_share_a_server(rt: HostRuntime) -> Result<(), Fail> {
     let alloc = rt.alloc();
@@ -128,6 +160,33 @@ fn eight_clients_share_a_server(rt: HostRuntime) -> Result<(), Fail> {
     assert!(rt; printed.ends_with(b"\nlink faults 0\nbad frames 0\nno memory 0\n"));
     for caller in callers.iter() {
         assert!(rt; has_called(alloc, caller)?, "client {}", caller.number);
+    }
+    Ok(())
+}
+
+#[test]
+fn eight_clients_store_in_one_server(rt: HostRuntime) -> Result<(), Fail> {
+    let alloc = rt.alloc();
+    let address = free_address(&rt, alloc)?;
+    let words = format!(in alloc; "serve {address} 8 objects 8")?;
+    let words = words_of(alloc, words.as_str())?;
+    let mut callers = Vec::new(alloc);
+    for number in 1..9 {
+        callers.push(storer_of(alloc, address.as_str(), number)?)?;
+    }
+    let mut doors = TcpDoors::open(&rt, address.as_str());
+    let mut sink = MemorySink::new(alloc, Calls::new(alloc));
+    let ((), status) = thread::join(
+        &rt,
+        || all_call(&rt, alloc, address.as_str(), callers.as_mut_slice()),
+        || serves(&rt, alloc, words.as_slice(), &mut doors, &mut sink),
+    );
+    assert_eq!(rt; status, Status::Ok);
+    let printed = sink.held().as_slice();
+    assert!(rt; printed.starts_with(b"connections 8\nordered 16\n"));
+    assert!(rt; printed.ends_with(b"\nlink faults 0\nbad frames 0\nno memory 0\n"));
+    for caller in callers.iter() {
+        assert!(rt; has_stored(alloc, caller)?, "client {}", caller.number);
     }
     Ok(())
 }

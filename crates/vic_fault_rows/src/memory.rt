@@ -54,7 +54,7 @@ fn copies(rt: HostRuntime) -> Result<(), Fail> {
 
 const NONE: &str = "Err(Grammar)";
 
-/// Lines of a client's script, and what each reads as.
+/// Lines of a client's script in a group with a dictionary, and what each reads as.
 const LINES: [(&'static str, &'static str); 16] = [
     (
         "put a x",
@@ -82,6 +82,44 @@ fn client_lines(rt: HostRuntime) -> Result<(), Fail> {
     let alloc = rt.alloc();
     for (line, want) in LINES {
         let read = read_client_line(alloc, line.as_bytes(), Mode::Plain);
+        let read = format!(in alloc; "{read:?}")?;
+        assert_eq!(rt; read.as_str(), want, "{line}");
+    }
+    Ok(())
+}
+
+/// And in a group with objects.
+const OBJECT_LINES: [(&'static str, &'static str); 14] = [
+    (
+        "store a x",
+        "Ok(Object(Store(Bytes { items: [97] }, Bytes { items: [120] })))",
+    ),
+    (
+        "store a %",
+        "Ok(Object(Store(Bytes { items: [97] }, Bytes { items: [] })))",
+    ),
+    (
+        "store a zeros:2",
+        "Ok(Object(Store(Bytes { items: [97] }, Bytes { items: [0, 0] })))",
+    ),
+    ("store a zeros:8388609", NONE),
+    ("store a zeros:", NONE),
+    ("store a", NONE),
+    ("store % x", NONE),
+    ("load %61", "Ok(Object(Load(Bytes { items: [97] })))"),
+    ("erase a", "Ok(Object(Erase(Bytes { items: [97] })))"),
+    ("names %", "Ok(Object(Names(Bytes { items: [] })))"),
+    ("poll", "Ok(Poll)"),
+    ("settle 2", "Ok(Settle(2))"),
+    ("put a x", NONE),
+    ("list %", NONE),
+];
+
+#[test]
+fn client_lines_of_objects(rt: HostRuntime) -> Result<(), Fail> {
+    let alloc = rt.alloc();
+    for (line, want) in OBJECT_LINES {
+        let read = read_client_line(alloc, line.as_bytes(), Mode::Objects);
         let read = format!(in alloc; "{read:?}")?;
         assert_eq!(rt; read.as_str(), want, "{line}");
     }

@@ -1,8 +1,9 @@
-use Rattle.std.proofs.Common.{Option, Some, map, subst}
+use Rattle.std.proofs.Common.{Option, map, subst}
 use Rattle.std.specs.Prelude.{string_bytes}
 use Rattle.vic_client.specs.Kept.{Kept}
 use Rattle.vic_cli.specs.ClientWords.{client_words, IsClientOf}
-use Rattle.vic_cli.proofs.ClientEnding.{stands_known, compose_known}
+use Rattle.vic_cli.proofs.ClientEnding.{stands_known, compose_known, none_known}
+use Rattle.vic_cli.proofs.GroupEnds.{takes_nothing}
 use Rattle.vic_cli.proofs.client.compose.Goals as goal
 
 pub compose_client-requires : goal.compose_client-requires
@@ -10,7 +11,18 @@ compose_client-requires g c =
     let is = subst (λ (o : Option Kept). IsClientOf (client_words (map string_bytes c.args.words.now)) o) c.in-Ok-Some.field-0-is c.in-Ok-Some.ensures in
     stands_known (client_words (map string_bytes c.args.words.now)) c.in-Ok-Some.client is
 
-pub returns-in-Ok-Some : goal.returns-in-Ok-Some
-returns-in-Ok-Some g c =
+pub returns-in-Ok-Some-clause-given : goal.returns-in-Ok-Some-clause-given
+returns-in-Ok-Some-clause-given g c =
     let is = subst (λ (o : Option Kept). IsClientOf (client_words (map string_bytes c.args.words.now)) o) c.in-Ok-Some.field-0-is c.in-Ok-Some.ensures in
-    compose_known (client_words (map string_bytes c.args.words.now)) c.in-Ok-Some.client _ _ _ _ _ is c.compose_client.ensures
+    compose_known (client_words (map string_bytes c.args.words.now)) c.in-Ok-Some.client _ _ _ _ _ is c.compose_client.ensures.given
+
+pub returns-in-Ok-Some-clause-unread : goal.returns-in-Ok-Some-clause-unread
+returns-in-Ok-Some-clause-unread g c = λ none.
+    let is = subst (λ (o : Option Kept). IsClientOf (client_words (map string_bytes c.args.words.now)) o) c.in-Ok-Some.field-0-is c.in-Ok-Some.ensures in
+    absurd (none_known (client_words (map string_bytes c.args.words.now)) c.in-Ok-Some.client is none)
+
+pub returns-in-Ok-None-clause-taken : goal.returns-in-Ok-None-clause-taken
+returns-in-Ok-None-clause-taken g c = takes_nothing (g.S.Source.left c.args.source.now)
+
+pub returns-in-Err-clause-taken : goal.returns-in-Err-clause-taken
+returns-in-Err-clause-taken g c = takes_nothing (g.S.Source.left c.args.source.now)

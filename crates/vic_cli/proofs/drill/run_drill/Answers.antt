@@ -1,6 +1,6 @@
-use Rattle.std.proofs.Common.{map, string_bytes, List, ℕ, sym, subst}
+use Rattle.std.proofs.Common.{map, string_bytes, List, ℕ, subst}
 use Rattle.vic_cli.specs.Output.{given_of, text_bytes, Finishes}
-use Rattle.vic_cli.specs.Drilling.{drill_words, Ends}
+use Rattle.vic_cli.specs.Drilling.{drill_words}
 use Rattle.vic_cli.proofs.Drilling.{ends_so, complete_so}
 use Rattle.vic_cli.proofs.drill.run_drill.Goals as goal
 
