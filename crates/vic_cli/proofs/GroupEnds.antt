@@ -11,6 +11,7 @@ use Rattle.vic_wire.specs.Hashes.{Group}
 use Rattle.vic_rules.specs.declared.trace.TraceStep.{TraceStep}
 use Rattle.vic_rules.specs.History.{IsLawful, AreSteps}
 use Rattle.vic_rules.specs.Headline.{Headline}
+use Rattle.vic_laws.proofs.Asked.{calls_are_asked, asked_are_called}
 use Rattle.vic_laws.proofs.EveryHistory.{every_history_holds}
 use Rattle.vic_laws.proofs.Standings.{earlier_steps}
 use Rattle.vic_laws.proofs.Agreement.{completed_once, views_agree, views_show_only_calls}
@@ -250,6 +251,8 @@ claimed script =
       sealed = sealed_answers_stand (group_of script) (history_of script) good.lawful;
       aborts = aborted_by_conflict (group_of script) (history_of script) good.lawful;
       contents = good.loads;
+      asked = calls_are_asked (group_of script) (history_of script) good.lawful;
+      called = asked_are_called (group_of script) (history_of script) good.lawful;
       agreed = agreements_reach (group_of script) (history_of script) good.lawful;
       tags = is_forged-Decides (group_of script) (history_of script);
       says_so = said_last (run_of script);

@@ -1,5 +1,5 @@
 -- How the command on a script ends: what was read, what was written, and why.
-use Rattle.std.specs.Prelude.{◌≡◌, ℕ, ◌⊎◌, ◌↔◌, Bool, true, false, List, ◌++◌, reverse, Some, None, IsSome, IfSome}
+use Rattle.std.specs.Prelude.{◌≡◌, ◌∷◌, ℕ, ◌⊎◌, ◌↔◌, Bool, true, false, List, ◌++◌, reverse, Some, None, IsSome, IfSome}
 use Rattle.std.specs.List.{flat_map}
 use Rattle.vic_rules.specs.declared.trace.TraceStep.{TraceStep}
 use Rattle.vic_rules.specs.History.{IsLawful}
@@ -10,6 +10,7 @@ use Rattle.vic_laws.specs.Claims.{HashesTellPathsIn, SealsHoldIn}
 use Rattle.vic_laws.specs.OrderClaims.{CompletedOnceIn, DoneMeetsNoConflictIn, AnswersStandIn}
 use Rattle.vic_laws.specs.Meanings.{AbortedByConflictIn, SealedAnswersStandIn}
 use Rattle.vic_laws.specs.ContentClaims.{LoadsGetTheLastIn}
+use Rattle.vic_laws.specs.AskedClaims.{CallsAreAskedIn, CallsWhatItIsAsked}
 use Rattle.vic_ports.specs.Causes.{Rose}
 use Rattle.vic_ports.specs.Written.{AppendedAll}
 use Rattle.vic_order.specs.Scenes.{Scene}
@@ -101,7 +102,7 @@ pub record IsAsClaimed (script : List ℕ) : Type 0 where
   pub views : Headline (group_of script) (history_of script)
   -- and so at each earlier moment of the run
   pub fronts : (later earlier : List TraceStep) → history_of script ≡ later ++ earlier → IsLawful (group_of script) earlier × Headline (group_of script) earlier
-  -- of which these need no exception: each view has each call that its client completed, once, and only calls that were asked for and
+  -- of which these need no exception: each view has each call that its client completed, once, and only calls that were made and
   -- returned so, and every two views agree up to each call in both
   pub complete : (me : ℕ) → HasAll (group_of script) me (history_of script) (view_of (group_of script) me (history_of script))
   pub only_calls : (me : ℕ) → ShowsOnlyCalls (group_of script) (history_of script) (view_of (group_of script) me (history_of script))
@@ -121,6 +122,9 @@ pub record IsAsClaimed (script : List ℕ) : Type 0 where
   -- in a group with objects each content that a load returned is that of the last done store of its name before the load's get, in its
   -- client's view, unless a tag was forged or two listed texts collide
   pub contents : LoadsGetTheLastIn (group_of script) (history_of script)
+  -- a client calls what it is asked for and nothing else, and the numbers of its calls rise by one
+  pub asked : CallsAreAskedIn (group_of script) (history_of script)
+  pub called : (later : List TraceStep) (x : TraceStep) (past : List TraceStep) → history_of script ≡ later ++ x ∷ past → CallsWhatItIsAsked (group_of script) past x
   -- each call that stands in two clients' views stands within the number that is printed for the two
   pub agreed : AgreementsCountIn (group_of script) (history_of script)
   -- the test that decides between the statuses 0 and 1, and that the print tells, is true exactly where a tag is forged
