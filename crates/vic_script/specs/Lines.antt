@@ -1,5 +1,5 @@
 -- The lines of a script, from bytes to words and from words to lines.
-use Rattle.std.specs.Prelude.{ℕ, ◌%◌, Bool, true, ◌&&◌, List, [], ◌∷◌, length, Option, Some, None, option_map, nat_eq, nat_lt, nat_le, if◌then◌else◌, codes, drop, replicate}
+use Rattle.std.specs.Prelude.{ℕ, ◌%◌, Bool, true, ◌&&◌, List, [], ◌∷◌, length, Option, Some, None, is_some, option_map, nat_eq, nat_lt, nat_le, if◌then◌else◌, codes, drop, replicate}
 use Rattle.std.specs.List.{list_all, starts_with}
 use Rattle.std.specs.Str.{bytes_eq}
 use Rattle.hex.specs.Hex.{is_hex_digit}
@@ -9,6 +9,8 @@ use Rattle.vic_dict.specs.declared.op.Mode.{Mode}
 use Rattle.vic_dict.specs.declared.op.Mode.TheVariants as mode
 use Rattle.vic_rules.specs.declared.object.ObjectCall.{ObjectCall}
 use Rattle.vic_rules.specs.declared.object.ObjectCall.TheVariants as object
+use Rattle.vic_attacks.specs.declared.HostileKind.{HostileKind}
+use Rattle.vic_attacks.specs.declared.HostileKind.TheVariants as kind
 use Rattle.vic_script.specs.declared.line.Line.{Line}
 use Rattle.vic_script.specs.declared.line.Line.TheVariants as line
 use Rattle.vic_script.specs.Words.{word_bytes, word_number, word_capped}
@@ -157,9 +159,27 @@ is_key_digits word = nat_le 2 (length word) && (nat_le (length word) 128 && (nat
 abbrev pub key_line : List ℕ → Option Line
 key_line word = if is_key_digits word then Some (line.Key word) else None
 
+-- the kind of hostile servers that a name tells
+abbrev pub kind_named : List ℕ → Option HostileKind
+kind_named name =
+    if bytes_eq name (codes "rollback") then Some kind.Rollback
+    else if bytes_eq name (codes "fork") then Some kind.Fork
+    else if bytes_eq name (codes "replay") then Some kind.Replay
+    else if bytes_eq name (codes "swap") then Some kind.Swap
+    else if bytes_eq name (codes "badproof") then Some kind.BadProof
+    else if bytes_eq name (codes "stale") then Some kind.Stale
+    else if bytes_eq name (codes "truncate") then Some kind.Truncate
+    else None
+
+-- such a name, and after how many requests a server misbehaves, at most 1,000,000
+abbrev pub hostile_line : List ℕ → Option ℕ → Option Line
+hostile_line name None = None
+hostile_line name (Some n) = if is_some (kind_named name) && nat_le n 1000000 then Some (line.Hostile name n) else None
+
 -- a line of a header behind its first one
 abbrev pub next_header_of : List (List ℕ) → Option Line
 next_header_of (name ∷ a ∷ []) = if bytes_eq name (codes "key") then key_line a else None
+next_header_of (name ∷ a ∷ b ∷ []) = if bytes_eq name (codes "hostile") then hostile_line a (word_number b) else None
 next_header_of words = None
 
 -- a call: in a group of mode plain of an operation on the dictionary, in one of mode objects on objects

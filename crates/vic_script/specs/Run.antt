@@ -1,5 +1,5 @@
 -- The run of a script: its lines done one after the other, up to the first bad one.
-use Rattle.std.specs.Prelude.{ℕ, ◌+◌, Bool, true, List, [], ◌∷◌, ◌++◌, length, take, replicate, Option, Some, None, is_none, unwrap_or, nat_lt, if◌then◌else◌, min}
+use Rattle.std.specs.Prelude.{ℕ, ◌+◌, Bool, true, ◌&&◌, List, [], ◌∷◌, ◌++◌, length, take, replicate, Option, Some, None, is_none, option_map, unwrap_or, nat_lt, if◌then◌else◌, min}
 use Rattle.std.specs.List.{list_all}
 use Rattle.std.specs.Result.{result_ok}
 use Rattle.hex.specs.Hex.{decode_of}
@@ -9,10 +9,13 @@ use Rattle.vic_wire.specs.Hashes.{Group}
 use Rattle.vic_rules.specs.declared.trace.TraceStep.{TraceStep}
 use Rattle.vic_script.specs.declared.line.Line.{Line}
 use Rattle.vic_script.specs.declared.line.Line.TheVariants as line
-use Rattle.vic_script.specs.Lines.{lines_of, line_of}
-use Rattle.vic_order.specs.Serving.{by_rule}
-use Rattle.vic_order.specs.Scenes.{Scene, opening}
-use Rattle.vic_script.specs.Scenes.{Shown, done_line, bad_kind, is_honest_line}
+use Rattle.vic_script.specs.Lines.{lines_of, line_of, kind_named}
+use Rattle.vic_order.specs.Order.{fresh_server, ready}
+use Rattle.vic_order.specs.Scenes.{SceneOf, opening_with}
+use Rattle.vic_attacks.specs.declared.HostileKind.{HostileKind}
+use Rattle.vic_attacks.specs.declared.HostileKind.TheVariants as kind
+use Rattle.vic_attacks.specs.Hostile.{Hostile, hostile_from, by_kind}
+use Rattle.vic_script.specs.Scenes.{ShownOf, done_line, bad_kind, is_honest_line}
 
 -- the most bytes that a script may have
 abbrev pub limit : ℕ
@@ -30,30 +33,50 @@ zero_key = replicate 32 0
 abbrev pub plain_group : ℕ → Group
 plain_group count = record { mode = mode.Plain; count = count; key = zero_key }
 
--- a header: the mode of the group, how many clients it has, and its key, if it names one
+-- how server 1 misbehaves, and after how many requests
+pub record Attack : Type 0 where
+  pub kind : HostileKind
+  pub after : ℕ
+
+-- it doesn't
+abbrev pub no_attack : Attack
+no_attack = record { kind = kind.Honest; after = 0 }
+
+-- a header: the mode of the group, how many clients it has, and its key and how its server misbehaves, if it names them
 pub record Header : Type 0 where
   pub mode : Mode
   pub count : ℕ
   pub key : Option (List ℕ)
+  pub hostile : Option Attack
 
 abbrev pub group_by : Header → Group
 group_by h = record { mode = h.mode; count = h.count; key = unwrap_or h.key zero_key }
+
+abbrev pub attack_by : Header → Attack
+attack_by h = unwrap_or h.hostile no_attack
+
+-- nothing has happened, all clients have come in, and this server serves them
+abbrev pub opening_as : Group → Attack → SceneOf Hostile
+opening_as g a = opening_with g (hostile_from a.kind a.after (fresh_server g.mode g.count ready))
+
+abbrev pub opening_by : Header → SceneOf Hostile
+opening_by h = opening_as (group_by h) (attack_by h)
 
 -- where a script stands: before its header, in it, or behind it
 pub data Place : Type 0 where
   Before : Place
   Heads : (h : Header) → Place
-  Stands : (s : Scene) → Place
+  Stands : (s : SceneOf Hostile) → Place
 
 -- its scene, once the header has begun: all clients have come in at one server
-abbrev pub scene_in : Place → Option Scene
+abbrev pub scene_in : Place → Option (SceneOf Hostile)
 scene_in Before = None
-scene_in (Heads h) = Some (opening (group_by h))
+scene_in (Heads h) = Some (opening_by h)
 scene_in (Stands s) = Some s
 
 -- a script that was run: where it stands, if its header has begun; what its lines printed; and its first bad line, if there is one
 pub record Played : Type 0 where
-  pub scene : Option Scene
+  pub scene : Option (SceneOf Hostile)
   pub text : List ℕ
   pub bad : Option Bad
 
@@ -68,26 +91,30 @@ pub data Tried : Type 0 where
   Fails : (kind : ℕ) → Tried
   Does : (place : Place) (text : List ℕ) → Tried
 
-abbrev pub tried_by : Option ℕ → Shown → Tried
+abbrev pub tried_by : Option ℕ → ShownOf Hostile → Tried
 tried_by (Some k) shown = Fails k
 tried_by None shown = Does (Stands shown.scene) shown.text
 
 -- a line is tried in a scene
-abbrev pub try_event : Scene → Line → Tried
-try_event s l = tried_by (bad_kind s l) (done_line by_rule s l)
+abbrev pub try_event : SceneOf Hostile → Line → Tried
+try_event s l = tried_by (bad_kind s l) (done_line by_kind s l)
 
 -- a line is tried before the header: only its first line begins it
 abbrev pub try_first : Line → Tried
-try_first (line.Clients n) = Does (Heads (record { mode = mode.Plain; count = n; key = None })) []
-try_first (line.Objects n) = Does (Heads (record { mode = mode.Objects; count = n; key = None })) []
+try_first (line.Clients n) = Does (Heads (record { mode = mode.Plain; count = n; key = None; hostile = None })) []
+try_first (line.Objects n) = Does (Heads (record { mode = mode.Objects; count = n; key = None; hostile = None })) []
 try_first line.Skip = Does Before []
 try_first l = Fails 1
 
--- a line is tried in the header, which names one key at most; a line of another kind ends it
+-- a line is tried in the header, which names one key at most, and behind it one kind of hostile servers at most; a line of another
+-- kind ends it
 abbrev pub try_header : Header → Line → Tried
-try_header h (line.Key digits) = if is_none h.key then Does (Heads (record h { key = result_ok (decode_of digits) })) [] else Fails 1
+try_header h (line.Key digits) =
+    if is_none h.key && is_none h.hostile then Does (Heads (record h { key = result_ok (decode_of digits) })) [] else Fails 1
+try_header h (line.Hostile name n) =
+    if is_none h.hostile then Does (Heads (record h { hostile = option_map (λ k. record { kind = k; after = n }) (kind_named name) })) [] else Fails 1
 try_header h line.Skip = Does (Heads h) []
-try_header h l = try_event (opening (group_by h)) l
+try_header h l = try_event (opening_by h) l
 
 -- a line is tried
 abbrev pub try_line : Place → Option Line → Tried
@@ -97,7 +124,7 @@ try_line (Heads h) (Some l) = try_header h l
 try_line (Stands s) (Some l) = try_event s l
 
 -- the mode, once it is known
-abbrev pub mode_in : Option Scene → Option Mode
+abbrev pub mode_in : Option (SceneOf Hostile) → Option Mode
 mode_in None = None
 mode_in (Some s) = Some s.group.mode
 
@@ -140,11 +167,11 @@ is_honest_script script = list_all (λ text. is_honest (line_of (Some mode.Plain
 -- ---- what a run tells
 
 -- its group; before its header has begun, one that makes no step
-abbrev pub group_in : Option Scene → Group
+abbrev pub group_in : Option (SceneOf Hostile) → Group
 group_in None = plain_group 1
 group_in (Some s) = s.group
 
-abbrev pub history_in : Option Scene → List TraceStep
+abbrev pub history_in : Option (SceneOf Hostile) → List TraceStep
 history_in None = []
 history_in (Some s) = s.history
 

@@ -11,7 +11,7 @@ use Rattle.vic_rules.specs.declared.object.ObjectOutcome.{ObjectOutcome}
 use Rattle.vic_rules.specs.declared.trace.Input.TheVariants as input
 use Rattle.vic_rules.specs.declared.trace.TraceStep.{TraceStep}
 use Rattle.vic_rules.specs.Client.{awaits_nothing, first_failing}
-use Rattle.vic_order.specs.Order.{Server, same_mode}
+use Rattle.vic_order.specs.Order.{same_mode}
 use Rattle.vic_order.specs.Serving.{Serving}
 use Rattle.vic_order.specs.Scenes.{SceneOf, queue_of, stands, Event, Asks, Serves, Takes, Flips, Hears, Resends, Copies, Joins, after_events, last_taken, last_sent, is_client, is_server, waits_in, has_byte}
 use Rattle.vic_script.specs.declared.line.Line.{Line}
@@ -61,9 +61,6 @@ print_of_events rule s (m ∷ before) = print_of_events rule s before ++ print_o
 pub record ShownOf (V : Type 0) : Type 0 where
   pub scene : SceneOf V
   pub text : List ℕ
-
-abbrev pub Shown : Type 0
-Shown = ShownOf Server
 
 abbrev pub shown_after : {V : Type 0} → Serving V → SceneOf V → List Event → ShownOf V
 shown_after rule s events = record { scene = after_events rule s events; text = print_of_events rule s events }

@@ -13,7 +13,7 @@ pub enum Line {
     Objects(u8),
     /// The digits of the group's key, as they are written: 2 to 128 of them, in an even number, capital or small.
     Key(Bytes),
-    /// The name of a kind of hostile servers, and after how many requests server 1 becomes one. No text spells it yet.
+    /// The last line of the header: how server 1 misbehaves, by the name of the kind, and after how many requests, at most 1,000,000.
     Hostile(Bytes, u32),
     /// A client calls an operation.
     Call(u32, Op),
