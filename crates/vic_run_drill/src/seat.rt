@@ -1,6 +1,6 @@
 //! A client of a drill, and the message that is under way for it.
 
-ghost use Rattle.std.specs.Prelude.{◌≡◌, ◌<◌, ◌+◌, ◌^◌, ℕ, IsTrue, IfOk, OnOk, List, Some};
+ghost use Rattle.std.specs.Prelude.{◌≡◌, ◌<◌, ◌+◌, ◌^◌, ℕ, IsTrue, IfOk, OnErr, OnOk, List, Some};
 ghost use Rattle.vic_wire.specs.Hashes.{Group};
 ghost use Rattle.vic_rules.specs.declared.trace.TraceStep.{TraceStep};
 ghost use Rattle.vic_rules.specs.Client.{Standing};
@@ -52,6 +52,7 @@ fn ask(alloc: Global, client: &mut Client, act: &Act) -> Result<Bytes, NoMemory>
     ensures same { IsSame client.old client.new }
     ensures sent { (s : Standing) → StandsFor client.old s → IfOk result (λ b. Some b ≡ sent_at client.old (move_of client.old s (input_of act.now))) }
     ensures stands { (s : Standing) → StandsFor client.old s → OnOk result (StandsFor client.new (move_of client.old s (input_of act.now)).next) }
+    ensures err { OnErr result (client.new ≡ client.old) }
 {
     match act {
         Act::Poll => client.poll(alloc),
@@ -85,7 +86,8 @@ impl Seat {
         requires plain { self.old.client.mode ≡ Mode.Plain }
         requires few { self.old.client.calls + 1 < 2 ^ 32 }
         requires fits { FitsAct act.now }
-        ensures { (g : Group) (h : List TraceStep) (i : ℕ) → SeatStands g h self.old i → OnOk result (Steps g h i (input_of act.now) self.new) }
+        ensures ok { (g : Group) (h : List TraceStep) (i : ℕ) → SeatStands g h self.old i → OnOk result (Steps g h i (input_of act.now) self.new) }
+        ensures err { OnErr result (self.new ≡ self.old) }
     {
         let sent = ask(alloc, &mut self.client, act)?;
         self.under_way = UnderWay::Request(sent);
@@ -95,7 +97,9 @@ impl Seat {
     /// The message that is under way goes on by one step: the server answers it, or the client takes it. After want of memory all
     /// is as before.
     pub fn go_on(&mut self, alloc: Global, served: &mut Served, who: u8) -> Result<Went, NoMemory>
-        ensures { (g : Group) (h : List TraceStep) → SeatStands g h self.old who → IfOk result (λ w. Goes g h who self.old self.new served.old.server served.new.server w) }
+        ensures ok { (g : Group) (h : List TraceStep) → SeatStands g h self.old who → IfOk result (λ w. Goes g h who self.old self.new served.old.server served.new.server w) }
+        ensures err { OnErr result (self.new ≡ self.old) }
+        ensures err_served { OnErr result (served.new ≡ served.old) }
     {
         match &self.under_way {
             UnderWay::Nothing => Ok(Went::Nowhere),

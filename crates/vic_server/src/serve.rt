@@ -30,7 +30,7 @@ pub trait Serve {
         payload: &[u8],
     ) -> Result<Bytes, NoMemory>
         ensures ok { IfOk result (λ b. (b ≡ (rule (state self.old) seat who payload.now).0) × (state self.new ≡ (rule (state self.old) seat who payload.now).1)) }
-        ensures err { OnErr result (state self.new ≡ state self.old) };
+        ensures err { OnErr result (self.new ≡ self.old) };
 
     /// A server in the same state, which from then on goes its own way. It may cost the whole state.
     fn copy(&self, alloc: Global) -> Result<Self, NoMemory>
