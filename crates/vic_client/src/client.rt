@@ -120,7 +120,7 @@ impl Client {
     }
 
     /// Plans a call on objects: of a store the content is to be sent first, the others call their operation. The client doesn't change.
-    /// Of a store it costs the hash of the content, and a copy.
+    /// Of a store it costs the hash of the content, and two copies of it: in the message, and in the bytes that are sent.
     #[tactic(auto, unfolding(vic_rules::specs::Client::step))]
     pub fn plan_object(&self, alloc: Global, call: &ObjectCall) -> Result<Pending, NoMemory>
         requires idle { IsTrue (is_idle self.now) }
@@ -301,7 +301,7 @@ impl Client {
     }
 
     /// Makes a call on objects: the payload to send. After want of memory the client is as before. Of a store it costs the hash of the
-    /// content, and a copy.
+    /// content, and two copies of it: in the message, and in the payload.
     #[tactic(auto, using(crate::proofs::Pendings::stands_kept))]
     pub fn invoke_object(&mut self, alloc: Global, call: &ObjectCall) -> Result<Bytes, NoMemory>
         requires idle { IsTrue (is_idle self.old) }
