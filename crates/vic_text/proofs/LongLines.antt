@@ -17,14 +17,14 @@ words_some (b ∷ bs) = elim (nat_eq b 32) as (λ t. (w : List ℕ) × (ws : Lis
   | false ↦ put_first_some b (words_of bs)
 ]
 
--- a line of more words than two is none of a header
+-- a line of more words than two is no first one of a header
 pub header_more : (name number text : List ℕ) → header_of (name ∷ number ∷ words_of text) ≡ None
 header_more name number text = let some = words_some text in rw some.2 refl
 
-pub next_header_more : (name number text : List ℕ) → next_header_of (name ∷ number ∷ words_of text) ≡ None
-next_header_more name number text = let some = words_some text in rw some.2 refl
-
 -- and one of four words or more can only be a call
+pub next_header_long : (name number third text : List ℕ) → next_header_of (name ∷ number ∷ third ∷ words_of text) ≡ None
+next_header_long name number third text = let some = words_some text in rw some.2 refl
+
 pub event_long : (kind : Mode) (name number third text : List ℕ) → event_of kind (name ∷ number ∷ third ∷ words_of text) ≡ called kind name number (third ∷ words_of text)
 event_long kind name number third text = let some = words_some text in rw some.2 refl
 

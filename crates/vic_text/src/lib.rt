@@ -1,8 +1,8 @@
 //! Reading the lines of a script, printing operations, outcomes and bad lines, and the statuses with which commands end.
 //!
-//! `read_line` answers the line that a text spells by `line_of` of `vic_script`; `op_text`, `outcome_text`, `object_text` and
-//! `put_bad_line` are `op_words`, `outcome_words`, `object_words` and `bad_line` there. `Status::number` and `Status::line` are
-//! `status_number` and `fixed_line` of `specs/Statuses.antt`.
+//! `read_line` answers the line that a text spells by `line_of` of `vic_script`, and `kind_named` the kind of hostile servers that a
+//! name tells there. `op_text`, `outcome_text`, `object_text` and `put_bad_line` are `op_words`, `outcome_words`, `object_words` and
+//! `bad_line` there. `Status::number` and `Status::line` are `status_number` and `fixed_line` of `specs/Statuses.antt`.
 #![tactic(auto)]
 
 pub mod client_line;
@@ -17,7 +17,7 @@ pub use object::CONTENT_LIMIT;
 pub use print::{
     object_text, op_text, outcome_text, put_bad_line, put_number, put_object, put_op, put_outcome,
 };
-pub use read::{LineFault, SCRIPT_LIMIT, read_line};
+pub use read::{HOSTILE_LIMIT, LineFault, SCRIPT_LIMIT, kind_named, read_line};
 pub use status::Status;
 pub use vic_script::Line;
 pub use word::split_line;

@@ -143,16 +143,24 @@ pub fn put_object(out: &mut Bytes, alloc: Global, outcome: &ObjectOutcome) -> Re
     out.append(text.as_slice())
 }
 
-/// Appends the line that tells of a bad line: its number, from 1 on, and the text of its kind, 1 to 7. Where memory runs out, some
-/// of it may stand there.
+/// Appends the line that tells of a bad line: its number, from 1 on, and the text of its kind, 1 to 7.
 pub fn put_bad_line(out: &mut Bytes, alloc: Global, number: u32, kind: u8) -> Result<(), NoMemory>
     ensures ok { OnOk result (out.new ≡ out.old ++ bad_line (record { number = number; kind = kind })) }
+    ensures err { OnErr result (out.new ≡ out.old) }
 {
-    out.append(b"line ")?;
-    put_number(out, alloc, number)?;
-    out.append(b": ")?;
-    out.append(kind_text(kind))?;
-    out.append(b"\n")
+    let text = bad_line_text(alloc, number, kind)?;
+    out.append(text.as_slice())
+}
+
+fn bad_line_text(alloc: Global, number: u32, kind: u8) -> Result<Bytes, NoMemory>
+    ensures { IfOk result (λ made. made ≡ bad_line (record { number = number; kind = kind })) }
+{
+    let mut text = Bytes::new(alloc);
+    put_numbered(&mut text, alloc, b"line ", number)?;
+    text.append(b": ")?;
+    text.append(kind_text(kind))?;
+    text.append(b"\n")?;
+    Ok(text)
 }
 
 fn kind_text(kind: u8) -> &'static [u8]

@@ -2,17 +2,21 @@
 
 ghost use Rattle.std.specs.Prelude.{◌≡◌, [], ◌∷◌, IfOk, Some, None};
 ghost use Rattle.vic_script.specs.Words.{word_bytes, word_number, word_capped};
-ghost use Rattle.vic_script.specs.Lines.{words_of, within as within_of, key_of, value_of, prefix_of, op_of, call_of, object_of, object_call_of, named, give_of, pair_of, copy_of, paired, called, group_line, header_of, key_line as key_by, next_header_of, or_line, is_skipped as skip_test, line_in, line_of as line_by};
+ghost use Rattle.vic_script.specs.Lines.{words_of, within as within_of, key_of, value_of, prefix_of, op_of, call_of, object_of, object_call_of, named, give_of, pair_of, copy_of, paired, called, group_line, header_of, key_line as key_by, kind_named as kind_by, hostile_line as hostile_by, next_header_of, or_line, is_skipped as skip_test, line_in, line_of as line_by};
 
 use crate::object::object_of_words;
 use crate::word::{are_key_digits, bytes_of, is_name, number_of, split_word};
 use std::alloc::Global;
 use thiserror::Error;
+use vic_attacks::HostileKind;
 use vic_dict::{Bytes, Mode, NoMemory, Op};
 use vic_script::Line;
 
 /// The most bytes that a script may have.
 pub const SCRIPT_LIMIT: usize = 16_777_216;
+
+/// The most requests after which a script may have its server misbehave.
+pub const HOSTILE_LIMIT: u32 = 1_000_000;
 
 /// Why a text is no line.
 #[derive(Clone, Copy, Debug, PartialEq, Eq, Error)]
@@ -100,7 +104,7 @@ fn later_line(alloc: Global, name: &[u8], word: &[u8]) -> Result<Option<Line>, N
     }
 }
 
-/// A line of a header behind its first one.
+/// A line of a header behind its first one that has two words.
 fn next_header_line(alloc: Global, name: &[u8], word: &[u8]) -> Result<Option<Line>, NoMemory>
     ensures { IfOk result (λ o. o ≡ next_header_of (name.now ∷ word.now ∷ [])) }
 {
@@ -119,6 +123,45 @@ fn key_line(alloc: Global, digits: &[u8]) -> Result<Option<Line>, NoMemory>
         return Ok(None);
     }
     Ok(Some(Line::Key(Bytes::of(alloc, digits)?)))
+}
+
+/// The last line of a header: how the server misbehaves, and after how many requests. The name stays as it is written.
+fn hostile_line(alloc: Global, name: &[u8], number: &[u8]) -> Result<Option<Line>, NoMemory>
+    ensures { IfOk result (λ o. o ≡ hostile_by name.now (word_number number.now)) }
+{
+    match number_of(number) {
+        None => Ok(None),
+        Some(after) => {
+            if kind_named(name).is_some() && after <= HOSTILE_LIMIT {
+                Ok(Some(Line::Hostile(Bytes::of(alloc, name)?, after)))
+            } else {
+                Ok(None)
+            }
+        }
+    }
+}
+
+/// The kind of hostile servers that a name tells, if it tells one; no name tells the kind that doesn't misbehave.
+pub fn kind_named(name: &[u8]) -> Option<HostileKind>
+    ensures { result ≡ kind_by name.now }
+{
+    if is_name(name, b"rollback") {
+        Some(HostileKind::Rollback)
+    } else if is_name(name, b"fork") {
+        Some(HostileKind::Fork)
+    } else if is_name(name, b"replay") {
+        Some(HostileKind::Replay)
+    } else if is_name(name, b"swap") {
+        Some(HostileKind::Swap)
+    } else if is_name(name, b"badproof") {
+        Some(HostileKind::BadProof)
+    } else if is_name(name, b"stale") {
+        Some(HostileKind::Stale)
+    } else if is_name(name, b"truncate") {
+        Some(HostileKind::Truncate)
+    } else {
+        None
+    }
 }
 
 /// The first line of a header.
@@ -187,7 +230,7 @@ fn named_line(name: &[u8], number: &[u8]) -> Option<Line>
 }
 
 /// A line of more than two words, of which the third and later ones are given as one text.
-#[tactic(auto, using(crate::proofs::LongLines::header_more, crate::proofs::LongLines::next_header_more, crate::proofs::LongLines::event_long))]
+#[tactic(auto, using(crate::proofs::LongLines::header_more, crate::proofs::LongLines::next_header_long, crate::proofs::LongLines::event_long))]
 fn more_words(
     alloc: Global,
     name: &[u8],
@@ -201,8 +244,39 @@ fn more_words(
         return Ok(None);
     };
     match split_word(words) {
-        None => paired_line(alloc, name, number, words),
+        None => three_words(alloc, name, number, words),
         Some((third, others)) => called_line(alloc, kind, name, number, third, others),
+    }
+}
+
+/// A line of three words.
+fn three_words(
+    alloc: Global,
+    name: &[u8],
+    first: &[u8],
+    second: &[u8],
+) -> Result<Option<Line>, NoMemory>
+    ensures { IfOk result (λ o. o ≡ or_line (next_header_of (name.now ∷ first.now ∷ second.now ∷ [])) (paired name.now first.now second.now)) }
+{
+    match last_header_line(alloc, name, first, second)? {
+        Some(line) => Ok(Some(line)),
+        None => paired_line(alloc, name, first, second),
+    }
+}
+
+/// A line of a header that has three words.
+fn last_header_line(
+    alloc: Global,
+    name: &[u8],
+    first: &[u8],
+    second: &[u8],
+) -> Result<Option<Line>, NoMemory>
+    ensures { IfOk result (λ o. o ≡ next_header_of (name.now ∷ first.now ∷ second.now ∷ [])) }
+{
+    if is_name(name, b"hostile") {
+        hostile_line(alloc, first, second)
+    } else {
+        Ok(None)
     }
 }
 

@@ -1,6 +1,9 @@
-use crate::{object_text, op_text, outcome_text, read_client_line, read_line};
+use crate::{
+    kind_named, object_text, op_text, outcome_text, put_bad_line, read_client_line, read_line,
+};
 use std::alloc::Global;
 use std::test::Fail;
+use vic_attacks::HostileKind;
 use vic_dict::{Answer, Bytes, Mode, Names, Op, Outcome};
 use vic_rules::ObjectOutcome;
 
@@ -10,7 +13,7 @@ const NONE: &str = "Err(Grammar)";
 type Row = (&'static str, &'static str);
 
 /// Lines of both modes, once the mode is known.
-const LINES: [Row; 45] = [
+const LINES: [Row; 68] = [
     ("poll 1", "Ok(Poll(1))"),
     ("sync 2", "Ok(Sync(2))"),
     ("serve 3", "Ok(Serve(3))"),
@@ -55,7 +58,57 @@ const LINES: [Row; 45] = [
     ("key 0g", NONE),
     ("key %00", NONE),
     ("key 00 00", NONE),
-    ("hostile fork 0", NONE),
+    (
+        "hostile rollback 3",
+        "Ok(Hostile(Bytes { items: [114, 111, 108, 108, 98, 97, 99, 107] }, 3))",
+    ),
+    (
+        "hostile fork 3",
+        "Ok(Hostile(Bytes { items: [102, 111, 114, 107] }, 3))",
+    ),
+    (
+        "hostile replay 3",
+        "Ok(Hostile(Bytes { items: [114, 101, 112, 108, 97, 121] }, 3))",
+    ),
+    (
+        "hostile swap 3",
+        "Ok(Hostile(Bytes { items: [115, 119, 97, 112] }, 3))",
+    ),
+    (
+        "hostile badproof 3",
+        "Ok(Hostile(Bytes { items: [98, 97, 100, 112, 114, 111, 111, 102] }, 3))",
+    ),
+    (
+        "hostile stale 3",
+        "Ok(Hostile(Bytes { items: [115, 116, 97, 108, 101] }, 3))",
+    ),
+    (
+        "hostile truncate 3",
+        "Ok(Hostile(Bytes { items: [116, 114, 117, 110, 99, 97, 116, 101] }, 3))",
+    ),
+    (
+        "hostile fork 0",
+        "Ok(Hostile(Bytes { items: [102, 111, 114, 107] }, 0))",
+    ),
+    (
+        "hostile fork 1000000",
+        "Ok(Hostile(Bytes { items: [102, 111, 114, 107] }, 1000000))",
+    ),
+    ("hostile fork 1000001", NONE),
+    ("hostile fork 4294967296", NONE),
+    ("hostile fork 00", NONE),
+    ("hostile fork 01", NONE),
+    ("hostile fork %", NONE),
+    ("hostile fork", NONE),
+    ("hostile fork 1 2", NONE),
+    ("hostile fork 1 ", NONE),
+    ("hostile honest 1", NONE),
+    ("hostile Fork 1", NONE),
+    ("hostile forks 1", NONE),
+    ("hostile bad-proof 1", NONE),
+    ("hostile 1 fork", NONE),
+    ("hostile  1", NONE),
+    (" hostile fork 1", NONE),
 ];
 
 /// Lines of mode plain alone.
@@ -195,6 +248,26 @@ fn lines(rt: HostRuntime) -> Result<(), Fail> {
     Ok(())
 }
 
+// What kinds of hostile servers names tell.
+#[test]
+fn kinds(rt: HostRuntime) -> Result<(), Fail> {
+    for (name, want) in [
+        ("rollback", Some(HostileKind::Rollback)),
+        ("fork", Some(HostileKind::Fork)),
+        ("replay", Some(HostileKind::Replay)),
+        ("swap", Some(HostileKind::Swap)),
+        ("badproof", Some(HostileKind::BadProof)),
+        ("stale", Some(HostileKind::Stale)),
+        ("truncate", Some(HostileKind::Truncate)),
+        ("honest", None),
+        ("Rollback", None),
+        ("", None),
+    ] {
+        assert_eq!(rt; kind_named(name.as_bytes()), want, "{name}");
+    }
+    Ok(())
+}
+
 // What lines of a client's script read as.
 #[test]
 fn client_lines(rt: HostRuntime) -> Result<(), Fail> {
@@ -273,6 +346,19 @@ fn printed(rt: HostRuntime) -> Result<(), Fail> {
             "{want}"
         );
     }
+    Ok(())
+}
+
+// What tells of bad lines, behind what was printed before.
+#[test]
+fn bad_lines(rt: HostRuntime) -> Result<(), Fail> {
+    let alloc = rt.alloc();
+    let mut out = Bytes::of(alloc, b"1 done stored\n")?;
+    put_bad_line(&mut out, alloc, 12, 3)?;
+    put_bad_line(&mut out, alloc, 4294967295, 1)?;
+    let want =
+        "1 done stored\nline 12: client has halted\nline 4294967295: not a line of this script\n";
+    assert_eq!(rt; out.as_slice(), want.as_bytes());
     Ok(())
 }
 
