@@ -2,17 +2,16 @@
 use Rattle.std.proofs.Common.{◌≡◌, ℕ, ◌+◌, Bool, true, false, List, [], ◌∷◌, Option, Some, None, is_none, refl, ap, subst, arith}
 use Rattle.vic_rules.specs.Client.{first_failing, awaits_nothing}
 use Rattle.vic_order.specs.Order.{Server}
-use Rattle.vic_order.specs.Serving.{by_rule}
-use Rattle.vic_order.specs.Honest.{IsSame}
+use Rattle.vic_attacks.specs.Hostile.{Hostile, by_kind}
 use Rattle.vic_script.specs.declared.line.Line.{Line}
 use Rattle.vic_script.specs.declared.line.Line.TheVariants as line
 use Rattle.vic_script.specs.Lines.{line_of}
-use Rattle.vic_order.specs.Scenes.{SceneOf, Scene, opening, stands, is_client, waits_in}
-use Rattle.vic_script.specs.Scenes.{Shown, done_line, is_plain_call, is_object_call, asked_tests, bad_kind, is_honest_line}
-use Rattle.vic_script.specs.Run.{Bad, group_by, Place, Before, Heads, Stands, scene_in, Played, Tried, Fails, Does, tried_by, try_event, try_line, mode_in, bad_end, run_of, is_honest_script, group_in, history_in, group_of, history_of}
+use Rattle.vic_order.specs.Scenes.{SceneOf, stands, is_client, waits_in}
+use Rattle.vic_script.specs.Scenes.{ShownOf, done_line, is_plain_call, is_object_call, asked_tests, bad_kind, is_honest_line}
+use Rattle.vic_script.specs.Run.{Bad, opening_by, Place, Before, Heads, Stands, scene_in, Played, Tried, Fails, Does, tried_by, try_event, try_line, mode_in, bad_end, run_of, is_honest_script, group_in, history_in, group_of, history_of}
 use Rattle.vic_honest.specs.SafeRuns.{AreApart}
 use Rattle.vic_runs.specs.Claims.{NoLineIsHalted}
-use Rattle.vic_runs.specs.Reached.{IsHonestlyReached}
+use Rattle.vic_runs.specs.Reached.{GoesAs, IsHonestlyReached}
 use Rattle.vic_runs.proofs.Words.{text_fits}
 use Rattle.vic_runs.proofs.Headers.{first_so, header_so}
 use Rattle.vic_runs.proofs.Tests.{client_is}
@@ -76,7 +75,7 @@ abbrev FailsOtherwise : Tried → Type 0
 FailsOtherwise (Fails kind) = kind ≡ 3 → ⊥
 FailsOtherwise (Does s text) = Unit {0}
 
-fails_by : (bad : Option ℕ) (shown : Shown) → (bad ≡ Some 3 → ⊥) → FailsOtherwise (tried_by bad shown)
+fails_by : (bad : Option ℕ) (shown : ShownOf Hostile) → (bad ≡ Some 3 → ⊥) → FailsOtherwise (tried_by bad shown)
 fails_by None shown h = tt
 fails_by (Some k) shown h = λ e. h (ap (λ n. Some n) e)
 
@@ -84,11 +83,11 @@ fails_by (Some k) shown h = λ e. h (ap (λ n. Some n) e)
 one_is_other : (n : ℕ) → n ≡ 1 → n ≡ 3 → ⊥
 one_is_other n e f = omega (arith, e, f)
 
-fails_event : (s : Scene) (l : Line) (n : ℕ) → IsHonestlyReached IsSame s n → AreApart s.group s.history → is_honest_line l ≡ true → FailsOtherwise (try_event s l)
-fails_event s l n h apart honest = fails_by (bad_kind s l) (done_line by_rule s l) (never_three IsSame s n h apart l honest)
+fails_event : (s : SceneOf Hostile) (l : Line) (n : ℕ) → IsHonestlyReached GoesAs s n → AreApart s.group s.history → is_honest_line l ≡ true → FailsOtherwise (try_event s l)
+fails_event s l n h apart honest = fails_by (bad_kind s l) (done_line by_kind s l) (never_three GoesAs s n h apart l honest)
 
 -- contents are apart where a script stands
-abbrev ApartIn : Option Scene → Type 0
+abbrev ApartIn : Option (SceneOf Hostile) → Type 0
 ApartIn scene = AreApart (group_in scene) (history_in scene)
 
 fails : (place : Place) (l : Option Line) (n : ℕ) → HonestIn (scene_in place) n → HonestFor (scene_in place) l → ApartIn (scene_in place) → FailsOtherwise (try_line place l)
@@ -96,7 +95,8 @@ fails Before None n r honest apart = one_is_other 1 refl
 fails Before (Some l) n r honest apart = first_so (λ (x : Line) (t : Tried). FailsOtherwise t) (λ count. tt) (λ count. tt) tt (λ x. one_is_other 1 refl) l
 fails (Heads h) None n r honest apart = one_is_other 1 refl
 fails (Heads h) (Some l) n r honest apart =
-    header_so (λ (x : Line) (t : Tried). is_honest_line x ≡ true → FailsOtherwise t) h (λ digits so. tt) (λ digits so. one_is_other 1 refl) (λ so. tt) (λ x so. fails_event (opening (group_by h)) x n r apart so) l honest
+    header_so (λ (x : Line) (t : Tried). is_honest_line x ≡ true → FailsOtherwise t) h (λ digits so. tt) (λ digits so. one_is_other 1 refl) (λ name k only so. tt) (λ name k so. one_is_other 1 refl) (λ so. tt)
+    (λ x so. fails_event (opening_by h) x n r apart so) l honest
 fails (Stands s) None n r honest apart = one_is_other 1 refl
 fails (Stands s) (Some l) n r honest apart = fails_event s l n r apart honest
 

@@ -1,6 +1,6 @@
 -- Lines before a header and in it, and the group that a header tells.
-use Rattle.std.proofs.Common.{◌≡◌, ℕ, ◌%◌, ◌<◌, ◌≤◌, Bool, true, false, ◌&&◌, List, [], length, None, Result, sym, subst, arith}
-use Rattle.std.specs.Prelude.{if◌then◌else◌, is_none, unwrap_or, nat_eq, nat_le}
+use Rattle.std.proofs.Common.{◌≡◌, ℕ, ◌%◌, ◌<◌, ◌≤◌, Bool, true, false, ◌&&◌, List, [], length, Option, Some, None, Result, refl, sym, subst, arith}
+use Rattle.std.specs.Prelude.{if◌then◌else◌, is_none, option_map, unwrap_or, nat_eq, nat_le}
 use Rattle.std.specs.List.{list_all}
 use Rattle.std.specs.Result.{result_ok}
 use Rattle.std.proofs.lemmas.Bool.{and_parts, leb-true, eqb-true}
@@ -11,21 +11,28 @@ use Rattle.hex.proofs.HexLemmas.{decode_of-ok, decode_of-digits}
 use Rattle.vic_dict.specs.declared.op.Mode.{Mode}
 use Rattle.vic_dict.specs.declared.op.Mode.TheVariants as mode
 use Rattle.vic_wire.specs.Hashes.{IsGroup}
-use Rattle.vic_order.specs.Scenes.{opening}
 use Rattle.vic_script.specs.declared.line.Line.{Line}
 use Rattle.vic_script.specs.declared.line.Line.TheVariants as line
-use Rattle.vic_script.specs.Lines.{is_key_digits}
-use Rattle.vic_script.specs.Run.{zero_key, Header, group_by, Before, Heads, Tried, Fails, Does, try_event, try_first, try_header}
+use Rattle.vic_script.specs.Lines.{is_key_digits, kind_named}
+use Rattle.vic_script.specs.Run.{zero_key, Attack, Header, group_by, opening_by, Before, Heads, Tried, Fails, Does, try_event, try_first, try_header}
 
 -- ---- lines
 
--- the header of so many clients, before it names a key
+-- the header of so many clients, before it names a key or how its server misbehaves
 abbrev pub begun : Mode → ℕ → Header
-begun kind count = record { mode = kind; count = count; key = None }
+begun kind count = record { mode = kind; count = count; key = None; hostile = None }
 
 -- the header with the key that digits spell
 abbrev pub keyed : Header → List ℕ → Header
 keyed h digits = record h { key = result_ok (decode_of digits) }
+
+-- how a server misbehaves, by a name and a number
+abbrev pub attack_named : List ℕ → ℕ → Option Attack
+attack_named name n = option_map (λ k. record { kind = k; after = n }) (kind_named name)
+
+-- the header with a server that misbehaves so
+abbrev pub turned : Header → List ℕ → ℕ → Header
+turned h name n = record h { hostile = attack_named name n }
 
 -- a line before the header begins it, is skipped, or is bad
 pub first_so : (P : Line → Tried → Type 0) → ((count : ℕ) → P (line.Clients count) (Does (Heads (begun mode.Plain count)) [])) → ((count : ℕ) → P (line.Objects count) (Does (Heads (begun mode.Objects count)) [])) → P line.Skip (Does Before []) → ((l : Line) → P l (Fails 1)) → (l : Line) → P l (try_first l)
@@ -52,27 +59,34 @@ key-either : (P : Tried → Type 0) (b : Bool) (t : Tried) → P t → P (Fails 
 key-either P true t names fails = names
 key-either P false t names fails = fails
 
--- a line in the header names the key, is a second key, is skipped, or is tried in the scene that the header opens
-pub header_so : (P : Line → Tried → Type 0) (h : Header) → ((digits : List ℕ) → P (line.Key digits) (Does (Heads (keyed h digits)) [])) → ((digits : List ℕ) → P (line.Key digits) (Fails 1)) → P line.Skip (Does (Heads h) [])
-    → ((l : Line) → P l (try_event (opening (group_by h)) l)) → (l : Line) → P l (try_header h l)
-header_so P h names again skips ends (line.Key digits) = key-either (P (line.Key digits)) (is_none h.key) (Does (Heads (keyed h digits)) []) (names digits) (again digits)
-header_so P h names again skips ends (line.Clients count) = ends (line.Clients count)
-header_so P h names again skips ends (line.Objects count) = ends (line.Objects count)
-header_so P h names again skips ends (line.Hostile name k) = ends (line.Hostile name k)
-header_so P h names again skips ends (line.Call i o) = ends (line.Call i o)
-header_so P h names again skips ends (line.Object i c) = ends (line.Object i c)
-header_so P h names again skips ends (line.Poll i) = ends (line.Poll i)
-header_so P h names again skips ends (line.Sync i) = ends (line.Sync i)
-header_so P h names again skips ends (line.Serve i) = ends (line.Serve i)
-header_so P h names again skips ends (line.Take i) = ends (line.Take i)
-header_so P h names again skips ends (line.Run i) = ends (line.Run i)
-header_so P h names again skips ends (line.Give i payload) = ends (line.Give i payload)
-header_so P h names again skips ends (line.Again i) = ends (line.Again i)
-header_so P h names again skips ends (line.Flip i k) = ends (line.Flip i k)
-header_so P h names again skips ends (line.Resend i) = ends (line.Resend i)
-header_so P h names again skips ends (line.Copy k t) = ends (line.Copy k t)
-header_so P h names again skips ends (line.Move i k) = ends (line.Move i k)
-header_so P h names again skips ends line.Skip = skips
+first-either : (P : Tried → Type 0) (o : Option Attack) (t : Tried) → (o ≡ None → P t) → P (Fails 1) → P (if is_none o then t else Fails 1)
+first-either P None t turns twice = turns refl
+first-either P (Some a) t turns twice = twice
+
+-- a line in the header names the key, names how its server misbehaves, names one of them where it may not, is skipped, or is tried in the
+-- scene that the header opens
+pub header_so : (P : Line → Tried → Type 0) (h : Header) → ((digits : List ℕ) → P (line.Key digits) (Does (Heads (keyed h digits)) [])) → ((digits : List ℕ) → P (line.Key digits) (Fails 1))
+    → ((name : List ℕ) (n : ℕ) → h.hostile ≡ None → P (line.Hostile name n) (Does (Heads (turned h name n)) [])) → ((name : List ℕ) (n : ℕ) → P (line.Hostile name n) (Fails 1))
+    → P line.Skip (Does (Heads h) []) → ((l : Line) → P l (try_event (opening_by h) l)) → (l : Line) → P l (try_header h l)
+header_so P h keys again turns twice skips ends (line.Key digits) =
+    key-either (P (line.Key digits)) (is_none h.key && is_none h.hostile) (Does (Heads (keyed h digits)) []) (keys digits) (again digits)
+header_so P h keys again turns twice skips ends (line.Hostile name n) = first-either (P (line.Hostile name n)) h.hostile (Does (Heads (turned h name n)) []) (turns name n) (twice name n)
+header_so P h keys again turns twice skips ends (line.Clients count) = ends (line.Clients count)
+header_so P h keys again turns twice skips ends (line.Objects count) = ends (line.Objects count)
+header_so P h keys again turns twice skips ends (line.Call i o) = ends (line.Call i o)
+header_so P h keys again turns twice skips ends (line.Object i c) = ends (line.Object i c)
+header_so P h keys again turns twice skips ends (line.Poll i) = ends (line.Poll i)
+header_so P h keys again turns twice skips ends (line.Sync i) = ends (line.Sync i)
+header_so P h keys again turns twice skips ends (line.Serve i) = ends (line.Serve i)
+header_so P h keys again turns twice skips ends (line.Take i) = ends (line.Take i)
+header_so P h keys again turns twice skips ends (line.Run i) = ends (line.Run i)
+header_so P h keys again turns twice skips ends (line.Give i payload) = ends (line.Give i payload)
+header_so P h keys again turns twice skips ends (line.Again i) = ends (line.Again i)
+header_so P h keys again turns twice skips ends (line.Flip i k) = ends (line.Flip i k)
+header_so P h keys again turns twice skips ends (line.Resend i) = ends (line.Resend i)
+header_so P h keys again turns twice skips ends (line.Copy k t) = ends (line.Copy k t)
+header_so P h keys again turns twice skips ends (line.Move i k) = ends (line.Move i k)
+header_so P h keys again turns twice skips ends line.Skip = skips
 
 -- ---- groups
 

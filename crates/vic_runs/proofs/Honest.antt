@@ -24,7 +24,7 @@ use Rattle.vic_runs.proofs.Counting.{calls-step, calls-payload}
 use Rattle.vic_runs.proofs.Kept.{IsKept}
 use Rattle.vic_runs.proofs.Scenes.{step_by}
 use Rattle.vic_runs.proofs.Seats.{IsSeated}
-use Rattle.vic_runs.proofs.Events.{asked, asks, kept-after}
+use Rattle.vic_runs.proofs.Events.{asked, asks}
 use Rattle.vic_runs.proofs.Lines.{HasCallLeft, turns-may, turns-honest, turns-ask, line-may, line-asks, line-honest}
 use Rattle.vic_runs.proofs.Lists.{all-set, all-replicate}
 use Rattle.vic_runs.proofs.Queues.{queue-bytes, queued-bytes}
@@ -49,9 +49,18 @@ one_more s server events run m may next after is same one = record {
 }
 
 module _ {V : Type 0} (R : V → Server → Type 0) where
+  -- a scene that is so reached behind events, by whose run they are made after those before
+  pub record IsBehind (s : SceneOf V) (n : ℕ) (r : IsHonestlyReached R s n) (later : List Event) (next : SceneOf V) (m : ℕ) : Type 0 where
+    pub reached : IsHonestlyReached R next m
+    pub events : reached.comes.events ≡ later ++ r.comes.events
+
   -- so few calls are at most more
   pub honest-more : (s : SceneOf V) (n m : ℕ) → n ≤ m → IsHonestlyReached R s n → IsHonestlyReached R s m
   honest-more s n m more r = record { comes = r.comes; calls = λ i. omega (arith, more, r.calls i); up_bytes = r.up_bytes }
+
+  behind-more : (s : SceneOf V) (n : ℕ) (r : IsHonestlyReached R s n) (later : List Event) (next : SceneOf V) (k m : ℕ) → k ≤ m → IsBehind s n r later next k → IsBehind s n r later next m
+  unfolding honest-more
+  behind-more s n r later next k m more b = record { reached = honest-more next k m more b.reached; events = b.events }
 
   -- a group opens with a server that is a fresh one, as far as R says
   pub honest-opening : (g : Group) (server : V) → IsGroup g → R server (fresh_server g.mode g.count ready) → IsHonestlyReached R (opening_with g server) 0
@@ -78,7 +87,7 @@ module _ {V : Type 0} (R : V → Server → Type 0) where
       let x : TraceStep = step_by s.group i given s.history in
       all-set HoldsBytes s.up _ _ bytes (queued-bytes (queue_of s.up i) x.sent (queue-bytes s.up i bytes) (sent-bytes s.group x s.history lawful))
 
-  honest-asked : (s : SceneOf V) (n : ℕ) → IsHonestlyReached R s n → (i : ℕ) → 0 < i → i ≤ s.group.count → (given : Input) → MayAsk s i given → IsHonestlyReached R (steps s i given) (n + 1)
+  honest-asked : (s : SceneOf V) (n : ℕ) (r : IsHonestlyReached R s n) (i : ℕ) → 0 < i → i ≤ s.group.count → (given : Input) → MayAsk s i given → IsBehind s n r (Asks i given ∷ []) (steps s i given) (n + 1)
   unfolding steps
   honest-asked s n r i above upto given may =
       let g : Group = s.group in
@@ -87,16 +96,19 @@ module _ {V : Type 0} (R : V → Server → Type 0) where
       one_more (ruled s r.comes.server) r.comes.server r.comes.events r.comes.run (Asks i given) (tt, (above, upto, may-ask s r.comes.server i given may)) next r.comes.server refl refl refl in
       let lawful : IsLawful g (step_by g i given s.history ∷ s.history) = all_lawful next r.comes.server (Asks i given ∷ r.comes.events) run in
       record {
-        comes = record {
-          events = Asks i given ∷ r.comes.events;
-          server = r.comes.server;
-          run = run;
-          own = r.comes.own;
-          only = r.comes.only;
-          same = r.comes.same;
+        reached = record {
+          comes = record {
+            events = Asks i given ∷ r.comes.events;
+            server = r.comes.server;
+            run = run;
+            own = r.comes.own;
+            only = r.comes.only;
+            same = r.comes.same;
+          };
+          calls = λ j. omega (arith, r.calls j, calls-step g s.history (step_by g i given s.history) j);
+          up_bytes = sent_joins s r.up_bytes i given lawful;
         };
-        calls = λ j. omega (arith, r.calls j, calls-step g s.history (step_by g i given s.history) j);
-        up_bytes = sent_joins s r.up_bytes i given lawful;
+        events = refl;
       }
 
   -- ---- the server serves, and a client takes
@@ -115,31 +127,54 @@ module _ {V : Type 0} (R : V → Server → Type 0) where
       ∙ ap (λ k. record (served_with (ruled s v) i rest (by_rule v i i payload)) { servers = set_server (ruled s v).servers k (Some (serve v i payload).next) }) one
       ∙ ap (λ text. record (ruled s (serve v i payload).next) { up = set_queue s.up i rest; down = set_queue s.down i (queue_of s.down i ++ text ∷ []) }) (sym alike)
 
-  honest-served : (rule : Serving V) → IsKept rule R → (s : SceneOf V) (n : ℕ) → IsHonestlyReached R s n → (i : ℕ) → 0 < i → i ≤ s.group.count → (queue : Queue) → queue_of s.up i ≡ queue
-      → (server : Option V) → server_at s.servers (server_of s.served_by i) ≡ server → IsHonestlyReached R (served rule s i queue server) n
-  honest-served rule kept s n r i above upto [] is server there = r
-  honest-served rule kept s n r i above upto (payload ∷ rest) is None there = r
-  honest-served rule kept s n r i above upto (payload ∷ rest) is (Some server) there =
+  -- the server that serves a client exists: it is the one
+  own_there : (s : SceneOf V) (n : ℕ) (r : IsHonestlyReached R s n) (i : ℕ) → 0 < i → i ≤ s.group.count → server_at s.servers (server_of s.served_by i) ≡ Some r.comes.own
+  own_there s n r i above upto = ap (server_at s.servers) (by_one s n r i above upto) ∙ ap (λ l. server_at l 1) r.comes.only
+
+  -- it serves a request that waits
+  served-one : (rule : Serving V) → IsKept rule R → (s : SceneOf V) (n : ℕ) (r : IsHonestlyReached R s n) (i : ℕ) → 0 < i → i ≤ s.group.count → (payload : List ℕ) (rest : Queue) → queue_of s.up i ≡ payload ∷ rest
+      → (server : V) → server_at s.servers (server_of s.served_by i) ≡ Some server → IsBehind s n r (Serves i ∷ []) (served_with s i rest (rule server i i payload)) n
+  served-one rule kept s n r i above upto payload rest is server there =
       let a : List ℕ × V = rule server i i payload in
       let one : server_of s.served_by i ≡ 1 = by_one s n r i above upto in
-      let mine : r.comes.own ≡ server = same_Some r.comes.own server (sym (ap (server_at s.servers) one ∙ ap (λ l. server_at l 1) r.comes.only) ∙ there) in
+      let mine : r.comes.own ≡ server = same_Some r.comes.own server (sym (own_there s n r i above upto) ∙ there) in
       let full : queue_of s.up i ≡ [] → ⊥ = λ e. let none = sym is ∙ e in absurd cc in
       let bytes : HoldsBytes (payload ∷ rest) = subst HoldsBytes is (queue-bytes s.up i r.up_bytes) in
       let few : s.group.count ≤ 64 = r.comes.run.group.count.1 in
       let alike = kept server r.comes.server (subst (λ v. R v r.comes.server) mine r.comes.same) i i payload (omega (arith, upto, few), (omega (arith, upto, few), bytes.0)) in
       record {
-        comes = record {
-          events = Serves i ∷ r.comes.events;
-          server = (serve r.comes.server i payload).next;
-          run = one_more (ruled s r.comes.server) r.comes.server r.comes.events r.comes.run (Serves i) (tt, (above, upto, full)) (ruled (served_with s i rest a) (serve r.comes.server i payload).next) (serve r.comes.server i payload).next
-              (serves_ruled rule s n r r.comes.server i above upto payload rest is a alike.0 one) refl refl;
-          own = a.1;
-          only = ap (λ k. set_server s.servers k (Some a.1)) one ∙ ap (λ l. set_server l 1 (Some a.1)) r.comes.only;
-          same = alike.1;
+        reached = record {
+          comes = record {
+            events = Serves i ∷ r.comes.events;
+            server = (serve r.comes.server i payload).next;
+            run = one_more (ruled s r.comes.server) r.comes.server r.comes.events r.comes.run (Serves i) (tt, (above, upto, full)) (ruled (served_with s i rest a) (serve r.comes.server i payload).next) (serve r.comes.server i payload).next
+                (serves_ruled rule s n r r.comes.server i above upto payload rest is a alike.0 one) refl refl;
+            own = a.1;
+            only = ap (λ k. set_server s.servers k (Some a.1)) one ∙ ap (λ l. set_server l 1 (Some a.1)) r.comes.only;
+            same = alike.1;
+          };
+          calls = r.calls;
+          up_bytes = all-set HoldsBytes s.up _ rest r.up_bytes bytes.1;
         };
-        calls = r.calls;
-        up_bytes = all-set HoldsBytes s.up _ rest r.up_bytes bytes.1;
+        events = refl;
       }
+
+  served-next : (rule : Serving V) → IsKept rule R → (s : SceneOf V) (n : ℕ) (r : IsHonestlyReached R s n) (i : ℕ) → 0 < i → i ≤ s.group.count → (queue : Queue) → queue_of s.up i ≡ queue → (queue ≡ [] → ⊥)
+      → (server : Option V) → server_at s.servers (server_of s.served_by i) ≡ server → IsBehind s n r (Serves i ∷ []) (served rule s i queue server) n
+  served-next rule kept s n r i above upto [] is full server there = absurd (full refl)
+  served-next rule kept s n r i above upto (payload ∷ rest) is full None there = let none : Some r.comes.own ≡ None = sym (own_there s n r i above upto) ∙ there in absurd cc
+  served-next rule kept s n r i above upto (payload ∷ rest) is full (Some server) there = served-one rule kept s n r i above upto payload rest is server there
+
+  serves-next : (rule : Serving V) → IsKept rule R → (s : SceneOf V) (n : ℕ) (r : IsHonestlyReached R s n) (i : ℕ) → 0 < i → i ≤ s.group.count → (queue_of s.up i ≡ [] → ⊥) → IsBehind s n r (Serves i ∷ []) (serves rule s i) n
+  unfolding serves
+  serves-next rule kept s n r i above upto full = served-next rule kept s n r i above upto (queue_of s.up i) refl full (server_at s.servers (server_of s.served_by i)) refl
+
+  -- it also leaves such a scene where none waits
+  honest-served : (rule : Serving V) → IsKept rule R → (s : SceneOf V) (n : ℕ) → IsHonestlyReached R s n → (i : ℕ) → 0 < i → i ≤ s.group.count → (queue : Queue) → queue_of s.up i ≡ queue
+      → (server : Option V) → server_at s.servers (server_of s.served_by i) ≡ server → IsHonestlyReached R (served rule s i queue server) n
+  honest-served rule kept s n r i above upto [] is server there = r
+  honest-served rule kept s n r i above upto (payload ∷ rest) is None there = r
+  honest-served rule kept s n r i above upto (payload ∷ rest) is (Some server) there = (served-one rule kept s n r i above upto payload rest is server there).reached
 
   honest-serves : (rule : Serving V) → IsKept rule R → (s : SceneOf V) (n : ℕ) → IsHonestlyReached R s n → (i : ℕ) → 0 < i → i ≤ s.group.count → IsHonestlyReached R (serves rule s i) n
   unfolding serves
@@ -149,10 +184,10 @@ module _ {V : Type 0} (R : V → Server → Type 0) where
   unfolding takes steps
   takes_ruled s v i payload rest waits = ap (taken unchanged (ruled s v) i) waits
 
-  honest-taken : (s : SceneOf V) (n : ℕ) → IsHonestlyReached R s n → (i : ℕ) → 0 < i → i ≤ s.group.count → (queue : Queue) → queue_of s.down i ≡ queue → IsHonestlyReached R (taken unchanged s i queue) n
+  taken-next : (s : SceneOf V) (n : ℕ) (r : IsHonestlyReached R s n) (i : ℕ) → 0 < i → i ≤ s.group.count → (queue : Queue) → queue_of s.down i ≡ queue → (queue ≡ [] → ⊥) → IsBehind s n r (Takes i ∷ []) (taken unchanged s i queue) n
   unfolding steps
-  honest-taken s n r i above upto [] is = r
-  honest-taken s n r i above upto (payload ∷ rest) is =
+  taken-next s n r i above upto [] is some = absurd (some refl)
+  taken-next s n r i above upto (payload ∷ rest) is some =
       let g : Group = s.group in
       let full : queue_of s.down i ≡ [] → ⊥ = λ e. let none = sym is ∙ e in absurd cc in
       let next : Scene = ruled (taken unchanged s i (payload ∷ rest)) r.comes.server in
@@ -160,38 +195,50 @@ module _ {V : Type 0} (R : V → Server → Type 0) where
       one_more (ruled s r.comes.server) r.comes.server r.comes.events r.comes.run (Takes i) (tt, (above, upto, full)) next r.comes.server (takes_ruled s r.comes.server i payload rest is) refl refl in
       let lawful : IsLawful g (step_by g i (input.Payload payload) s.history ∷ s.history) = all_lawful next r.comes.server (Takes i ∷ r.comes.events) run in
       record {
-        comes = record {
-          events = Takes i ∷ r.comes.events;
-          server = r.comes.server;
-          run = run;
-          own = r.comes.own;
-          only = r.comes.only;
-          same = r.comes.same;
+        reached = record {
+          comes = record {
+            events = Takes i ∷ r.comes.events;
+            server = r.comes.server;
+            run = run;
+            own = r.comes.own;
+            only = r.comes.only;
+            same = r.comes.same;
+          };
+          calls = λ j. omega (arith, r.calls j, calls-payload g s.history (step_by g i (input.Payload payload) s.history) payload refl j);
+          up_bytes = sent_joins s r.up_bytes i (input.Payload payload) lawful;
         };
-        calls = λ j. omega (arith, r.calls j, calls-payload g s.history (step_by g i (input.Payload payload) s.history) payload refl j);
-        up_bytes = sent_joins s r.up_bytes i (input.Payload payload) lawful;
+        events = refl;
       }
 
-  honest-takes : (s : SceneOf V) (n : ℕ) → IsHonestlyReached R s n → (i : ℕ) → 0 < i → i ≤ s.group.count → IsHonestlyReached R (takes unchanged s i) n
+  takes-next : (s : SceneOf V) (n : ℕ) (r : IsHonestlyReached R s n) (i : ℕ) → 0 < i → i ≤ s.group.count → (queue_of s.down i ≡ [] → ⊥) → IsBehind s n r (Takes i ∷ []) (takes unchanged s i) n
   unfolding takes
-  honest-takes s n r i above upto = honest-taken s n r i above upto (queue_of s.down i) refl
+  takes-next s n r i above upto full = taken-next s n r i above upto (queue_of s.down i) refl full
 
   -- ---- events
 
   -- an honest event that may happen leads on to such a scene
-  honest-happens : (rule : Serving V) → IsKept rule R → (s : SceneOf V) (n : ℕ) (m : Event) → IsHonestlyReached R s n → MayHappen s m → IsHonestEvent m → IsHonestlyReached R (happens rule s m) (n + asked m)
-  honest-happens rule kept s n (Asks i given) r may honest = honest-asked s n r i may.0 may.1 given may.2
-  honest-happens rule kept s n (Serves i) r may honest = honest-more _ n (n + 0) (omega arith) (honest-serves rule kept s n r i may.0 may.1)
-  honest-happens rule kept s n (Takes i) r may honest = honest-more _ n (n + 0) (omega arith) (honest-takes s n r i may.0 may.1)
-  honest-happens rule kept s n (Flips i k) r may honest = absurd honest
-  honest-happens rule kept s n (Hears i payload) r may honest = absurd honest
-  honest-happens rule kept s n (Resends i) r may honest = absurd honest
-  honest-happens rule kept s n (Copies k t) r may honest = absurd honest
-  honest-happens rule kept s n (Joins i k) r may honest = absurd honest
+  honest-next : (rule : Serving V) → IsKept rule R → (s : SceneOf V) (n : ℕ) (m : Event) (r : IsHonestlyReached R s n) → MayHappen s m → IsHonestEvent m → IsBehind s n r (m ∷ []) (happens rule s m) (n + asked m)
+  honest-next rule kept s n (Asks i given) r may honest = honest-asked s n r i may.0 may.1 given may.2
+  honest-next rule kept s n (Serves i) r may honest = behind-more s n r (Serves i ∷ []) (serves rule s i) n (n + 0) (omega arith) (serves-next rule kept s n r i may.0 may.1 may.2)
+  honest-next rule kept s n (Takes i) r may honest = behind-more s n r (Takes i ∷ []) (takes unchanged s i) n (n + 0) (omega arith) (takes-next s n r i may.0 may.1 may.2)
+  honest-next rule kept s n (Flips i k) r may honest = absurd honest
+  honest-next rule kept s n (Hears i payload) r may honest = absurd honest
+  honest-next rule kept s n (Resends i) r may honest = absurd honest
+  honest-next rule kept s n (Copies k t) r may honest = absurd honest
+  honest-next rule kept s n (Joins i k) r may honest = absurd honest
 
-  pub honest-after : (rule : Serving V) → IsKept rule R → (s : SceneOf V) (n : ℕ) (events : List Event) → IsHonestlyReached R s n → MayAllHappen rule s events → AllByRecursion IsHonestEvent events
-      → IsHonestlyReached R (after_events rule s events) (n + asks events)
-  honest-after rule kept s n events r may honest = kept-after rule (IsHonestlyReached R) IsHonestEvent (honest-happens rule kept) s n events r may honest
+  -- and so do events of which each may happen after those before it
+  pub honest-behind : (rule : Serving V) → IsKept rule R → (s : SceneOf V) (n : ℕ) (events : List Event) (r : IsHonestlyReached R s n) → MayAllHappen rule s events → AllByRecursion IsHonestEvent events
+      → IsBehind s n r events (after_events rule s events) (n + asks events)
+  unfolding honest-more
+  honest-behind rule kept s n [] r may honest = record { reached = honest-more s n (n + 0) (omega arith) r; events = refl }
+  honest-behind rule kept s n (m ∷ before) r may honest =
+      let first = honest-behind rule kept s n before r may.0 honest.1 in
+      let last = honest-next rule kept (after_events rule s before) (n + asks before) m first.reached may.1 honest.0 in
+      record {
+        reached = honest-more (after_events rule s (m ∷ before)) ((n + asks before) + asked m) (n + asks (m ∷ before)) (omega arith) last.reached;
+        events = last.events ∙ ap (λ es. m ∷ es) first.events;
+      }
 
   -- each client has its queues and a server that exists
   pub honest-seated : (s : SceneOf V) (n : ℕ) → IsHonestlyReached R s n → IsSeated s
@@ -210,14 +257,18 @@ module _ {V : Type 0} (R : V → Server → Type 0) where
   honest-left rule kept s n r i above upto k =
       let events : List Event = turns rule k s i in
       let turned : IsHonestlyReached R (after_events rule s events) n =
-      honest-more _ _ n (omega (arith, turns-ask rule k s i)) (honest-after rule kept s n events r (turns-may rule k s (honest-seated s n r) i above upto) (turns-honest rule k s i)) in
+      honest-more _ _ n (omega (arith, turns-ask rule k s i)) (honest-behind rule kept s n events r (turns-may rule k s (honest-seated s n r) i above upto) (turns-honest rule k s i)).reached in
       let count : (after_events rule s events).group.count ≡ s.group.count = ap (λ g. g.count) (after-group rule s events) in
       (turned, honest-serves rule kept (after_events rule s events) n turned i above (omega (arith, upto, count)))
 
-  -- an honest line that isn't bad leads on to such a scene
+  -- an honest line that isn't bad leads on to such a scene, behind its events
+  pub honest-line_behind : (rule : Serving V) → IsKept rule R → (s : SceneOf V) (n : ℕ) (l : Line) (r : IsHonestlyReached R s n) → HasCallLeft s l → bad_kind s l ≡ None → FitsLine l → is_honest_line l ≡ true
+      → IsBehind s n r (events_of rule s l) (done_line rule s l).scene (n + 1)
+  honest-line_behind rule kept s n l r left good fits honest =
+      let lawful : IsLawful s.group s.history = all_lawful (ruled s r.comes.server) r.comes.server r.comes.events r.comes.run in
+      behind-more s n r (events_of rule s l) _ _ (n + 1) (omega (arith, line-asks rule s l))
+      (honest-behind rule kept s n (events_of rule s l) r (line-may rule s l (honest-seated s n r) lawful left good fits) (line-honest rule s l honest))
+
   pub honest-line : (rule : Serving V) → IsKept rule R → (s : SceneOf V) (n : ℕ) (l : Line) → IsHonestlyReached R s n → HasCallLeft s l → bad_kind s l ≡ None → FitsLine l → is_honest_line l ≡ true
       → IsHonestlyReached R (done_line rule s l).scene (n + 1)
-  honest-line rule kept s n l r left good fits honest =
-      let lawful : IsLawful s.group s.history = all_lawful (ruled s r.comes.server) r.comes.server r.comes.events r.comes.run in
-      honest-more _ _ (n + 1) (omega (arith, line-asks rule s l))
-      (honest-after rule kept s n (events_of rule s l) r (line-may rule s l (honest-seated s n r) lawful left good fits) (line-honest rule s l honest))
+  honest-line rule kept s n l r left good fits honest = (honest-line_behind rule kept s n l r left good fits honest).reached

@@ -87,35 +87,47 @@ applied-proper d (Some o) (Some false) proper h = proper
 
 -- ---- answers
 
-abbrev SpeaksBytes : ToClient → Type 0
-SpeaksBytes m = AreBytes (answer_text m)
+-- what it says is bytes, part by part
+abbrev pub SpeaksBytes : ToClient → Type 0
+SpeaksBytes say.Hi = Unit {0}
+SpeaksBytes (say.Reply x ts part) = SealHolds x × (AllByRecursion TaggedBytes ts × AreBytes part)
+SpeaksBytes say.Wait = Unit {0}
+SpeaksBytes (say.Update x part) = SealHolds x × AreBytes part
+SpeaksBytes (say.Entries x ts) = SealHolds x × AllByRecursion TaggedBytes ts
+SpeaksBytes (say.Refused r) = r < 256
+SpeaksBytes say.Kept = Unit {0}
+SpeaksBytes (say.Content content) = AreBytes content
+SpeaksBytes say.Gone = Unit {0}
+SpeaksBytes say.Absent = Unit {0}
 
 -- an answer of one byte
 bare-bytes : (kind : ℕ) → kind < 256 → AreBytes (kind ∷ [])
 bare-bytes kind lt = bytes-cons kind [] lt bytes-nil
 
-refused-bytes : (r : ℕ) → r < 256 → SpeaksBytes (say.Refused r)
-refused-bytes r lt = bytes-cons 0x46 (r ∷ []) (omega arith) (bare-bytes r lt)
+sealed-bytes : (kind : ℕ) → kind < 256 → (x : Seal) → SealHolds x → AreBytes (kind ∷ seal_field x)
+sealed-bytes kind lt x h = bytes-cons kind (seal_field x) lt (seal_bytes x h.root h.tag)
 
-update-bytes : (x : Seal) (part : List ℕ) → SealHolds x → AreBytes part → SpeaksBytes (say.Update x part)
-update-bytes x part h bytes = bytes-append (0x44 ∷ seal_field x) part (bytes-cons 0x44 (seal_field x) (omega arith) (seal_bytes x h.root h.tag)) bytes
-
-entries-bytes : (x : Seal) (ts : List Tagged) → SealHolds x → AllByRecursion TaggedBytes ts → SpeaksBytes (say.Entries x ts)
-entries-bytes x ts h all = bytes-append (0x45 ∷ seal_field x) (entries_field ts) (bytes-cons 0x45 (seal_field x) (omega arith) (seal_bytes x h.root h.tag)) (entries_bytes ts all)
-
-reply-bytes : (x : Seal) (ts : List Tagged) (part : List ℕ) → SealHolds x → AllByRecursion TaggedBytes ts → AreBytes part → SpeaksBytes (say.Reply x ts part)
-reply-bytes x ts part h all bytes =
-    bytes-append (0x42 ∷ seal_field x ++ entries_field ts) part
-    (bytes-append (0x42 ∷ seal_field x) (entries_field ts) (bytes-cons 0x42 (seal_field x) (omega arith) (seal_bytes x h.root h.tag)) (entries_bytes ts all))
-    bytes
+-- so it is bytes as a whole
+pub spoken-bytes : (m : ToClient) → SpeaksBytes m → AreBytes (answer_text m)
+spoken-bytes say.Hi h = bare-bytes 0x41 (omega arith)
+spoken-bytes (say.Reply x ts part) h =
+    bytes-append (0x42 ∷ seal_field x ++ entries_field ts) part (bytes-append (0x42 ∷ seal_field x) (entries_field ts) (sealed-bytes 0x42 (omega arith) x h.0) (entries_bytes ts h.1.0)) h.1.1
+spoken-bytes say.Wait h = bare-bytes 0x43 (omega arith)
+spoken-bytes (say.Update x part) h = bytes-append (0x44 ∷ seal_field x) part (sealed-bytes 0x44 (omega arith) x h.0) h.1
+spoken-bytes (say.Entries x ts) h = bytes-append (0x45 ∷ seal_field x) (entries_field ts) (sealed-bytes 0x45 (omega arith) x h.0) (entries_bytes ts h.1)
+spoken-bytes (say.Refused r) h = bytes-cons 0x46 (r ∷ []) (omega arith) (bare-bytes r h)
+spoken-bytes say.Kept h = bare-bytes 0x47 (omega arith)
+spoken-bytes (say.Content content) h = bytes-cons 0x48 content (omega arith) h
+spoken-bytes say.Gone h = bare-bytes 0x49 (omega arith)
+spoken-bytes say.Absent h = bare-bytes 0x4a (omega arith)
 
 turn_on-bytes : (s : Server) (who : ℕ) (o : Option Ordered) (status : Option Bool) → ServerHolds s → SpeaksBytes (turn_on s who o status)
-turn_on-bytes s who None status h = bare-bytes 0x43 (omega arith)
-turn_on-bytes s who (Some o) None h = bare-bytes 0x43 (omega arith)
+turn_on-bytes s who None status h = tt
+turn_on-bytes s who (Some o) None h = tt
 turn_on-bytes s who (Some o) (Some done) h =
     elim (nat_eq o.entry.client who) as (λ b. SpeaksBytes (if b then say.Update (top_seal s) (update_part s.dictionary o.entry.op done) else say.Wait)) [
-      | true ↦ update-bytes (top_seal s) (update_part s.dictionary o.entry.op done) (seal-holds s (sealed_count s) h) (sent_update s.dictionary h.dictionary o.entry.op done).1.are_bytes
-      | false ↦ bare-bytes 0x43 (omega arith)
+      | true ↦ (seal-holds s (sealed_count s) h, (sent_update s.dictionary h.dictionary o.entry.op done).1.are_bytes)
+      | false ↦ tt
     ]
 
 turn-bytes : (s : Server) (who : ℕ) → ServerHolds s → SpeaksBytes (turn s who)
@@ -125,8 +137,8 @@ content-bytes : (contents : List (List ℕ)) (h : List ℕ) → AllByRecursion A
 content-bytes contents h all = of_found (find (λ c. bytes_eq (hash (content_text c)) h) contents) (found-holds AreBytes (λ c. bytes_eq (hash (content_text c)) h) contents all)
   where
     of_found : (o : Option (List ℕ)) → IfThere AreBytes o → SpeaksBytes (elim o [ Some c ↦ say.Content c | None ↦ say.Absent ])
-    of_found (Some c) bytes = bytes-cons 0x48 c (omega arith) bytes
-    of_found None bytes = bare-bytes 0x4a (omega arith)
+    of_found (Some c) bytes = bytes
+    of_found None bytes = tt
 
 -- ---- requests
 
@@ -152,7 +164,7 @@ guards s (c ∷ tests) a h reasons keeps =
     let p = and_parts (nat_lt c.0 256) (are_reasons tests) reasons in
     elim (c.1) as (λ b. KeepsBytes (unless_refused s (if b then first_failing tests else Some c.0) a)) [
       | true ↦ guards s tests a h p.1 keeps
-      | false ↦ says-keeps s (say.Refused c.0) h (refused-bytes c.0 (ltb-true c.0 256 p.0))
+      | false ↦ says-keeps s (say.Refused c.0) h (ltb-true c.0 256 p.0)
     ]
 
 -- of two answers that keep bytes each does
@@ -172,7 +184,7 @@ module _ (s : Server) (who : ℕ) (h : ServerHolds s) where
   hello-keeps : (kind : Mode) (client : ℕ) → KeepsBytes (on_hello s who kind client)
   hello-keeps kind client =
       let tests : List (ℕ × Bool) = (5, nat_eq who 0) ∷ (6, nat_lt 0 client && (nat_le client (length s.members) && (same_mode kind s.mode && is_away (member s client).stage))) ∷ [] in
-      guards s tests _ h refl (becomes-keeps (set_stage s client stage.Ready) say.Hi (staged client stage.Ready) (bare-bytes 0x41 (omega arith)))
+      guards s tests _ h refl (becomes-keeps (set_stage s client stage.Ready) say.Hi (staged client stage.Ready) tt)
 
   invoke-keeps : (known seq : ℕ) (o : Op) (tag : Digest32) → 0 < who → who ≤ 64 → IsRead (ask.Invoke known seq o tag) → KeepsBytes (on_request s who (ask.Invoke known seq o tag))
   invoke-keeps known seq o tag above upto is =
@@ -190,7 +202,7 @@ module _ (s : Server) (who : ℕ) (h : ServerHolds s) where
       ∷ (3, not (is_put o) || nat_le (weight s + op_weight o) 8388608)
       ∷ (1, nat_le ((size s + 1) - known) 8192) ∷ [] in
       guards s tests _ h refl (becomes-keeps after (say.Reply (top_seal s) ts (part_for s.dictionary o)) holds
-      (reply-bytes (top_seal s) ts (part_for s.dictionary o) (seal-holds s (sealed_count s) h) (above-holds known after.log holds.log) (sent_for s.dictionary h.dictionary o).are_bytes))
+      (seal-holds s (sealed_count s) h, (above-holds known after.log holds.log, (sent_for s.dictionary h.dictionary o).are_bytes)))
 
   commit-keeps : (position : ℕ) (done : Bool) (tag : Digest32) → KeepsBytes (on_request s who (ask.Commit position done tag))
   commit-keeps position done tag =
@@ -219,30 +231,29 @@ module _ (s : Server) (who : ℕ) (h : ServerHolds s) where
       let x : Seal = seal_at_position s (min (sealed_count s) e) in
       let ts : List Tagged = entries_above known (front e s.log) in
       guards s ((5, is_ready (member s who).stage && nat_le known (size s)) ∷ []) _ h refl (says-keeps s (say.Entries x ts) h
-      (entries-bytes x ts (seal-holds s (min (sealed_count s) e) h) (above-holds known (front e s.log) (all-drop OrderedHolds (length s.log - e) s.log h.log))))
+      (seal-holds s (min (sealed_count s) e) h, above-holds known (front e s.log) (all-drop OrderedHolds (length s.log - e) s.log h.log)))
 
   keep-keeps : (content : List ℕ) → IsRead (ask.Keep content) → KeepsBytes (on_request s who (ask.Keep content))
   keep-keeps content is =
       let after : Server = record s { contents = content ∷ s.contents } in
       let holds : ServerHolds after = record { log = h.log; seals = h.seals; dictionary = h.dictionary; contents = (is.1, h.contents) } in
-      let bytes : SpeaksBytes say.Kept = bare-bytes 0x47 (omega arith) in
       let room : List (ℕ × Bool) = (7, not (nat_le 1048576 (length s.contents)) && nat_le (sum_by length s.contents + length content) 1073741824) ∷ [] in
       let joins : Answered = becomes after say.Kept in
       guards s ((5, is_ready (member s who).stage && same_mode s.mode mode.Objects) ∷ []) _ h refl
-      (kept (is_kept s.contents (hash (content_text content))) (says s say.Kept) (guarded s room joins) (says-keeps s say.Kept h bytes) (guards s room joins h refl (becomes-keeps after say.Kept holds bytes)))
+      (kept (is_kept s.contents (hash (content_text content))) (says s say.Kept) (guarded s room joins) (says-keeps s say.Kept h tt) (guards s room joins h refl (becomes-keeps after say.Kept holds tt)))
 
   fetch-keeps : (asked : Digest32) → KeepsBytes (on_request s who (ask.Fetch asked))
   fetch-keeps asked = guards s ((5, is_ready (member s who).stage && same_mode s.mode mode.Objects) ∷ []) _ h refl (says-keeps s (content_with s.contents asked.bytes) h (content-bytes s.contents asked.bytes h.contents))
 
   bye-keeps : KeepsBytes (on_request s who ask.Bye)
-  bye-keeps = guards s ((5, is_ready (member s who).stage) ∷ []) _ h refl (becomes-keeps (set_stage s who stage.Left) say.Gone (staged who stage.Left) (bare-bytes 0x49 (omega arith)))
+  bye-keeps = guards s ((5, is_ready (member s who).stage) ∷ []) _ h refl (becomes-keeps (set_stage s who stage.Left) say.Gone (staged who stage.Left) tt)
 
   -- every other request is refused where it isn't a member's
   member-keeps : (m : ToServer) → KeepsBytes (on_request s who m) → KeepsBytes (guarded s ((6, is_member s who) ∷ []) (on_request s who m))
   member-keeps m keeps = guards s ((6, is_member s who) ∷ []) (on_request s who m) h refl keeps
 
   read-keeps : (r : Option ToServer) → 0 < who → who ≤ 64 → IfThere IsRead r → KeepsBytes (serve_read s who r)
-  read-keeps None above upto is = says-keeps s (say.Refused 5) h (refused-bytes 5 (omega arith))
+  read-keeps None above upto is = says-keeps s (say.Refused 5) h (omega arith)
   read-keeps (Some (ask.Hello kind client)) above upto is = hello-keeps kind client
   read-keeps (Some (ask.Invoke known seq o tag)) above upto is = member-keeps (ask.Invoke known seq o tag) (invoke-keeps known seq o tag above upto is)
   read-keeps (Some (ask.Commit position done tag)) above upto is = member-keeps (ask.Commit position done tag) (commit-keeps position done tag)
@@ -259,7 +270,7 @@ reads payload None bytes e = tt
 reads payload (Some m) bytes e = (request_fits payload m bytes e, request_holds_bytes payload m bytes e)
 
 -- a server that keeps bytes and is asked in bytes answers in bytes, and keeps bytes
-pub holds-serve : (s : Server) (who : ℕ) (payload : List ℕ) → ServerHolds s → 0 < who → who ≤ 64 → AreBytes payload → ServerHolds (serve s who payload).next × AreBytes (answer_text (serve s who payload).answer)
+pub holds-serve : (s : Server) (who : ℕ) (payload : List ℕ) → ServerHolds s → 0 < who → who ≤ 64 → AreBytes payload → ServerHolds (serve s who payload).next × SpeaksBytes (serve s who payload).answer
 unfolding serve
 holds-serve s who payload h above upto bytes =
     let keeps : KeepsBytes (serve_read s who (read_request payload)) = read-keeps s who h (read_request payload) above upto (reads payload (read_request payload) bytes refl) in

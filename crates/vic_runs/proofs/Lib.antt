@@ -9,6 +9,7 @@ pub mod Seats
 pub mod Events
 pub mod Counting
 pub mod Keeping
+pub mod Attacks
 pub mod Sent
 pub mod Lines
 pub mod Reached

@@ -6,12 +6,13 @@ use Rattle.std.proofs.lemmas.List.{append-nil, append_assoc, flat_map_more, reve
 use Rattle.vic_rules.specs.declared.trace.Input.{Input}
 use Rattle.vic_rules.specs.declared.trace.Input.TheVariants as input
 use Rattle.vic_rules.specs.declared.trace.TraceStep.{TraceStep}
-use Rattle.vic_order.specs.Serving.{Serving, by_rule}
+use Rattle.vic_order.specs.Serving.{Serving}
+use Rattle.vic_attacks.specs.Hostile.{Hostile, by_kind}
 use Rattle.vic_script.specs.declared.line.Line.{Line}
 use Rattle.vic_script.specs.Lines.{lines_of, line_of}
-use Rattle.vic_order.specs.Scenes.{Queue, SceneOf, Scene, opening, queue_of, set_queue, server_at, server_of, steps, served, serves, taken, takes, unchanged, flipped, Event, Asks, Serves, Takes, Flips, Hears, Resends, Copies, Joins, happens, after_events, MayAsk, MayHappen, MayAllHappen}
-use Rattle.vic_script.specs.Scenes.{returned_in, object_in, said, print_of_event, print_of_events, Shown, events_of, done_line, bad_kind}
-use Rattle.vic_script.specs.Run.{limit, group_by, Place, Before, Heads, Stands, scene_in, Played, Tried, Fails, Does, tried_by, try_event, try_line, mode_in, history_in}
+use Rattle.vic_order.specs.Scenes.{Queue, SceneOf, queue_of, set_queue, server_at, server_of, steps, served, serves, taken, takes, unchanged, flipped, Event, Asks, Serves, Takes, Flips, Hears, Resends, Copies, Joins, happens, after_events, MayAsk, MayHappen, MayAllHappen}
+use Rattle.vic_script.specs.Scenes.{returned_in, object_in, said, print_of_event, print_of_events, ShownOf, events_of, done_line, bad_kind}
+use Rattle.vic_script.specs.Run.{limit, opening_by, Place, Before, Heads, Stands, scene_in, Played, Tried, Fails, Does, tried_by, try_event, try_line, mode_in, history_in}
 use Rattle.vic_runs.specs.Claims.{FitsLine, line_of_step, PrintsAreReturns}
 use Rattle.vic_runs.specs.Reached.{IsReached}
 use Rattle.vic_runs.proofs.Lists.{all_each}
@@ -91,25 +92,26 @@ module _ {V : Type 0} (rule : Serving V) where
 -- ---- a line that was tried
 
 -- what a line that was tried in a scene leads on to
-abbrev TriedTells : Option Scene → Tried → Type 0
+abbrev TriedTells : Option (SceneOf Hostile) → Tried → Type 0
 TriedTells scene (Fails k) = Unit {0}
 TriedTells scene (Does next text) = told (history_in (scene_in next)) ≡ told (history_in scene) ++ text
 
-tells-by : (s : Scene) (bad : Option ℕ) (shown : Shown) → (bad ≡ None → told shown.scene.history ≡ told s.history ++ shown.text) → TriedTells (Some s) (tried_by bad shown)
+tells-by : (s : SceneOf Hostile) (bad : Option ℕ) (shown : ShownOf Hostile) → (bad ≡ None → told shown.scene.history ≡ told s.history ++ shown.text) → TriedTells (Some s) (tried_by bad shown)
 tells-by s None shown h = h refl
 tells-by s (Some k) shown h = tt
 
-tells-event : (s : Scene) (l : Line) (n : ℕ) → IsReached s n → n + 1 < 2 ^ 32 → FitsLine l → TriedTells (Some s) (try_event s l)
+tells-event : (s : SceneOf Hostile) (l : Line) (n : ℕ) → IsReached s n → n + 1 < 2 ^ 32 → FitsLine l → TriedTells (Some s) (try_event s l)
 tells-event s l n h few fits =
-    tells-by s (bad_kind s l) (done_line by_rule s l) (λ good.
-    told-after by_rule s (events_of by_rule s l) (line-may by_rule s l (reached-seated s n h) h.lawful (few_calls s n h.calls few l) good fits))
+    tells-by s (bad_kind s l) (done_line by_kind s l) (λ good.
+    told-after by_kind s (events_of by_kind s l) (line-may by_kind s l (reached-seated s n h) h.lawful (few_calls s n h.calls few l) good fits))
 
 tells : (place : Place) (l : Option Line) (n : ℕ) → ReachedIn (scene_in place) n → n + 1 < 2 ^ 32 → FitsIn l → TriedTells (scene_in place) (try_line place l)
 tells Before None n r few fits = tt
 tells Before (Some l) n r few fits = first_so (λ (x : Line) (t : Tried). TriedTells None t) (λ count. refl) (λ count. refl) refl (λ x. tt) l
 tells (Heads h) None n r few fits = tt
 tells (Heads h) (Some l) n r few fits =
-    header_so (λ (x : Line) (t : Tried). FitsLine x → TriedTells (Some (opening (group_by h))) t) h (λ digits is. refl) (λ digits is. tt) (λ is. refl) (λ x is. tells-event (opening (group_by h)) x n r few is) l fits
+    header_so (λ (x : Line) (t : Tried). FitsLine x → TriedTells (Some (opening_by h)) t) h (λ digits is. refl) (λ digits is. tt) (λ name k only is. refl) (λ name k is. tt) (λ is. refl)
+    (λ x is. tells-event (opening_by h) x n r few is) l fits
 tells (Stands s) None n r few fits = tt
 tells (Stands s) (Some l) n r few fits = tells-event s l n r few fits
 
@@ -119,7 +121,7 @@ tells (Stands s) (Some l) n r few fits = tells-event s l n r few fits
 abbrev PlayedTells : Place → Played → Type 0
 PlayedTells place p = told (history_in p.scene) ≡ told (history_in (scene_in place)) ++ p.text
 
-nothing_told : (scene : Option Scene) → told (history_in scene) ≡ told (history_in scene) ++ []
+nothing_told : (scene : Option (SceneOf Hostile)) → told (history_in scene) ≡ told (history_in scene) ++ []
 nothing_told scene = sym (append-nil (told (history_in scene)))
 
 goes : (n : ℕ) (place : Place) (t : Tried) → TriedReaches t (n + 1) → TriedTells (scene_in place) t → GoesSo AnyText StandsReached PlayedTells n place t

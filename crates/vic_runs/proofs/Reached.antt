@@ -4,19 +4,19 @@ use Rattle.std.specs.List.{AllByRecursion}
 use Rattle.std.proofs.lemmas.List.{length-set}
 use Rattle.vic_dict.specs.Lists.{AreBytes}
 use Rattle.vic_wire.specs.Hashes.{Group, IsGroup}
-use Rattle.vic_wire.specs.Messages.{answer_text}
 use Rattle.vic_rules.specs.declared.trace.Input.{Input}
 use Rattle.vic_rules.specs.declared.trace.Input.TheVariants as input
 use Rattle.vic_rules.specs.declared.trace.TraceStep.{TraceStep}
 use Rattle.vic_rules.specs.Client.{MayStep}
 use Rattle.vic_rules.specs.History.{standing, IsLawful}
-use Rattle.vic_order.specs.Order.{Server, ready, serve}
-use Rattle.vic_order.specs.Serving.{by_rule}
-use Rattle.vic_order.specs.Scenes.{Queue, Scene, opening, queue_of, set_queue, server_at, server_of, stands, steps, served, serves, taken, takes, unchanged, flipped, last_sent, resends, copies, joins, is_server, Event, Asks, Serves, Takes, Flips, Hears, Resends, Copies, Joins, happens, after_events, MayHappen, MayAllHappen}
+use Rattle.vic_order.specs.Order.{fresh_server, ready}
+use Rattle.vic_attacks.specs.Hostile.{Hostile, by_kind}
+use Rattle.vic_order.specs.Scenes.{Queue, SceneOf, queue_of, set_queue, server_at, server_of, stands, steps, served, serves, taken, takes, unchanged, flipped, last_sent, resends, copies, joins, is_server, Event, Asks, Serves, Takes, Flips, Hears, Resends, Copies, Joins, happens, after_events, MayHappen, MayAllHappen}
 use Rattle.vic_script.specs.declared.line.Line.{Line}
 use Rattle.vic_script.specs.Scenes.{events_of, done_line, bad_kind}
+use Rattle.vic_script.specs.Run.{Attack, opening_as}
 use Rattle.vic_runs.specs.Claims.{FitsLine}
-use Rattle.vic_runs.specs.Reached.{ServerHolds, IfThere, HoldsBytes, calls_in, IsReached}
+use Rattle.vic_runs.specs.Reached.{HostileHolds, IfThere, HoldsBytes, calls_in, IsReached}
 use Rattle.vic_runs.proofs.Lists.{all-set, all-replicate}
 use Rattle.vic_honest.proofs.Queues.{length-set_queue}
 use Rattle.vic_runs.proofs.Queues.{queue-bytes, joined-bytes, queued-bytes}
@@ -24,7 +24,8 @@ use Rattle.vic_runs.proofs.Servers.{there-at}
 use Rattle.vic_runs.proofs.Seats.{IsSeated, seated-opening, seated-served, seated-copies, seated-joins}
 use Rattle.vic_runs.proofs.Scenes.{step_by}
 use Rattle.vic_runs.proofs.Counting.{calls-step, calls-payload}
-use Rattle.vic_runs.proofs.Keeping.{holds-fresh, holds-serve}
+use Rattle.vic_runs.proofs.Keeping.{holds-fresh}
+use Rattle.vic_runs.proofs.Attacks.{holds-from, holds-by_kind}
 use Rattle.vic_runs.proofs.Sent.{sent-bytes, last_sent-bytes, flipped-bytes}
 use Rattle.vic_runs.proofs.Events.{asked, asks, kept-after, may-step}
 use Rattle.vic_runs.proofs.Lines.{HasCallLeft, line-may, line-asks}
@@ -32,26 +33,26 @@ use Rattle.vic_runs.proofs.Lines.{HasCallLeft, line-may, line-asks}
 -- ---- what such a scene has
 
 -- its clients step by the rules
-pub reached-lawful : (s : Scene) (n : ℕ) → IsReached s n → IsLawful s.group s.history
+pub reached-lawful : (s : SceneOf Hostile) (n : ℕ) → IsReached s n → IsLawful s.group s.history
 reached-lawful s n r = r.lawful
 
 -- each client has its queues and a server that exists
-pub reached-seated : (s : Scene) (n : ℕ) → IsReached s n → IsSeated s
+pub reached-seated : (s : SceneOf Hostile) (n : ℕ) → IsReached s n → IsSeated s
 reached-seated s n r = record { up_count = r.up_count; down_count = r.down_count; by_count = r.by_count; placed = r.placed }
 
 -- the payloads of each queue that is read are bytes
-pub reached-up_bytes : (s : Scene) (n : ℕ) → IsReached s n → (i : ℕ) → HoldsBytes (queue_of s.up i)
+pub reached-up_bytes : (s : SceneOf Hostile) (n : ℕ) → IsReached s n → (i : ℕ) → HoldsBytes (queue_of s.up i)
 reached-up_bytes s n r i = queue-bytes s.up i r.up_bytes
 
-pub reached-down_bytes : (s : Scene) (n : ℕ) → IsReached s n → (i : ℕ) → HoldsBytes (queue_of s.down i)
+pub reached-down_bytes : (s : SceneOf Hostile) (n : ℕ) → IsReached s n → (i : ℕ) → HoldsBytes (queue_of s.down i)
 reached-down_bytes s n r i = queue-bytes s.down i r.down_bytes
 
 -- each server that exists keeps bytes
-pub reached-server : (s : Scene) (n : ℕ) → IsReached s n → (k : ℕ) → IfThere ServerHolds (server_at s.servers k)
-reached-server s n r k = there-at ServerHolds s.servers k r.servers
+pub reached-server : (s : SceneOf Hostile) (n : ℕ) → IsReached s n → (k : ℕ) → IfThere HostileHolds (server_at s.servers k)
+reached-server s n r k = there-at HostileHolds s.servers k r.servers
 
 -- so few calls are at most more
-pub reached-more : (s : Scene) (n m : ℕ) → n ≤ m → IsReached s n → IsReached s m
+pub reached-more : (s : SceneOf Hostile) (n m : ℕ) → n ≤ m → IsReached s n → IsReached s m
 reached-more s n m more r = record {
   lawful = r.lawful;
   calls = λ i. omega (arith, more, r.calls i);
@@ -67,11 +68,11 @@ reached-more s n m more r = record {
 
 -- ---- the opening
 
--- any group
-pub reached-opening : (g : Group) → IsGroup g → IsReached (opening g) 0
+-- any group, whatever its server does
+pub reached-opening : (g : Group) (a : Attack) → IsGroup g → IsReached (opening_as g a) 0
 unfolding standing
-reached-opening g is =
-    let seats : IsSeated (opening g) = seated-opening g _ in
+reached-opening g a is =
+    let seats : IsSeated (opening_as g a) = seated-opening g _ in
     record {
       lawful = record { group = is; steps = tt };
       calls = λ i. omega arith;
@@ -82,16 +83,16 @@ reached-opening g is =
       by_count = seats.by_count;
       placed = seats.placed;
       servers_count = refl;
-      servers = (holds-fresh g.mode g.count ready, (tt, (tt, (tt, tt))));
+      servers = (holds-from a.kind a.after (fresh_server g.mode g.count ready) (holds-fresh g.mode g.count ready), (tt, (tt, (tt, tt))));
     }
 
 -- ---- a client steps
 
 -- the steps so far, and one that may be next
-lawful-next : (s : Scene) (n : ℕ) → IsReached s n → (i : ℕ) → 0 < i → i ≤ s.group.count → (given : Input) → MayStep s.group (stands s i) given → IsLawful s.group (step_by s.group i given s.history ∷ s.history)
+lawful-next : (s : SceneOf Hostile) (n : ℕ) → IsReached s n → (i : ℕ) → 0 < i → i ≤ s.group.count → (given : Input) → MayStep s.group (stands s i) given → IsLawful s.group (step_by s.group i given s.history ∷ s.history)
 lawful-next s n r i above upto given may = record { group = r.lawful.group; steps = (r.lawful.steps, record { member = (above, upto); may = may; sent = refl; returned = refl; object = refl }) }
 
-reached-step : (s : Scene) (n m : ℕ) → IsReached s n → (i : ℕ) → 0 < i → i ≤ s.group.count → (given : Input) → MayStep s.group (stands s i) given
+reached-step : (s : SceneOf Hostile) (n m : ℕ) → IsReached s n → (i : ℕ) → 0 < i → i ≤ s.group.count → (given : Input) → MayStep s.group (stands s i) given
     → ((j : ℕ) → calls_in (standing s.group j (step_by s.group i given s.history ∷ s.history)) ≤ m) → IsReached (steps s i given) m
 unfolding steps
 reached-step s n m r i above upto given may calls =
@@ -111,13 +112,13 @@ reached-step s n m r i above upto given may calls =
     }
 
 -- it may have been called once more then
-pub reached-steps : (s : Scene) (n : ℕ) → IsReached s n → (i : ℕ) → 0 < i → i ≤ s.group.count → (given : Input) → MayStep s.group (stands s i) given → IsReached (steps s i given) (n + 1)
+pub reached-steps : (s : SceneOf Hostile) (n : ℕ) → IsReached s n → (i : ℕ) → 0 < i → i ≤ s.group.count → (given : Input) → MayStep s.group (stands s i) given → IsReached (steps s i given) (n + 1)
 reached-steps s n r i above upto given may =
     let x : TraceStep = step_by s.group i given s.history in
     reached-step s n (n + 1) r i above upto given may (λ j. omega (arith, r.calls j, calls-step s.group s.history x j))
 
 -- a payload calls nothing
-pub reached-payload : (s : Scene) (n : ℕ) → IsReached s n → (i : ℕ) → 0 < i → i ≤ s.group.count → (payload : List ℕ) → AreBytes payload → IsReached (steps s i (input.Payload payload)) n
+pub reached-payload : (s : SceneOf Hostile) (n : ℕ) → IsReached s n → (i : ℕ) → 0 < i → i ≤ s.group.count → (payload : List ℕ) → AreBytes payload → IsReached (steps s i (input.Payload payload)) n
 reached-payload s n r i above upto payload bytes =
     let given : Input = input.Payload payload in
     let x : TraceStep = step_by s.group i given s.history in
@@ -125,27 +126,27 @@ reached-payload s n r i above upto payload bytes =
 
 -- ---- a server serves
 
-reached-served : (s : Scene) (n : ℕ) → IsReached s n → (i : ℕ) → 0 < i → i ≤ s.group.count → (queue : Queue) → HoldsBytes queue → (server : Option Server) → IfThere ServerHolds server
-    → IsReached (served by_rule s i queue server) n
+reached-served : (s : SceneOf Hostile) (n : ℕ) → IsReached s n → (i : ℕ) → 0 < i → i ≤ s.group.count → (queue : Queue) → HoldsBytes queue → (server : Option Hostile) → IfThere HostileHolds server
+    → IsReached (served by_kind s i queue server) n
 reached-served s n r i above upto [] bytes server holds = r
 reached-served s n r i above upto (payload ∷ rest) bytes None holds = r
 reached-served s n r i above upto (payload ∷ rest) bytes (Some server) holds =
-    let kept : ServerHolds (serve server i payload).next × AreBytes (answer_text (serve server i payload).answer) = holds-serve server i payload holds above (omega (arith, upto, r.lawful.group.count.1)) bytes.0 in
-    let seats : IsSeated (served by_rule s i (payload ∷ rest) (Some server)) = seated-served by_rule s (reached-seated s n r) i (payload ∷ rest) (Some server) in
+    let kept : HostileHolds (by_kind server i i payload).1 × AreBytes (by_kind server i i payload).0 = holds-by_kind i payload above (omega (arith, upto, r.lawful.group.count.1)) bytes.0 server i holds in
+    let seats : IsSeated (served by_kind s i (payload ∷ rest) (Some server)) = seated-served by_kind s (reached-seated s n r) i (payload ∷ rest) (Some server) in
     record {
       lawful = r.lawful;
       calls = r.calls;
       up_count = seats.up_count;
       down_count = seats.down_count;
       up_bytes = all-set HoldsBytes s.up _ rest r.up_bytes bytes.1;
-      down_bytes = all-set HoldsBytes s.down _ _ r.down_bytes (joined-bytes (queue_of s.down i) (answer_text (serve server i payload).answer) (reached-down_bytes s n r i) kept.1);
+      down_bytes = all-set HoldsBytes s.down _ _ r.down_bytes (joined-bytes (queue_of s.down i) (by_kind server i i payload).0 (reached-down_bytes s n r i) kept.1);
       by_count = seats.by_count;
       placed = seats.placed;
       servers_count = length-set s.servers _ _ ∙ r.servers_count;
-      servers = all-set (IfThere ServerHolds) s.servers _ (Some (serve server i payload).next) r.servers kept.0;
+      servers = all-set (IfThere HostileHolds) s.servers _ (Some (by_kind server i i payload).1) r.servers kept.0;
     }
 
-pub reached-serves : (s : Scene) (n : ℕ) → IsReached s n → (i : ℕ) → 0 < i → i ≤ s.group.count → IsReached (serves by_rule s i) n
+pub reached-serves : (s : SceneOf Hostile) (n : ℕ) → IsReached s n → (i : ℕ) → 0 < i → i ≤ s.group.count → IsReached (serves by_kind s i) n
 unfolding serves
 reached-serves s n r i above upto =
     reached-served s n r i above upto (queue_of s.up i) (reached-up_bytes s n r i) (server_at s.servers (server_of s.served_by i)) (reached-server s n r (server_of s.served_by i))
@@ -156,7 +157,7 @@ reached-serves s n r i above upto =
 abbrev pub KeepsBytes : (List ℕ → List ℕ) → Type 0
 KeepsBytes change = (payload : List ℕ) → AreBytes payload → AreBytes (change payload)
 
-reached-fewer : (s : Scene) (n : ℕ) → IsReached s n → (i : ℕ) (rest : Queue) → HoldsBytes rest → IsReached (record s { down = set_queue s.down i rest }) n
+reached-fewer : (s : SceneOf Hostile) (n : ℕ) → IsReached s n → (i : ℕ) (rest : Queue) → HoldsBytes rest → IsReached (record s { down = set_queue s.down i rest }) n
 reached-fewer s n r i rest bytes = record {
   lawful = r.lawful;
   calls = r.calls;
@@ -170,18 +171,18 @@ reached-fewer s n r i rest bytes = record {
   servers = r.servers;
 }
 
-reached-taken : (change : List ℕ → List ℕ) → KeepsBytes change → (s : Scene) (n : ℕ) → IsReached s n → (i : ℕ) → 0 < i → i ≤ s.group.count → (queue : Queue) → HoldsBytes queue → IsReached (taken change s i queue) n
+reached-taken : (change : List ℕ → List ℕ) → KeepsBytes change → (s : SceneOf Hostile) (n : ℕ) → IsReached s n → (i : ℕ) → 0 < i → i ≤ s.group.count → (queue : Queue) → HoldsBytes queue → IsReached (taken change s i queue) n
 reached-taken change keeps s n r i above upto [] bytes = r
 reached-taken change keeps s n r i above upto (payload ∷ rest) bytes =
     reached-payload (record s { down = set_queue s.down i rest }) n (reached-fewer s n r i rest bytes.1) i above upto (change payload) (keeps payload bytes.0)
 
-pub reached-takes : (change : List ℕ → List ℕ) → KeepsBytes change → (s : Scene) (n : ℕ) → IsReached s n → (i : ℕ) → 0 < i → i ≤ s.group.count → IsReached (takes change s i) n
+pub reached-takes : (change : List ℕ → List ℕ) → KeepsBytes change → (s : SceneOf Hostile) (n : ℕ) → IsReached s n → (i : ℕ) → 0 < i → i ≤ s.group.count → IsReached (takes change s i) n
 unfolding takes
 reached-takes change keeps s n r i above upto = reached-taken change keeps s n r i above upto (queue_of s.down i) (reached-down_bytes s n r i)
 
 -- ---- what it sent joins its requests again
 
-pub reached-resends : (s : Scene) (n : ℕ) → IsReached s n → (i : ℕ) → IsReached (resends s i) n
+pub reached-resends : (s : SceneOf Hostile) (n : ℕ) → IsReached s n → (i : ℕ) → IsReached (resends s i) n
 reached-resends s n r i = record {
   lawful = r.lawful;
   calls = r.calls;
@@ -197,7 +198,7 @@ reached-resends s n r i = record {
 
 -- ---- servers are copied and left
 
-pub reached-copies : (s : Scene) (n : ℕ) → IsReached s n → (k t : ℕ) → is_server s k ≡ true → IsReached (copies s k t) n
+pub reached-copies : (s : SceneOf Hostile) (n : ℕ) → IsReached s n → (k t : ℕ) → is_server s k ≡ true → IsReached (copies s k t) n
 reached-copies s n r k t there =
     let seats : IsSeated (copies s k t) = seated-copies s (reached-seated s n r) k t there in
     record {
@@ -210,10 +211,10 @@ reached-copies s n r k t there =
       by_count = r.by_count;
       placed = seats.placed;
       servers_count = length-set s.servers _ _ ∙ r.servers_count;
-      servers = all-set (IfThere ServerHolds) s.servers _ (server_at s.servers k) r.servers (reached-server s n r k);
+      servers = all-set (IfThere HostileHolds) s.servers _ (server_at s.servers k) r.servers (reached-server s n r k);
     }
 
-pub reached-joins : (s : Scene) (n : ℕ) → IsReached s n → (i k : ℕ) → is_server s k ≡ true → IsReached (joins s i k) n
+pub reached-joins : (s : SceneOf Hostile) (n : ℕ) → IsReached s n → (i k : ℕ) → is_server s k ≡ true → IsReached (joins s i k) n
 reached-joins s n r i k there =
     let seats : IsSeated (joins s i k) = seated-joins s (reached-seated s n r) i k there in
     record {
@@ -239,7 +240,7 @@ any [] = tt
 any (m ∷ before) = (tt, any before)
 
 -- an event that may happen leads on to a scene that is reached
-reached-happens : (s : Scene) (n : ℕ) (m : Event) → IsReached s n → MayHappen s m → Any m → IsReached (happens by_rule s m) (n + asked m)
+reached-happens : (s : SceneOf Hostile) (n : ℕ) (m : Event) → IsReached s n → MayHappen s m → Any m → IsReached (happens by_kind s m) (n + asked m)
 reached-happens s n (Asks i given) r may any = reached-steps s n r i may.0 may.1 given (may-step s i given may.2)
 reached-happens s n (Serves i) r may any = reached-more _ n (n + 0) (omega arith) (reached-serves s n r i may.0 may.1)
 reached-happens s n (Takes i) r may any = reached-more _ n (n + 0) (omega arith) (reached-takes unchanged (λ payload bytes. bytes) s n r i may.0 may.1)
@@ -249,10 +250,10 @@ reached-happens s n (Resends i) r may any = reached-more _ n (n + 0) (omega arit
 reached-happens s n (Copies k t) r may any = reached-more _ n (n + 0) (omega arith) (reached-copies s n r k t may)
 reached-happens s n (Joins i k) r may any = reached-more _ n (n + 0) (omega arith) (reached-joins s n r i k may.2)
 
-pub reached-after : (s : Scene) (n : ℕ) (events : List Event) → IsReached s n → MayAllHappen by_rule s events → IsReached (after_events by_rule s events) (n + asks events)
-reached-after s n events r may = kept-after by_rule IsReached Any reached-happens s n events r may (any events)
+pub reached-after : (s : SceneOf Hostile) (n : ℕ) (events : List Event) → IsReached s n → MayAllHappen by_kind s events → IsReached (after_events by_kind s events) (n + asks events)
+reached-after s n events r may = kept-after by_kind IsReached Any reached-happens s n events r may (any events)
 
 -- a line that isn't bad leads on to a scene that is reached
-pub reached-line : (s : Scene) (n : ℕ) (l : Line) → IsReached s n → HasCallLeft s l → bad_kind s l ≡ None → FitsLine l → IsReached (done_line by_rule s l).scene (n + 1)
+pub reached-line : (s : SceneOf Hostile) (n : ℕ) (l : Line) → IsReached s n → HasCallLeft s l → bad_kind s l ≡ None → FitsLine l → IsReached (done_line by_kind s l).scene (n + 1)
 reached-line s n l r left good fits =
-    reached-more _ _ (n + 1) (omega (arith, line-asks by_rule s l)) (reached-after s n (events_of by_rule s l) r (line-may by_rule s l (reached-seated s n r) r.lawful left good fits))
+    reached-more _ _ (n + 1) (omega (arith, line-asks by_kind s l)) (reached-after s n (events_of by_kind s l) r (line-may by_kind s l (reached-seated s n r) r.lawful left good fits))

@@ -1,7 +1,8 @@
 -- The run of a script reaches its scene, and that of an honest script one of an honest run.
-use Rattle.std.proofs.Common.{◌≡◌, ℕ, ◌+◌, ◌<◌, ◌≤◌, ◌^◌, true, List, length, take, Option, Some, None, refl, subst, ◌∙◌, arith}
+use Rattle.std.proofs.Common.{◌≡◌, ℕ, ◌+◌, ◌<◌, ◌≤◌, ◌^◌, true, List, length, take, Option, Some, None, refl, ap, subst, ◌∙◌, arith}
 use Rattle.std.specs.List.{AllByRecursion}
 use Rattle.std.proofs.lemmas.List.{length-take}
+use Rattle.std.proofs.lemmas.Option.{same_Some}
 use Rattle.vic_dict.specs.declared.op.Mode.TheVariants as mode
 use Rattle.vic_wire.specs.Hashes.{Group, IsGroup}
 use Rattle.vic_rules.specs.History.{IsLawful}
@@ -13,22 +14,23 @@ use Rattle.vic_laws.proofs.EveryHistory.{every_history_holds}
 use Rattle.vic_laws.proofs.Contents.{loads_get_the_last}
 use Rattle.vic_laws.proofs.Words.{all_true}
 use Rattle.vic_order.specs.Order.{Server, fresh_server, ready}
-use Rattle.vic_order.specs.Serving.{by_rule}
-use Rattle.vic_order.specs.Honest.{ruled, ComesHonestly, IsSame}
+use Rattle.vic_order.specs.Honest.{ruled, ComesHonestly}
+use Rattle.vic_attacks.specs.declared.HostileKind.TheVariants as kind
+use Rattle.vic_attacks.specs.Hostile.{Hostile, hostile_from, by_kind}
 use Rattle.vic_script.specs.declared.line.Line.{Line}
 use Rattle.vic_script.specs.Lines.{lines_of, line_of}
-use Rattle.vic_order.specs.Scenes.{Scene, SceneOf, opening}
-use Rattle.vic_script.specs.Scenes.{Shown, done_line, bad_kind, is_honest_line}
-use Rattle.vic_script.specs.Run.{limit, group_by, Place, Before, Heads, Stands, scene_in, Played, Tried, Fails, Does, tried_by, try_event, try_line, mode_in, run_of, is_honest, is_honest_script, group_in, history_in, group_of, history_of}
+use Rattle.vic_order.specs.Scenes.{SceneOf, server_at}
+use Rattle.vic_script.specs.Scenes.{ShownOf, done_line, bad_kind, is_honest_line}
+use Rattle.vic_script.specs.Run.{limit, Attack, no_attack, Header, group_by, attack_by, opening_as, opening_by, Place, Before, Heads, Stands, scene_in, Played, Tried, Fails, Does, tried_by, try_event, try_line, mode_in, run_of, is_honest, is_honest_script, group_in, history_in, group_of, history_of}
 use Rattle.vic_runs.specs.Claims.{FitsLine, RunsAreLawful, NothingIsForged, RunsAreHonest, ClaimsHold}
-use Rattle.vic_runs.specs.Reached.{IsReached, IsHonestlyReached}
+use Rattle.vic_runs.specs.Reached.{IsReached, GoesAs, IsHonestlyReached}
 use Rattle.vic_script.proofs.Forged.{is_forged-none}
 use Rattle.vic_runs.proofs.Lists.{all_each}
 use Rattle.vic_runs.proofs.Words.{FitsIn, text_fits, in_each_mode}
-use Rattle.vic_runs.proofs.Headers.{begun, keyed, first_so, header_so, begun_is_group, keyed_is_group}
+use Rattle.vic_runs.proofs.Headers.{begun, keyed, turned, first_so, header_so, begun_is_group, keyed_is_group}
 use Rattle.vic_runs.proofs.Reached.{reached-more, reached-opening, reached-lawful, reached-line}
 use Rattle.vic_runs.proofs.Lines.{few_calls}
-use Rattle.vic_runs.proofs.Kept.{same_is_kept}
+use Rattle.vic_runs.proofs.Kept.{goes_is_kept}
 use Rattle.vic_runs.proofs.Honest.{honest-more, honest-opening, honest-line}
 use Rattle.vic_runs.proofs.Plays.{AnyText, GoesSo, EachLine, claimed-run}
 
@@ -37,7 +39,7 @@ pub length-taken : (n : ℕ) (bs : List ℕ) → length (take n bs) ≤ n
 length-taken n bs = omega (arith, length-take n bs)
 
 -- the scene is reached, if there is one
-abbrev pub ReachedIn : Option Scene → ℕ → Type 0
+abbrev pub ReachedIn : Option (SceneOf Hostile) → ℕ → Type 0
 ReachedIn None n = Unit {0}
 ReachedIn (Some s) n = IsReached s n
 
@@ -48,28 +50,29 @@ abbrev pub TriedReaches : Tried → ℕ → Type 0
 TriedReaches (Fails k) n = Unit {0}
 TriedReaches (Does next text) n = ReachedIn (scene_in next) n
 
-tried-by : (bad : Option ℕ) (shown : Shown) (n : ℕ) → (bad ≡ None → IsReached shown.scene n) → TriedReaches (tried_by bad shown) n
+tried-by : (bad : Option ℕ) (shown : ShownOf Hostile) (n : ℕ) → (bad ≡ None → IsReached shown.scene n) → TriedReaches (tried_by bad shown) n
 tried-by None shown n h = h refl
 tried-by (Some k) shown n h = tt
 
-tried-event : (s : Scene) (l : Line) (n : ℕ) → IsReached s n → n + 1 < 2 ^ 32 → FitsLine l → TriedReaches (try_event s l) (n + 1)
-tried-event s l n h few fits = tried-by (bad_kind s l) (done_line by_rule s l) (n + 1) (λ good. reached-line s n l h (few_calls s n h.calls few l) good fits)
+tried-event : (s : SceneOf Hostile) (l : Line) (n : ℕ) → IsReached s n → n + 1 < 2 ^ 32 → FitsLine l → TriedReaches (try_event s l) (n + 1)
+tried-event s l n h few fits = tried-by (bad_kind s l) (done_line by_kind s l) (n + 1) (λ good. reached-line s n l h (few_calls s n h.calls few l) good fits)
 
--- a group opens so
-pub opens_reached : (g : Group) (n : ℕ) → IsGroup g → IsReached (opening g) n
-opens_reached g n is = reached-more (opening g) 0 n (omega arith) (reached-opening g is)
+-- a group opens so, whatever its server does
+pub opens_reached : (g : Group) (a : Attack) (n : ℕ) → IsGroup g → IsReached (opening_as g a) n
+opens_reached g a n is = reached-more (opening_as g a) 0 n (omega arith) (reached-opening g a is)
 
 -- a line that fits leads on to a scene that is reached, or is bad
 pub tried : (place : Place) (l : Option Line) (n : ℕ) → ReachedIn (scene_in place) n → n + 1 < 2 ^ 32 → FitsIn l → TriedReaches (try_line place l) (n + 1)
 tried Before None n r few fits = tt
 tried Before (Some l) n r few fits =
-    first_so (λ (x : Line) (t : Tried). FitsLine x → TriedReaches t (n + 1)) (λ count is. opens_reached (group_by (begun mode.Plain count)) (n + 1) (begun_is_group mode.Plain count is.0 is.1))
-    (λ count is. opens_reached (group_by (begun mode.Objects count)) (n + 1) (begun_is_group mode.Objects count is.0 is.1)) (λ is. tt) (λ x is. tt) l fits
+    first_so (λ (x : Line) (t : Tried). FitsLine x → TriedReaches t (n + 1)) (λ count is. opens_reached (group_by (begun mode.Plain count)) no_attack (n + 1) (begun_is_group mode.Plain count is.0 is.1))
+    (λ count is. opens_reached (group_by (begun mode.Objects count)) no_attack (n + 1) (begun_is_group mode.Objects count is.0 is.1)) (λ is. tt) (λ x is. tt) l fits
 tried (Heads h) None n r few fits = tt
 tried (Heads h) (Some l) n r few fits =
     header_so (λ (x : Line) (t : Tried). FitsLine x → TriedReaches t (n + 1)) h
-    (λ digits is. opens_reached (group_by (keyed h digits)) (n + 1) (keyed_is_group h digits r.lawful.group is)) (λ digits is. tt)
-    (λ is. reached-more (opening (group_by h)) n (n + 1) (omega arith) r) (λ x is. tried-event (opening (group_by h)) x n r few is) l fits
+    (λ digits is. opens_reached (group_by (keyed h digits)) (attack_by h) (n + 1) (keyed_is_group h digits r.lawful.group is)) (λ digits is. tt)
+    (λ name k only is. opens_reached (group_by h) (attack_by (turned h name k)) (n + 1) r.lawful.group) (λ name k is. tt)
+    (λ is. reached-more (opening_by h) n (n + 1) (omega arith) r) (λ x is. tried-event (opening_by h) x n r few is) l fits
 tried (Stands s) None n r few fits = tt
 tried (Stands s) (Some l) n r few fits = tried-event s l n r few fits
 
@@ -102,7 +105,7 @@ reached-run script = claimed-run AnyText StandsReached LeavesReached each_line t
 -- ---- what each run is
 
 -- a script whose header never began has made no step
-lawful-in : (scene : Option Scene) (n : ℕ) → ReachedIn scene n → IsLawful (group_in scene) (history_in scene)
+lawful-in : (scene : Option (SceneOf Hostile)) (n : ℕ) → ReachedIn scene n → IsLawful (group_in scene) (history_in scene)
 lawful-in None n h = record { group = record { count = (omega arith, omega arith); key = (omega arith, omega arith) }; steps = tt }
 lawful-in (Some s) n h = reached-lawful s n h
 
@@ -117,12 +120,12 @@ all_hold script =
 -- ---- honest scripts
 
 -- the scene is one of clients with one honest server, if there is one
-abbrev pub HonestIn : Option Scene → ℕ → Type 0
+abbrev pub HonestIn : Option (SceneOf Hostile) → ℕ → Type 0
 HonestIn None n = Unit {0}
-HonestIn (Some s) n = IsHonestlyReached IsSame s n
+HonestIn (Some s) n = IsHonestlyReached GoesAs s n
 
 -- once a script has opened its lines are honest
-abbrev pub HonestFor : Option Scene → Option Line → Type 0
+abbrev pub HonestFor : Option (SceneOf Hostile) → Option Line → Type 0
 HonestFor None l = Unit {0}
 HonestFor (Some s) l = is_honest l ≡ true
 
@@ -131,28 +134,38 @@ abbrev pub TriedHonest : Tried → ℕ → Type 0
 TriedHonest (Fails k) n = Unit {0}
 TriedHonest (Does next text) n = HonestIn (scene_in next) n
 
-honest_tried-by : (bad : Option ℕ) (shown : Shown) (n : ℕ) → (bad ≡ None → IsHonestlyReached IsSame shown.scene n) → TriedHonest (tried_by bad shown) n
+honest_tried-by : (bad : Option ℕ) (shown : ShownOf Hostile) (n : ℕ) → (bad ≡ None → IsHonestlyReached GoesAs shown.scene n) → TriedHonest (tried_by bad shown) n
 honest_tried-by None shown n h = h refl
 honest_tried-by (Some k) shown n h = tt
 
-honest_tried-event : (s : Scene) (l : Line) (n : ℕ) → IsHonestlyReached IsSame s n → n + 1 < 2 ^ 32 → FitsLine l → is_honest_line l ≡ true → TriedHonest (try_event s l) (n + 1)
+honest_tried-event : (s : SceneOf Hostile) (l : Line) (n : ℕ) → IsHonestlyReached GoesAs s n → n + 1 < 2 ^ 32 → FitsLine l → is_honest_line l ≡ true → TriedHonest (try_event s l) (n + 1)
 honest_tried-event s l n h few fits honest =
-    honest_tried-by (bad_kind s l) (done_line by_rule s l) (n + 1) (λ good. honest-line IsSame by_rule same_is_kept s n l h (few_calls s n h.calls few l) good fits honest)
+    honest_tried-by (bad_kind s l) (done_line by_kind s l) (n + 1) (λ good. honest-line GoesAs by_kind goes_is_kept s n l h (few_calls s n h.calls few l) good fits honest)
 
-honest_opens : (g : Group) (n : ℕ) → IsGroup g → IsHonestlyReached IsSame (opening g) n
-honest_opens g n is = honest-more IsSame (opening g) 0 n (omega arith) (honest-opening IsSame g (fresh_server g.mode g.count ready) is refl)
+-- a group opens so where its server doesn't misbehave
+honest_opens : (g : Group) (a : Attack) (n : ℕ) → IsGroup g → a.kind ≡ kind.Honest → IsHonestlyReached GoesAs (opening_as g a) n
+honest_opens g a n is none = honest-more GoesAs (opening_as g a) 0 n (omega arith) (honest-opening GoesAs g (hostile_from a.kind a.after (fresh_server g.mode g.count ready)) is (none, refl))
+
+-- in a header with such an opening it doesn't
+no_attack_in : (h : Header) (n : ℕ) → IsHonestlyReached GoesAs (opening_by h) n → (attack_by h).kind ≡ kind.Honest
+no_attack_in h n r =
+    let g : Group = group_by h in
+    let a : Attack = attack_by h in
+    let own : hostile_from a.kind a.after (fresh_server g.mode g.count ready) ≡ r.comes.own = same_Some (hostile_from a.kind a.after (fresh_server g.mode g.count ready)) r.comes.own (ap (λ l. server_at l 1) r.comes.only) in
+    ap (λ v. v.kind) own ∙ r.comes.same.0
 
 -- an honest line that fits leads on to such a scene, or is bad
 pub honest_tried : (place : Place) (l : Option Line) (n : ℕ) → HonestIn (scene_in place) n → n + 1 < 2 ^ 32 → FitsIn l → HonestFor (scene_in place) l → TriedHonest (try_line place l) (n + 1)
 honest_tried Before None n r few fits honest = tt
 honest_tried Before (Some l) n r few fits honest =
-    first_so (λ (x : Line) (t : Tried). FitsLine x → TriedHonest t (n + 1)) (λ count is. honest_opens (group_by (begun mode.Plain count)) (n + 1) (begun_is_group mode.Plain count is.0 is.1))
-    (λ count is. honest_opens (group_by (begun mode.Objects count)) (n + 1) (begun_is_group mode.Objects count is.0 is.1)) (λ is. tt) (λ x is. tt) l fits
+    first_so (λ (x : Line) (t : Tried). FitsLine x → TriedHonest t (n + 1)) (λ count is. honest_opens (group_by (begun mode.Plain count)) no_attack (n + 1) (begun_is_group mode.Plain count is.0 is.1) refl)
+    (λ count is. honest_opens (group_by (begun mode.Objects count)) no_attack (n + 1) (begun_is_group mode.Objects count is.0 is.1) refl) (λ is. tt) (λ x is. tt) l fits
 honest_tried (Heads h) None n r few fits honest = tt
 honest_tried (Heads h) (Some l) n r few fits honest =
     header_so (λ (x : Line) (t : Tried). FitsLine x → is_honest_line x ≡ true → TriedHonest t (n + 1)) h
-    (λ digits is so. honest_opens (group_by (keyed h digits)) (n + 1) (keyed_is_group h digits r.comes.run.group is)) (λ digits is so. tt)
-    (λ is so. honest-more IsSame (opening (group_by h)) n (n + 1) (omega arith) r) (λ x is so. honest_tried-event (opening (group_by h)) x n r few is so) l fits honest
+    (λ digits is so. honest_opens (group_by (keyed h digits)) (attack_by h) (n + 1) (keyed_is_group h digits r.comes.run.group is) (no_attack_in h n r)) (λ digits is so. tt)
+    (λ name k only is so. absurd cc) (λ name k is so. tt)
+    (λ is so. honest-more GoesAs (opening_by h) n (n + 1) (omega arith) r) (λ x is so. honest_tried-event (opening_by h) x n r few is so) l fits honest
 honest_tried (Stands s) None n r few fits honest = tt
 honest_tried (Stands s) (Some l) n r few fits honest = honest_tried-event s l n r few fits honest
 
@@ -161,7 +174,7 @@ abbrev pub IsHonestText : List ℕ → Type 0
 IsHonestText text = is_honest (line_of (Some mode.Plain) text) ≡ true
 
 -- it is honest in the mode that the script has
-pub honest_for : (scene : Option Scene) (n : ℕ) (text : List ℕ) → HonestIn scene n → is_honest (line_of (Some mode.Plain) text) ≡ true → HonestFor scene (line_of (mode_in scene) text)
+pub honest_for : (scene : Option (SceneOf Hostile)) (n : ℕ) (text : List ℕ) → HonestIn scene n → is_honest (line_of (Some mode.Plain) text) ≡ true → HonestFor scene (line_of (mode_in scene) text)
 honest_for None n text h honest = tt
 honest_for (Some s) n text h honest = in_each_mode s.group.mode text ∙ honest
 
@@ -203,9 +216,9 @@ holds_at R s c apart = honest_runs_hold (ruled s c.server) c.server c.events (re
 pub holds_anyway : {V : Type 0} (R : V → Server → Type 0) (s : SceneOf V) (c : ComesHonestly R s) → HoldsAnyway s.group s.history c.server
 holds_anyway R s c = honest_runs_are_lawful (ruled s c.server) c.server c.events c.run
 
-unforged-in : (scene : Option Scene) (n : ℕ) → HonestIn scene n → IsForged (group_in scene) (history_in scene) → ⊥
+unforged-in : (scene : Option (SceneOf Hostile)) (n : ℕ) → HonestIn scene n → IsForged (group_in scene) (history_in scene) → ⊥
 unforged-in None n h forged = forged
-unforged-in (Some s) n h forged = (holds_anyway IsSame s h.comes).unforged forged
+unforged-in (Some s) n h forged = (holds_anyway GoesAs s h.comes).unforged forged
 
 pub none_forged : NothingIsForged
 none_forged script honest =
@@ -213,11 +226,11 @@ none_forged script honest =
     let never : IsForged (group_of script) (history_of script) → ⊥ = unforged-in (run_of script).scene r.0 r.1 in
     (is_forged-none (group_of script) (history_of script) never, never)
 
-honest-in : (scene : Option Scene) (n : ℕ) → HonestIn scene n → (s : Scene) → scene ≡ Some s → IsHonestlyReached IsSame s n
+honest-in : (scene : Option (SceneOf Hostile)) (n : ℕ) → HonestIn scene n → (s : SceneOf Hostile) → scene ≡ Some s → IsHonestlyReached GoesAs s n
 honest-in scene n h s e = subst (λ o. HonestIn o n) e h
 
 -- the run of an honest script leaves such a scene
-pub run_is_reached : (script : List ℕ) → is_honest_script script ≡ true → (s : Scene) → (run_of script).scene ≡ Some s → (n : ℕ) × IsHonestlyReached IsSame s n
+pub run_is_reached : (script : List ℕ) → is_honest_script script ≡ true → (s : SceneOf Hostile) → (run_of script).scene ≡ Some s → (n : ℕ) × IsHonestlyReached GoesAs s n
 run_is_reached script honest s e = let r = honest-run script honest in (r.0, honest-in (run_of script).scene r.0 r.1 s e)
 
 pub all_honest : RunsAreHonest

@@ -1,6 +1,6 @@
 -- A script has few lines, byte words spell bytes, and the lines that texts spell fit.
 use Rattle.std.proofs.Common.{◌≡◌, ℕ, zero, suc, ◌<◌, ◌≤◌, Bool, true, false, ◌&&◌, List, [], ◌∷◌, length, Option, Some, None, Result, Ok, Err, refl, sym, subst, ◌∙◌, arith}
-use Rattle.std.specs.Prelude.{if◌then◌else◌, nat_eq, nat_lt, nat_le, option_map, codes, drop, replicate}
+use Rattle.std.specs.Prelude.{if◌then◌else◌, nat_eq, nat_lt, nat_le, option_map, is_some, codes, drop, replicate}
 use Rattle.std.specs.Str.{bytes_eq}
 use Rattle.std.specs.List.{list_all, starts_with}
 use Rattle.std.specs.Result.{result_ok}
@@ -24,7 +24,7 @@ use Rattle.vic_rules.specs.Objects.{FitsObject, AreBytesInObject}
 use Rattle.vic_script.specs.declared.line.Line.{Line}
 use Rattle.vic_script.specs.declared.line.Line.TheVariants as line
 use Rattle.vic_script.specs.Words.{is_plain, is_lower_hex, is_percent, hex_word, word_bytes, word_number, word_capped}
-use Rattle.vic_script.specs.Lines.{put_first, lines_of, words_of, within, key_of, value_of, prefix_of, put_of, op_of, call_of, group_line, at_most, zeros_of, content_of, store_of, object_of, object_call_of, named, give_of, pair_of, is_place, copy_of, paired, header_of, is_key_digits, key_line, next_header_of, called, event_of, or_line, line_in, is_skipped, line_of}
+use Rattle.vic_script.specs.Lines.{put_first, lines_of, words_of, within, key_of, value_of, prefix_of, put_of, op_of, call_of, group_line, at_most, zeros_of, content_of, store_of, object_of, object_call_of, named, give_of, pair_of, is_place, copy_of, paired, header_of, is_key_digits, key_line, kind_named, hostile_line, next_header_of, called, event_of, or_line, line_in, is_skipped, line_of}
 use Rattle.vic_script.specs.Run.{is_honest}
 use Rattle.vic_runs.specs.Claims.{FitsLine}
 
@@ -297,11 +297,21 @@ key-in word false h = tt
 key-fits : (word : List ℕ) → FitsIn (key_line word)
 key-fits word = key-in word (is_key_digits word) (λ e. e)
 
+hostile-in : (name : List ℕ) (n : ℕ) (b : Bool) → (b ≡ true → FitsLine (line.Hostile name n)) → FitsIn (if b then Some (line.Hostile name n) else None)
+hostile-in name n true h = h refl
+hostile-in name n false h = tt
+
+-- a server misbehaves in a way that has a name, and not too late
+hostile-fits : (name : List ℕ) (o : Option ℕ) → FitsIn (hostile_line name o)
+hostile-fits name None = tt
+hostile-fits name (Some n) = hostile-in name n (is_some (kind_named name) && nat_le n 1000000) (λ e. let p = and_parts _ _ e in (p.0, leb-true _ _ p.1))
+
 next_header-fits : (words : List (List ℕ)) → FitsIn (next_header_of words)
 next_header-fits [] = tt
 next_header-fits (name ∷ []) = tt
 next_header-fits (name ∷ a ∷ []) = line-either (bytes_eq name (codes "key")) (key_line a) None (key-fits a) tt
-next_header-fits (name ∷ a ∷ b ∷ others) = tt
+next_header-fits (name ∷ a ∷ b ∷ []) = line-either (bytes_eq name (codes "hostile")) (hostile_line a (word_number b)) None (hostile-fits a (word_number b)) tt
+next_header-fits (name ∷ a ∷ b ∷ c ∷ others) = tt
 
 called-fits : (kind : Mode) (name a : List ℕ) (others : List (List ℕ)) → FitsIn (called kind name a others)
 called-fits mode.Plain name a others = line-either (bytes_eq name (codes "call")) (call_of (word_capped a) (op_of others)) None (call-fits (word_capped a) (op_of others) (op-fits others)) tt

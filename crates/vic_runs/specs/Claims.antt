@@ -1,5 +1,5 @@
 -- The laws of scripts, one by one.
-use Rattle.std.specs.Prelude.{◌≡◌, ℕ, ◌<◌, ◌≤◌, ◌↔◌, true, false, List, [], ◌∷◌, ◌++◌, reverse, Some}
+use Rattle.std.specs.Prelude.{◌≡◌, ℕ, ◌<◌, ◌≤◌, ◌↔◌, true, false, List, [], ◌∷◌, ◌++◌, reverse, Some, IsSome}
 use Rattle.std.specs.List.{flat_map}
 use Rattle.vic_dict.specs.Lists.{IsIn, AreBytes}
 use Rattle.vic_dict.specs.Dictionary.{Fits, AreBytesIn}
@@ -13,25 +13,26 @@ use Rattle.vic_rules.specs.History.{IsLawful, Completion, completions}
 use Rattle.vic_rules.specs.Trust.{IsForged}
 use Rattle.vic_rules.specs.Headline.{Headline}
 use Rattle.vic_laws.specs.ContentClaims.{LoadsGetTheLastIn}
-use Rattle.vic_order.specs.Order.{Server}
-use Rattle.vic_order.specs.Honest.{ComesHonestly, IsSame}
+use Rattle.vic_order.specs.Honest.{ComesHonestly}
 use Rattle.vic_honest.specs.SafeRuns.{AreApart}
 use Rattle.vic_honest.specs.Claims.{StandsAsFated, LoadIsFated, NoneHalts}
 use Rattle.vic_script.specs.declared.line.Line.{Line}
 use Rattle.vic_script.specs.declared.line.Line.TheVariants as line
-use Rattle.vic_order.specs.Scenes.{Scene, server_at}
-use Rattle.vic_script.specs.Lines.{is_key_digits}
+use Rattle.vic_order.specs.Scenes.{SceneOf, server_at}
+use Rattle.vic_attacks.specs.Hostile.{Hostile}
+use Rattle.vic_script.specs.Lines.{is_key_digits, kind_named}
 use Rattle.vic_script.specs.Scenes.{said}
 use Rattle.vic_script.specs.Run.{Bad, run_of, is_honest_script, group_of, history_of, bad_line_of}
 use Rattle.vic_script.specs.Print.{is_forged}
+use Rattle.vic_runs.specs.Reached.{GoesAs}
 
 -- the texts of a call are within their lengths and are bytes, a group has 1 to 64 clients, its key is spelled by as many digits as it
--- may have, and a payload is bytes
+-- may have, a server misbehaves in a way that has a name, after at most 1,000,000 requests, and a payload is bytes
 abbrev pub FitsLine : Line → Type 0
 FitsLine (line.Clients n) = (0 < n) × (n ≤ 64)
 FitsLine (line.Objects n) = (0 < n) × (n ≤ 64)
 FitsLine (line.Key digits) = is_key_digits digits ≡ true
-FitsLine (line.Hostile name n) = Unit {0}
+FitsLine (line.Hostile name n) = IsSome (kind_named name) × (n ≤ 1000000)
 FitsLine (line.Call i o) = Fits o × AreBytesIn o
 FitsLine (line.Object i c) = FitsObject c × AreBytesInObject c
 FitsLine (line.Poll i) = Unit {0}
@@ -90,23 +91,23 @@ NothingIsForged = (script : List ℕ) → is_honest_script script ≡ true
     → (is_forged (group_of script) (history_of script) ≡ false) × (IsForged (group_of script) (history_of script) → ⊥)
 
 abbrev pub RunsAreHonest : Type 0
-RunsAreHonest = (script : List ℕ) → is_honest_script script ≡ true → (s : Scene) → (run_of script).scene ≡ Some s → ComesHonestly IsSame s
+RunsAreHonest = (script : List ℕ) → is_honest_script script ≡ true → (s : SceneOf Hostile) → (run_of script).scene ≡ Some s → ComesHonestly GoesAs s
 
 -- where contents are apart, every completed call is an entry of the server's log, and its outcome is what becomes of that entry
 abbrev pub OutcomesAreFates : Type 0
-OutcomesAreFates = (script : List ℕ) → is_honest_script script ≡ true → (s : Scene) → (run_of script).scene ≡ Some s → AreApart s.group s.history
-    → (server : Server) → server_at s.servers 1 ≡ Some server → (c : Completion) → IsIn (completions s.group s.history) c → StandsAsFated server.log c
+OutcomesAreFates = (script : List ℕ) → is_honest_script script ≡ true → (s : SceneOf Hostile) → (run_of script).scene ≡ Some s → AreApart s.group s.history
+    → (server : Hostile) → server_at s.servers 1 ≡ Some server → (c : Completion) → IsIn (completions s.group s.history) c → StandsAsFated server.going.log c
 
 -- where contents are apart, a content that a load returned is that of the last done store of its name below the load's get, in the order
 -- of the server's log
 abbrev pub LoadsAreFated : Type 0
-LoadsAreFated = (script : List ℕ) → is_honest_script script ≡ true → (s : Scene) → (run_of script).scene ≡ Some s → AreApart s.group s.history
-    → (server : Server) → server_at s.servers 1 ≡ Some server → (newer : List TraceStep) (x : TraceStep) (past : List TraceStep) → s.history ≡ newer ++ x ∷ past
-    → (content : List ℕ) → x.object ≡ Some (ended.Content content) → LoadIsFated s.group s.history past server.log x.client content
+LoadsAreFated = (script : List ℕ) → is_honest_script script ≡ true → (s : SceneOf Hostile) → (run_of script).scene ≡ Some s → AreApart s.group s.history
+    → (server : Hostile) → server_at s.servers 1 ≡ Some server → (newer : List TraceStep) (x : TraceStep) (past : List TraceStep) → s.history ≡ newer ++ x ∷ past
+    → (content : List ℕ) → x.object ≡ Some (ended.Content content) → LoadIsFated s.group s.history past server.going.log x.client content
 
 -- where contents are apart, no client halts
 abbrev pub NobodyHalts : Type 0
-NobodyHalts = (script : List ℕ) → is_honest_script script ≡ true → (s : Scene) → (run_of script).scene ≡ Some s → AreApart s.group s.history → NoneHalts s.group s.history
+NobodyHalts = (script : List ℕ) → is_honest_script script ≡ true → (s : SceneOf Hostile) → (run_of script).scene ≡ Some s → AreApart s.group s.history → NoneHalts s.group s.history
 
 -- where contents are apart, no line is bad for that its client has halted
 abbrev pub NoLineIsHalted : Type 0

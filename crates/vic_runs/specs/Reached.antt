@@ -11,7 +11,9 @@ use Rattle.vic_rules.specs.Client.{Standing}
 use Rattle.vic_rules.specs.History.{IsLawful}
 use Rattle.vic_order.specs.Order.{Ordered, Server}
 use Rattle.vic_order.specs.Honest.{ComesHonestly}
-use Rattle.vic_order.specs.Scenes.{Queue, Scene, SceneOf, is_server, stands}
+use Rattle.vic_order.specs.Scenes.{Queue, SceneOf, is_server, stands}
+use Rattle.vic_attacks.specs.declared.HostileKind.TheVariants as kind
+use Rattle.vic_attacks.specs.Hostile.{Hostile}
 
 -- ---- scenes that any lines reach
 
@@ -34,6 +36,13 @@ abbrev pub IfThere : {V : Type 0} → (V → Type 0) → Option V → Type 0
 IfThere P None = Unit {0}
 IfThere P (Some v) = P v
 
+-- what a hostile server keeps is bytes
+pub record HostileHolds (h : Hostile) : Type 0 where
+  pub going : ServerHolds h.going
+  pub kept : IfThere ServerHolds h.kept
+  pub past : IfThere IsProper h.past
+  pub told : AllByRecursion (IfThere AreBytes) h.told
+
 -- the payloads that wait are bytes
 abbrev pub HoldsBytes : Queue → Type 0
 HoldsBytes queue = AllByRecursion AreBytes queue
@@ -51,7 +60,7 @@ calls_in t = t.calls + to_call t.phase
 
 -- the clients have stepped by the rules, none was asked for more than n calls, each has its queues and a server that exists, and all that
 -- waits or is kept is bytes
-pub record IsReached (s : Scene) (n : ℕ) : Type 0 where
+pub record IsReached (s : SceneOf Hostile) (n : ℕ) : Type 0 where
   pub lawful : IsLawful s.group s.history
   pub calls : (i : ℕ) → calls_in (stands s i) ≤ n
   pub up_count : length s.up ≡ s.group.count
@@ -61,9 +70,13 @@ pub record IsReached (s : Scene) (n : ℕ) : Type 0 where
   pub by_count : length s.served_by ≡ s.group.count
   pub placed : AllByRecursion (λ n. is_server s n ≡ true) s.served_by
   pub servers_count : length s.servers ≡ 4
-  pub servers : AllByRecursion (IfThere ServerHolds) s.servers
+  pub servers : AllByRecursion (IfThere HostileHolds) s.servers
 
 -- ---- scenes of clients with one honest server
+
+-- a hostile server of the kind that doesn't misbehave, in which this server goes on
+abbrev pub GoesAs : Hostile → Server → Type 0
+GoesAs h server = (h.kind ≡ kind.Honest) × (h.going ≡ server)
 
 -- so it is, no client was asked for more than n calls, and the requests that wait are bytes
 pub record IsHonestlyReached {V : Type 0} (R : V → Server → Type 0) (s : SceneOf V) (n : ℕ) : Type 0 where
