@@ -5,12 +5,12 @@ use Rattle.std.specs.List.{AllByRecursion}
 use Rattle.std.proofs.lemmas.Bool.{le-ltb, eqb-true}
 use Rattle.std.proofs.lemmas.List.{append-nil, append_assoc, take_all}
 use Rattle.std.proofs.lemmas.Option.{same_Some}
-use Rattle.vic_order.specs.Serving.{by_rule}
-use Rattle.vic_order.specs.Scenes.{Scene, opening, Event}
+use Rattle.vic_order.specs.Scenes.{SceneOf, Event}
+use Rattle.vic_attacks.specs.Hostile.{Hostile, by_kind}
 use Rattle.vic_script.specs.declared.line.Line.{Line}
 use Rattle.vic_script.specs.Lines.{put_first, lines_of, line_of}
 use Rattle.vic_script.specs.Scenes.{events_of, done_line, bad_kind}
-use Rattle.vic_script.specs.Run.{limit, Header, group_by, Place, Before, Heads, Stands, scene_in, Played, stops, Tried, Fails, Does, tried_by, try_event, try_header, try_line, mode_in, follow, place_behind, bad_end, play, run_of}
+use Rattle.vic_script.specs.Run.{limit, Header, group_by, opening_by, Place, Before, Heads, Stands, scene_in, Played, stops, Tried, Fails, Does, tried_by, try_event, try_header, try_line, mode_in, follow, place_behind, bad_end, play, run_of}
 use Rattle.vic_runs.proofs.Headers.{header_so}
 use Rattle.vic_script_runs.specs.Events.{line_events, events_then, events_from, script_events}
 use Rattle.vic_script_runs.specs.Claims.{IsLineText, text_of, AddsItsOwn, NoLinesAddNone, LinesAddTheirOwn}
@@ -56,42 +56,42 @@ alone-none (Fails k) = refl
 alone-none (Does next text) = refl
 
 -- a line has its events, unless it is bad
-abbrev Tells : Scene → Line → List Event → Type 0
-Tells s l own = (bad_kind s l ≡ None → own ≡ events_of by_rule s l) × ((k : ℕ) → bad_kind s l ≡ Some k → own ≡ [])
+abbrev Tells : SceneOf Hostile → Line → List Event → Type 0
+Tells s l own = (bad_kind s l ≡ None → own ≡ events_of by_kind s l) × ((k : ℕ) → bad_kind s l ≡ Some k → own ≡ [])
 
-alone-by : (bad : Option ℕ) (s : Scene) (l : Line) (own : List Event) → let after : List Event = events_alone own (tried_by bad (done_line by_rule s l)) in (bad ≡ None → after ≡ own) × ((k : ℕ) → bad ≡ Some k → after ≡ [])
+alone-by : (bad : Option ℕ) (s : SceneOf Hostile) (l : Line) (own : List Event) → let after : List Event = events_alone own (tried_by bad (done_line by_kind s l)) in (bad ≡ None → after ≡ own) × ((k : ℕ) → bad ≡ Some k → after ≡ [])
 alone-by None s l own = (λ e. refl, λ k e. absurd cc)
 alone-by (Some j) s l own = (λ e. absurd cc, λ k e. refl)
 
-tells-event : (s : Scene) (l : Line) → Tells s l (events_alone (events_of by_rule s l) (try_event s l))
-tells-event s l = alone-by (bad_kind s l) s l (events_of by_rule s l)
+tells-event : (s : SceneOf Hostile) (l : Line) → Tells s l (events_alone (events_of by_kind s l) (try_event s l))
+tells-event s l = alone-by (bad_kind s l) s l (events_of by_kind s l)
 
-tells-header : (h : Header) (l : Line) → Tells (opening (group_by h)) l (events_alone (events_of by_rule (opening (group_by h)) l) (try_header h l))
+tells-header : (h : Header) (l : Line) → Tells (opening_by h) l (events_alone (events_of by_kind (opening_by h) l) (try_header h l))
 tells-header h l =
-    header_so (λ (x : Line) (t : Tried). Tells (opening (group_by h)) x (events_alone (events_of by_rule (opening (group_by h)) x) t)) h
-    (λ digits. (λ e. refl, λ k e. refl)) (λ digits. (λ e. refl, λ k e. refl)) (λ e. refl, λ k e. refl) (tells-event (opening (group_by h))) l
+    header_so (λ (x : Line) (t : Tried). Tells (opening_by h) x (events_alone (events_of by_kind (opening_by h) x) t)) h
+    (λ digits. (λ e. refl, λ k e. refl)) (λ digits. (λ e. refl, λ k e. refl)) (λ name n only. (λ e. refl, λ k e. refl)) (λ name n. (λ e. refl, λ k e. refl)) (λ e. refl, λ k e. refl) (tells-event (opening_by h)) l
 
-own-none : (s : Scene) (text : List ℕ) → line_of (Some s.group.mode) text ≡ None → AddsItsOwn s text [] []
+own-none : (s : SceneOf Hostile) (text : List ℕ) → line_of (Some s.group.mode) text ≡ None → AddsItsOwn s text [] []
 own-none s text is = record {
   good = λ l e right. let spells : Some l ≡ None = sym e ∙ is in absurd cc;
   bad = λ l k e wrong. refl;
   other = λ e. refl;
 }
 
-own-some : (s : Scene) (text : List ℕ) (l : Line) (own : List Event) → line_of (Some s.group.mode) text ≡ Some l → Tells s l own → AddsItsOwn s text [] own
+own-some : (s : SceneOf Hostile) (text : List ℕ) (l : Line) (own : List Event) → line_of (Some s.group.mode) text ≡ Some l → Tells s l own → AddsItsOwn s text [] own
 own-some s text l own is tells =
     let told : (m : Line) → line_of (Some s.group.mode) text ≡ Some m → Tells s m own = λ m e. subst (λ x. Tells s x own) (same_Some l m (sym is ∙ e)) tells in
     record {
-      good = λ m e right. (told m e).0 right ∙ sym (append-nil (events_of by_rule s m));
+      good = λ m e right. (told m e).0 right ∙ sym (append-nil (events_of by_kind s m));
       bad = λ m k e wrong. (told m e).1 k wrong;
       other = λ e. let spells : Some l ≡ None = sym is ∙ e in absurd cc;
     }
 
-own-header : (h : Header) (text : List ℕ) (o : Option Line) → line_of (Some (group_by h).mode) text ≡ o → AddsItsOwn (opening (group_by h)) text [] (events_alone (line_events (Some (opening (group_by h))) o) (try_line (Heads h) o))
-own-header h text None is = own-none (opening (group_by h)) text is
-own-header h text (Some l) is = own-some (opening (group_by h)) text l _ is (tells-header h l)
+own-header : (h : Header) (text : List ℕ) (o : Option Line) → line_of (Some (group_by h).mode) text ≡ o → AddsItsOwn (opening_by h) text [] (events_alone (line_events (Some (opening_by h)) o) (try_line (Heads h) o))
+own-header h text None is = own-none (opening_by h) text is
+own-header h text (Some l) is = own-some (opening_by h) text l _ is (tells-header h l)
 
-own-event : (s : Scene) (text : List ℕ) (o : Option Line) → line_of (Some s.group.mode) text ≡ o → AddsItsOwn s text [] (events_alone (line_events (Some s) o) (try_line (Stands s) o))
+own-event : (s : SceneOf Hostile) (text : List ℕ) (o : Option Line) → line_of (Some s.group.mode) text ≡ o → AddsItsOwn s text [] (events_alone (line_events (Some s) o) (try_line (Stands s) o))
 own-event s text None is = own-none s text is
 own-event s text (Some l) is = own-some s text l _ is (tells-event s l)
 
@@ -99,7 +99,7 @@ own-event s text (Some l) is = own-some s text l _ is (tells-event s l)
 
 -- of a run, and the events before a line more and behind it
 record Adds (p : Played) (text : List ℕ) (before after : List Event) : Type 0 where
-  pub adds : p.bad ≡ None → (s : Scene) → p.scene ≡ Some s → AddsItsOwn s text before after
+  pub adds : p.bad ≡ None → (s : SceneOf Hostile) → p.scene ≡ Some s → AddsItsOwn s text before after
   pub ends : IsSome p.bad → after ≡ before
 
 adds-last : (n : ℕ) (place : Place) (text : List ℕ) → let l : Option Line = line_of (mode_in (scene_in place)) text in
@@ -109,7 +109,7 @@ adds-last n Before text = record {
   ends = λ bad. alone-none (try_line Before (line_of None text));
 }
 adds-last n (Heads h) text =
-    let s : Scene = opening (group_by h) in
+    let s : SceneOf Hostile = opening_by h in
     let own : List Event = events_alone (line_events (Some s) (line_of (Some s.group.mode) text)) (try_line (Heads h) (line_of (Some s.group.mode) text)) in
     record {
       adds = λ good t is. subst (λ x. AddsItsOwn x text [] own) (same_Some s t is) (own-header h text (line_of (Some s.group.mode) text) refl);
@@ -123,9 +123,9 @@ adds-last n (Stands s) text =
     }
 
 -- behind other events
-own-behind : (s : Scene) (text : List ℕ) (before after own : List Event) → AddsItsOwn s text before after → AddsItsOwn s text (before ++ own) (after ++ own)
+own-behind : (s : SceneOf Hostile) (text : List ℕ) (before after own : List Event) → AddsItsOwn s text before after → AddsItsOwn s text (before ++ own) (after ++ own)
 own-behind s text before after own h = record {
-  good = λ l e right. ap (λ es. es ++ own) (h.good l e right) ∙ append_assoc (events_of by_rule s l) before own;
+  good = λ l e right. ap (λ es. es ++ own) (h.good l e right) ∙ append_assoc (events_of by_kind s l) before own;
   bad = λ l k e wrong. ap (λ es. es ++ own) (h.bad l k e wrong);
   other = λ e. ap (λ es. es ++ own) (h.other e);
 }

@@ -1,102 +1,158 @@
 -- The events of a script's lines lead to where its run ends.
-use Rattle.std.proofs.Common.{◌≡◌, ℕ, ◌+◌, ◌<◌, ◌^◌, Bool, true, false, List, [], ◌∷◌, ◌++◌, length, take, Option, Some, None, refl, sym, ap, subst, ◌∙◌, arith}
-use Rattle.std.specs.Prelude.{if◌then◌else◌, nat_lt}
+use Rattle.std.proofs.Common.{◌≡◌, ℕ, ◌+◌, ◌<◌, ◌^◌, Bool, true, false, List, [], ◌∷◌, ◌++◌, length, take, Option, Some, None, inl, inr, refl, sym, ap, subst, ◌∙◌, arith}
+use Rattle.std.specs.Prelude.{◌⊎◌, if◌then◌else◌, unwrap_or, nat_lt}
 use Rattle.std.specs.List.{AllByRecursion}
 use Rattle.std.proofs.lemmas.List.{length-take, append-nil, append_assoc}
+use Rattle.vic_dict.specs.Lists.{IsIn}
 use Rattle.vic_dict.specs.declared.op.Mode.{Mode}
 use Rattle.vic_dict.specs.declared.op.Mode.TheVariants as mode
-use Rattle.vic_wire.specs.Hashes.{Group}
 use Rattle.vic_honest.proofs.Events.{after-group}
-use Rattle.vic_order.specs.Serving.{by_rule}
-use Rattle.vic_order.specs.Honest.{scene_after}
-use Rattle.vic_order.specs.Scenes.{Scene, opening, Event, after_events, MayAllHappen}
+use Rattle.vic_laws.proofs.Words.{in_left}
+use Rattle.vic_order.specs.Scenes.{SceneOf, Event, after_events, MayAllHappen}
+use Rattle.vic_attacks.specs.Hostile.{Hostile, by_kind}
 use Rattle.vic_script.specs.declared.line.Line.{Line}
-use Rattle.vic_script.specs.Lines.{lines_of, line_of}
+use Rattle.vic_script.specs.declared.line.Line.TheVariants as line
+use Rattle.vic_script.specs.Lines.{lines_of, line_of, kind_named}
 use Rattle.vic_script.specs.Scenes.{events_of, done_line, bad_kind}
-use Rattle.vic_script.specs.Run.{limit, group_by, Place, Before, Heads, Stands, scene_in, Played, stops, Tried, Fails, Does, tried_by, try_event, try_line, mode_in, follow, place_behind, play, run_of}
+use Rattle.vic_script.specs.Run.{limit, Bad, Attack, no_attack, Header, opening_as, opening_by, Place, Before, Heads, Stands, scene_in, Played, stops, Tried, Fails, Does, tried_by, try_event, try_line, mode_in, follow, place_behind, bad_end, play, run_of}
 use Rattle.vic_runs.specs.Claims.{FitsLine}
 use Rattle.vic_runs.specs.Reached.{IsReached}
 use Rattle.vic_runs.proofs.Events.{after-joined, may-joined, good-joined}
-use Rattle.vic_runs.proofs.Headers.{first_so, header_so}
+use Rattle.vic_runs.proofs.Headers.{turned, first_so, header_so}
 use Rattle.vic_runs.proofs.Lines.{few_calls, line-may}
 use Rattle.vic_runs.proofs.Lists.{all_each}
 use Rattle.vic_runs.proofs.Reached.{reached-seated}
 use Rattle.vic_runs.proofs.Runs.{ReachedIn, TriedReaches, tried}
 use Rattle.vic_runs.proofs.Words.{FitsIn, text_fits, length-lines_of}
 use Rattle.vic_script_runs.specs.Events.{line_events, events_then, events_from, script_events}
-use Rattle.vic_script_runs.specs.Claims.{ComesOf, ScriptsComeOfTheirLines}
+use Rattle.vic_script_runs.specs.Claims.{attack_in, attacks_in, attacks_of, ScriptsComeOfTheirLines}
+use Rattle.vic_script_runs.proofs.Attacks.{names_alike, first_names_none, good_names_none, IsNamed, turned_named}
+
+-- ---- what lines named, and lines that follow
+
+-- it is named among others
+abbrev pub IsAmong : List Attack → Option Attack → Type 0
+IsAmong named None = Unit {0}
+IsAmong named (Some a) = IsIn named a
+
+among_more : (named more : List Attack) (o : Option Attack) → IsNamed named o → IsAmong (named ++ more) o
+among_more named more None h = tt
+among_more named more (Some a) h = in_left named more a (subst (λ list. IsIn list a) (sym h) (inl refl))
+
+none_more : (named own : List Attack) → own ≡ [] → named ++ own ≡ named
+none_more named own none = ap (λ list. named ++ list) none ∙ append-nil named
+
+-- what a line of a text names, where a script stands in a scene, or before
+abbrev NamesIn : Option (SceneOf Hostile) → Option Line → List Attack → Type 0
+NamesIn None l own = (m : Line) → l ≡ Some m → own ≡ []
+NamesIn (Some s) l own = own ≡ attack_in l
+
+names_in : (scene : Option (SceneOf Hostile)) (text : List ℕ) → NamesIn scene (line_of (mode_in scene) text) (attack_in (line_of (Some mode.Plain) text))
+names_in None text = first_names_none text
+names_in (Some s) text = names_alike s.group.mode text
 
 -- what holds of each event, and of a line that makes only such events, of each text in both modes or in none
-module _ (Each : Event → Type 0) (Good : Option Line → Type 0) (makes : (s : Scene) (l : Line) → Good (Some l) → AllByRecursion Each (events_of by_rule s l))
+module _ (Each : Event → Type 0) (Good : Option Line → Type 0) (makes : (s : SceneOf Hostile) (l : Line) → Good (Some l) → AllByRecursion Each (events_of by_kind s l))
     (in_each : (kind : Mode) (text : List ℕ) → Good (line_of (Some mode.Plain) text) → Good (line_of (Some kind) text)) where
-  -- a scene comes of such events
-  pub record ComesOfEach (s : Scene) (events : List Event) : Type 0 where
-    pub comes : ComesOf s events
+  -- a scene comes of such events, from the opening with a server that misbehaves so
+  pub record ComesOfEach (turned : Option Attack) (s : SceneOf Hostile) (events : List Event) : Type 0 where
+    pub may : MayAllHappen by_kind (opening_as s.group (unwrap_or turned no_attack)) events
+    pub is : s ≡ after_events by_kind (opening_as s.group (unwrap_or turned no_attack)) events
     pub each : AllByRecursion Each events
 
-  -- where a script stands behind such events; none was made before its header has ended
-  abbrev StandsBehind : Place → List Event → Type 0
-  StandsBehind Before events = events ≡ []
-  StandsBehind (Heads h) events = events ≡ []
-  StandsBehind (Stands s) events = ComesOfEach s events
+  -- where a script stands behind such events, and behind lines that named such attacks; no event was made before its header has ended
+  abbrev StandsBehind : Place → List Event → List Attack → Type 0
+  StandsBehind Before events named = (events ≡ []) × (named ≡ [])
+  StandsBehind (Heads h) events named = (events ≡ []) × IsNamed named h.hostile
+  StandsBehind (Stands s) events named = (turned : Option Attack) × ComesOfEach turned s events × IsNamed named turned
 
-  -- so a run leaves off
-  abbrev EndsBehind : Option Scene → List Event → Type 0
-  EndsBehind None events = events ≡ []
-  EndsBehind (Some s) events = ComesOfEach s events
+  -- so a run leaves off: it ends in a scene, maybe by a bad line, and all its lines named such attacks
+  pub record Ends (s : SceneOf Hostile) (bad : Option Bad) (events : List Event) (named : List Attack) : Type 0 where
+    pub turned : Option Attack
+    pub comes : ComesOfEach turned s events
+    pub among : IsAmong named turned
+    pub whole : bad ≡ None → IsNamed named turned
 
-  opens : (g : Group) (events : List Event) → events ≡ [] → ComesOfEach (opening g) events
-  opens g events none = subst (ComesOfEach (opening g)) (sym none) (record { comes = record { may = tt; is = refl }; each = tt })
+  abbrev EndsBehind : Option (SceneOf Hostile) → Option Bad → List Event → List Attack → Type 0
+  EndsBehind None bad events named = events ≡ []
+  EndsBehind (Some s) bad events named = Ends s bad events named
 
-  ends : (place : Place) (events : List Event) → StandsBehind place events → EndsBehind (scene_in place) events
-  ends Before events h = h
-  ends (Heads h) events none = opens (group_by h) events none
-  ends (Stands s) events h = h
+  opens : (h : Header) (events : List Event) → events ≡ [] → ComesOfEach h.hostile (opening_by h) events
+  opens h events none = subst (ComesOfEach h.hostile (opening_by h)) (sym none) (record { may = tt; is = refl; each = tt })
+
+  -- a bad line ends it, whatever the lines behind name
+  stopped : (place : Place) (bad : Bad) (events : List Event) (named more : List Attack) → StandsBehind place events named → EndsBehind (scene_in place) (Some bad) events (named ++ more)
+  stopped Before bad events named more h = h.0
+  stopped (Heads k) bad events named more h = record { turned = k.hostile; comes = opens k events h.0; among = among_more named more k.hostile h.1; whole = λ good. absurd cc }
+  stopped (Stands s) bad events named more h = record { turned = h.0; comes = h.1; among = among_more named more h.0 h.2; whole = λ good. absurd cc }
+
+  -- no line is left
+  done : (number : ℕ) (place : Place) (events : List Event) (named : List Attack) → StandsBehind place events named → EndsBehind (scene_in place) (bad_end number place) events (named ++ [])
+  done number Before events named h = h.0
+  done number (Heads k) events named h =
+      record { turned = k.hostile; comes = opens k events h.0; among = among_more named [] k.hostile h.1; whole = λ good. subst (λ list. IsNamed list k.hostile) (sym (append-nil named)) h.1 }
+  done number (Stands s) events named h =
+      record { turned = h.0; comes = h.1; among = among_more named [] h.0 h.2; whole = λ good. subst (λ list. IsNamed list h.0) (sym (append-nil named)) h.2 }
 
   -- ---- a line
 
   -- more events that may happen
-  more : (s : Scene) (later before : List Event) → MayAllHappen by_rule s later → AllByRecursion Each later → ComesOfEach s before → ComesOfEach (after_events by_rule s later) (later ++ before)
-  more s later before may each h =
-      let next : Scene = after_events by_rule s later in
-      let same : s.group ≡ next.group = sym (after-group by_rule s later) in
+  more : (turned : Option Attack) (s : SceneOf Hostile) (later before : List Event) → MayAllHappen by_kind s later → AllByRecursion Each later → ComesOfEach turned s before
+      → ComesOfEach turned (after_events by_kind s later) (later ++ before)
+  more turned s later before may each h =
+      let a : Attack = unwrap_or turned no_attack in
+      let next : SceneOf Hostile = after_events by_kind s later in
+      let same : s.group ≡ next.group = sym (after-group by_kind s later) in
       record {
-        comes = record {
-          may = subst (λ g. MayAllHappen by_rule (opening g) (later ++ before)) same (may-joined by_rule (opening s.group) later before h.comes.may (subst (λ t. MayAllHappen by_rule t later) h.comes.is may));
-          is = ap (λ t. after_events by_rule t later) h.comes.is ∙ (sym (after-joined by_rule (opening s.group) later before) ∙ ap (λ g. scene_after g (later ++ before)) same);
-        };
-        each = good-joined by_rule Each later before each h.each;
+        may = subst (λ g. MayAllHappen by_kind (opening_as g a) (later ++ before)) same (may-joined by_kind (opening_as s.group a) later before h.may (subst (λ t. MayAllHappen by_kind t later) h.is may));
+        is = ap (λ t. after_events by_kind t later) h.is ∙ (sym (after-joined by_kind (opening_as s.group a) later before) ∙ ap (λ g. after_events by_kind (opening_as g a) (later ++ before)) same);
+        each = good-joined by_kind Each later before each h.each;
       }
 
   -- a line that was tried is bad, or the script stands behind its events
-  abbrev LeadsOn : Tried → List Event → Type 0
-  LeadsOn (Fails k) events = Unit {0}
-  LeadsOn (Does next text) events = StandsBehind next events
+  abbrev LeadsOn : Tried → List Event → List Attack → Type 0
+  LeadsOn (Fails k) events named = Unit {0}
+  LeadsOn (Does next text) events named = StandsBehind next events named
 
-  leads-by : (bad : Option ℕ) (s : Scene) (l : Line) (events : List Event) → (bad ≡ None → ComesOfEach (done_line by_rule s l).scene events) → LeadsOn (tried_by bad (done_line by_rule s l)) events
-  leads-by None s l events h = h refl
-  leads-by (Some k) s l events h = tt
+  leads-by : (bad : Option ℕ) (s : SceneOf Hostile) (l : Line) (events : List Event) (named : List Attack)
+      → (bad ≡ None → (turned : Option Attack) × ComesOfEach turned (done_line by_kind s l).scene events × IsNamed named turned) → LeadsOn (tried_by bad (done_line by_kind s l)) events named
+  leads-by None s l events named h = h refl
+  leads-by (Some k) s l events named h = tt
 
-  leads-event : (s : Scene) (l : Line) (n : ℕ) (before : List Event) → IsReached s n → n + 1 < 2 ^ 32 → FitsLine l → Good (Some l) → ComesOfEach s before → LeadsOn (try_event s l) (events_of by_rule s l ++ before)
-  leads-event s l n before r few fits good h =
-      leads-by (bad_kind s l) s l (events_of by_rule s l ++ before) (λ right.
-      more s (events_of by_rule s l) before (line-may by_rule s l (reached-seated s n r) r.lawful (few_calls s n r.calls few l) right fits) (makes s l good) h)
+  leads-event : (s : SceneOf Hostile) (l : Line) (n : ℕ) (before : List Event) (named own : List Attack) (turned : Option Attack) → IsReached s n → n + 1 < 2 ^ 32 → FitsLine l → Good (Some l) → own ≡ attack_in (Some l)
+      → ComesOfEach turned s before → IsNamed named turned → LeadsOn (try_event s l) (events_of by_kind s l ++ before) (named ++ own)
+  leads-event s l n before named own turned r few fits good names comes is =
+      leads-by (bad_kind s l) s l (events_of by_kind s l ++ before) (named ++ own) (λ right. (
+        turned,
+        more turned s (events_of by_kind s l) before (line-may by_kind s l (reached-seated s n r) r.lawful (few_calls s n r.calls few l) right fits) (makes s l good) comes,
+        subst (λ list. IsNamed list turned) (sym (none_more named own (names ∙ good_names_none s l right))) is,
+      ))
 
   -- once a script has opened its lines are good
-  abbrev GoodFor : Option Scene → Option Line → Type 0
+  abbrev GoodFor : Option (SceneOf Hostile) → Option Line → Type 0
   GoodFor None l = Unit {0}
   GoodFor (Some s) l = Good l
 
-  leads : (place : Place) (l : Option Line) (n : ℕ) (before : List Event) → ReachedIn (scene_in place) n → n + 1 < 2 ^ 32 → FitsIn l → GoodFor (scene_in place) l → StandsBehind place before
-      → LeadsOn (try_line place l) (line_events (scene_in place) l ++ before)
-  leads Before None n before r few fits good h = tt
-  leads Before (Some l) n before r few fits good h = first_so (λ (x : Line) (t : Tried). LeadsOn t before) (λ count. h) (λ count. h) h (λ x. tt) l
-  leads (Heads k) None n before r few fits good h = tt
-  leads (Heads k) (Some l) n before r few fits good h =
-      header_so (λ (x : Line) (t : Tried). FitsLine x → Good (Some x) → LeadsOn t (events_of by_rule (opening (group_by k)) x ++ before)) k
-      (λ digits is so. h) (λ digits is so. tt) (λ is so. h) (λ x is so. leads-event (opening (group_by k)) x n before r few is so (opens (group_by k) before h)) l fits good
-  leads (Stands s) None n before r few fits good h = tt
-  leads (Stands s) (Some l) n before r few fits good h = leads-event s l n before r few fits good h
+  -- in a header that named no attack yet a line names one
+  turns : (k : Header) (name : List ℕ) (n : ℕ) (named own : List Attack) → k.hostile ≡ None → own ≡ attack_in (Some (line.Hostile name n)) → IsNamed named k.hostile → IsNamed (named ++ own) (turned k name n).hostile
+  turns k name n named own only names is =
+      let first : named ≡ [] = subst (IsNamed named) only is in
+      subst (λ list. IsNamed list (turned k name n).hostile) (sym (ap (λ list. list ++ own) first ∙ names)) (turned_named n (kind_named name))
+
+  leads : (place : Place) (l : Option Line) (n : ℕ) (before : List Event) (named own : List Attack) → ReachedIn (scene_in place) n → n + 1 < 2 ^ 32 → FitsIn l → GoodFor (scene_in place) l → NamesIn (scene_in place) l own
+      → StandsBehind place before named → LeadsOn (try_line place l) (line_events (scene_in place) l ++ before) (named ++ own)
+  leads Before None n before named own r few fits good names h = tt
+  leads Before (Some l) n before named own r few fits good names h =
+      let none : named ++ own ≡ [] = none_more named own (names l refl) ∙ h.1 in
+      first_so (λ (x : Line) (t : Tried). LeadsOn t before (named ++ own)) (λ count. (h.0, none)) (λ count. (h.0, none)) (h.0, none) (λ x. tt) l
+  leads (Heads k) None n before named own r few fits good names h = tt
+  leads (Heads k) (Some l) n before named own r few fits good names h =
+      let same : own ≡ [] → IsNamed (named ++ own) k.hostile = λ none. subst (λ list. IsNamed list k.hostile) (sym (none_more named own none)) h.1 in
+      header_so (λ (x : Line) (t : Tried). FitsLine x → Good (Some x) → own ≡ attack_in (Some x) → LeadsOn t (events_of by_kind (opening_by k) x ++ before) (named ++ own)) k
+      (λ digits is so names. (h.0, same names)) (λ digits is so names. tt) (λ name j only is so names. (h.0, turns k name j named own only names h.1)) (λ name j is so names. tt) (λ is so names. (h.0, same names))
+      (λ x is so names. leads-event (opening_by k) x n before named own k.hostile r few is so names (opens k before h.0) h.1) l fits good names
+  leads (Stands s) None n before named own r few fits good names h = tt
+  leads (Stands s) (Some l) n before named own r few fits good names h = leads-event s l n before named own h.0 r few fits good names h.1 h.2
 
   -- ---- all lines
 
@@ -104,52 +160,61 @@ module _ (Each : Event → Type 0) (Good : Option Line → Type 0) (makes : (s :
   abbrev IsGoodText : List ℕ → Type 0
   IsGoodText text = Good (line_of (Some mode.Plain) text)
 
-  good_for : (scene : Option Scene) (n : ℕ) (text : List ℕ) → ReachedIn scene n → IsGoodText text → GoodFor scene (line_of (mode_in scene) text)
+  good_for : (scene : Option (SceneOf Hostile)) (n : ℕ) (text : List ℕ) → ReachedIn scene n → IsGoodText text → GoodFor scene (line_of (mode_in scene) text)
   good_for None n text r good = tt
   good_for (Some s) n text r good = in_each s.group.mode text good
 
-  either : (b : Bool) (x y : Played) (events others before : List Event) → EndsBehind x.scene (events ++ before) → EndsBehind y.scene (others ++ before)
-      → EndsBehind (if b then x else y).scene ((if b then events else others) ++ before)
-  either true x y events others before h k = h
-  either false x y events others before h k = k
+  either : (b : Bool) (x y : Played) (events others before : List Event) (named : List Attack) → EndsBehind x.scene x.bad (events ++ before) named → EndsBehind y.scene y.bad (others ++ before) named
+      → EndsBehind (if b then x else y).scene (if b then x else y).bad ((if b then events else others) ++ before) named
+  either true x y events others before named h k = h
+  either false x y events others before named h k = k
 
-  followed : (number n : ℕ) (place : Place) (t : Tried) (own before : List Event) (rest : Place → Played) (later : Place → List Event) → StandsBehind place before → TriedReaches t (n + 1) → LeadsOn t (own ++ before)
-      → ((next : Place) → ReachedIn (scene_in next) (n + 1) → StandsBehind next (own ++ before) → EndsBehind (rest next).scene (later next ++ (own ++ before)))
-      → EndsBehind (follow number place t rest).scene (events_then own t later ++ before)
-  followed number n place (Fails k) own before rest later h r on each = ends place before h
-  followed number n place (Does next text) own before rest later h r on each =
-      subst (EndsBehind (rest next).scene) (sym (append_assoc (later next) own before)) (each next r on)
+  followed : (number n : ℕ) (place : Place) (t : Tried) (own before : List Event) (named names others : List Attack) (rest : Place → Played) (later : Place → List Event)
+      → StandsBehind place before named → TriedReaches t (n + 1) → LeadsOn t (own ++ before) (named ++ names)
+      → ((next : Place) → ReachedIn (scene_in next) (n + 1) → StandsBehind next (own ++ before) (named ++ names) → EndsBehind (rest next).scene (rest next).bad (later next ++ (own ++ before)) ((named ++ names) ++ others))
+      → EndsBehind (follow number place t rest).scene (follow number place t rest).bad (events_then own t later ++ before) (named ++ (names ++ others))
+  followed number n place (Fails k) own before named names others rest later h r on each = stopped place (record { number = number; kind = k }) before named (names ++ others) h
+  followed number n place (Does next text) own before named names others rest later h r on each =
+      subst (EndsBehind (rest next).scene (rest next).bad (later next ++ own ++ before)) (append_assoc named names others)
+      (subst (λ events. EndsBehind (rest next).scene (rest next).bad events ((named ++ names) ++ others)) (sym (append_assoc (later next) own before)) (each next r on))
 
-  played : (total behind number n : ℕ) (place : Place) (texts : List (List ℕ)) (before : List Event) → ReachedIn (scene_in place) n → n + length texts < 2 ^ 32 → AllByRecursion IsGoodText texts → StandsBehind place before
-      → EndsBehind (play total behind number place texts).scene (events_from total behind place texts ++ before)
+  played : (total behind number n : ℕ) (place : Place) (texts : List (List ℕ)) (before : List Event) (named : List Attack) → ReachedIn (scene_in place) n → n + length texts < 2 ^ 32 → AllByRecursion IsGoodText texts
+      → StandsBehind place before named
+      → EndsBehind (play total behind number place texts).scene (play total behind number place texts).bad (events_from total behind place texts ++ before) (named ++ attacks_in texts)
   unfolding play events_from
-  played total behind number n place [] before r few good h = ends place before h
-  played total behind number n place (text ∷ texts) before r few good h =
+  played total behind number n place [] before named r few good h = done number place before named h
+  played total behind number n place (text ∷ texts) before named r few good h =
       let next_behind : ℕ = place_behind total behind text in
       let l : Option Line = line_of (mode_in (scene_in place)) text in
       let t : Tried = try_line place l in
       let own : List Event = line_events (scene_in place) l in
+      let names : List Attack = attack_in (line_of (Some mode.Plain) text) in
       let rest : Place → Played = λ next. play total next_behind (number + 1) next texts in
       let later : Place → List Event = λ next. events_from total next_behind next texts in
       let fits : FitsIn l = text_fits (mode_in (scene_in place)) text in
       let short : n + 1 < 2 ^ 32 = omega (arith, few) in
-      either (nat_lt limit next_behind) (stops place number 7) (follow number place t rest) [] (events_then own t later) before (ends place before h)
-      (followed number n place t own before rest later h (tried place l n r short fits) (leads place l n before r short fits (good_for (scene_in place) n text r good.0) h)
-      (λ next reached on. played total next_behind (number + 1) (n + 1) next texts (own ++ before) reached (omega (arith, few)) good.1 on))
+      let all : List Attack = named ++ (names ++ attacks_in texts) in
+      either (nat_lt limit next_behind) (stops place number 7) (follow number place t rest) [] (events_then own t later) before all
+      (stopped place (record { number = number; kind = 7 }) before named (names ++ attacks_in texts) h)
+      (followed number n place t own before named names (attacks_in texts) rest later h (tried place l n r short fits)
+      (leads place l n before named names r short fits (good_for (scene_in place) n text r good.0) (names_in (scene_in place) text) h)
+      (λ next reached on. played total next_behind (number + 1) (n + 1) next texts (own ++ before) (named ++ names) reached (omega (arith, few)) good.1 on))
 
-  ends-run : (script : List ℕ) → AllByRecursion IsGoodText (lines_of (take (limit + 1) script)) → EndsBehind (run_of script).scene (script_events script)
+  ends-run : (script : List ℕ) → AllByRecursion IsGoodText (lines_of (take (limit + 1) script)) → EndsBehind (run_of script).scene (run_of script).bad (script_events script) (attacks_of script)
   unfolding run_of script_events
   ends-run script good =
       let known : List ℕ = take (limit + 1) script in
-      subst (EndsBehind (play (length known) 0 1 Before (lines_of known)).scene) (append-nil (events_from (length known) 0 Before (lines_of known)))
-      (played (length known) 0 1 0 Before (lines_of known) [] tt (omega (arith, length-take (limit + 1) script, length-lines_of known)) good refl)
+      let p : Played = play (length known) 0 1 Before (lines_of known) in
+      subst (λ events. EndsBehind p.scene p.bad events (attacks_of script)) (append-nil (events_from (length known) 0 Before (lines_of known)))
+      (played (length known) 0 1 0 Before (lines_of known) [] [] tt (omega (arith, length-take (limit + 1) script, length-lines_of known)) good (refl, refl))
 
-  ends-in : (scene : Option Scene) (events : List Event) → EndsBehind scene events → (s : Scene) → scene ≡ Some s → ComesOfEach s events
-  ends-in scene events h s is = subst (λ o. EndsBehind o events) is h
+  ends-in : (scene : Option (SceneOf Hostile)) (bad : Option Bad) (events : List Event) (named : List Attack) → EndsBehind scene bad events named → (s : SceneOf Hostile) → scene ≡ Some s → Ends s bad events named
+  ends-in scene bad events named h s is = subst (λ o. EndsBehind o bad events named) is h
 
   -- a script's events lead to its scene, and each is such a one
-  pub script_comes : (script : List ℕ) → AllByRecursion IsGoodText (lines_of (take (limit + 1) script)) → (s : Scene) → (run_of script).scene ≡ Some s → ComesOfEach s (script_events script)
-  script_comes script good s is = ends-in (run_of script).scene (script_events script) (ends-run script good) s is
+  pub script_comes : (script : List ℕ) → AllByRecursion IsGoodText (lines_of (take (limit + 1) script)) → (s : SceneOf Hostile) → (run_of script).scene ≡ Some s
+      → Ends s (run_of script).bad (script_events script) (attacks_of script)
+  script_comes script good s is = ends-in (run_of script).scene (run_of script).bad (script_events script) (attacks_of script) (ends-run script good) s is
 
 -- ---- every script
 
@@ -162,8 +227,25 @@ any events = all_each Any (λ m. tt) events
 abbrev AnyLine : Option Line → Type 0
 AnyLine l = Unit {0}
 
-makes_any : (s : Scene) (l : Line) → AnyLine (Some l) → AllByRecursion Any (events_of by_rule s l)
-makes_any s l good = any (events_of by_rule s l)
+makes_any : (s : SceneOf Hostile) (l : Line) → AnyLine (Some l) → AllByRecursion Any (events_of by_kind s l)
+makes_any s l good = any (events_of by_kind s l)
+
+-- what is named among others is one of them, or there is none
+pub among_is : (named : List Attack) (turned : Option Attack) → IsAmong named turned → (unwrap_or turned no_attack ≡ no_attack) ⊎ IsIn named (unwrap_or turned no_attack)
+among_is named None h = inl refl
+among_is named (Some a) h = inr h
+
+named_is : (named : List Attack) (turned : Option Attack) → IsNamed named turned → ((named ≡ []) × (unwrap_or turned no_attack ≡ no_attack)) ⊎ (named ≡ unwrap_or turned no_attack ∷ [])
+named_is named None h = inl (h, refl)
+named_is named (Some a) h = inr h
 
 pub scripts_come : ScriptsComeOfTheirLines
-scripts_come script s is = (script_comes Any AnyLine makes_any (λ kind text good. tt) script (all_each (λ text. Unit {0}) (λ text. tt) (lines_of (take (limit + 1) script))) s is).comes
+scripts_come script s is =
+    let e = script_comes Any AnyLine makes_any (λ kind text good. tt) script (all_each (λ text. Unit {0}) (λ text. tt) (lines_of (take (limit + 1) script))) s is in
+    record {
+      hostile = unwrap_or e.turned no_attack;
+      may = e.comes.may;
+      is = e.comes.is;
+      named = among_is (attacks_of script) e.turned e.among;
+      whole = λ good. named_is (attacks_of script) e.turned (e.whole good);
+    }

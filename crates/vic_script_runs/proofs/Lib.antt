@@ -1,3 +1,4 @@
+pub mod Attacks
 pub mod Leading
 pub mod Honest
 mod Adding

@@ -1,17 +1,17 @@
 -- The events of a script: those of its lines, one line after the other, up to the first bad one.
 use Rattle.std.specs.Prelude.{ℕ, ◌+◌, List, [], ◌∷◌, ◌++◌, length, take, Option, Some, None, nat_lt, if◌then◌else◌}
-use Rattle.vic_order.specs.Serving.{by_rule}
-use Rattle.vic_order.specs.Scenes.{Scene, Event}
+use Rattle.vic_order.specs.Scenes.{SceneOf, Event}
+use Rattle.vic_attacks.specs.Hostile.{Hostile, by_kind}
 use Rattle.vic_script.specs.declared.line.Line.{Line}
 use Rattle.vic_script.specs.Lines.{lines_of, line_of}
 use Rattle.vic_script.specs.Scenes.{events_of}
 use Rattle.vic_script.specs.Run.{limit, Place, Before, scene_in, Tried, Fails, Does, try_line, mode_in, place_behind}
 
 -- the events of a line in the scene where a script stands; before its header has begun there are none
-abbrev pub line_events : Option Scene → Option Line → List Event
+abbrev pub line_events : Option (SceneOf Hostile) → Option Line → List Event
 line_events None l = []
 line_events (Some s) None = []
-line_events (Some s) (Some l) = events_of by_rule s l
+line_events (Some s) (Some l) = events_of by_kind s l
 
 -- a bad line has none, and ends them; those of another line stand behind those of the lines that follow it
 abbrev pub events_then : List Event → Tried → (Place → List Event) → List Event
