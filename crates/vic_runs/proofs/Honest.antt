@@ -78,6 +78,11 @@ module _ {V : Type 0} (R : V → Server → Type 0) where
     up_bytes = all-replicate HoldsBytes g.count [] tt;
   }
 
+  -- no event was made then
+  pub honest-opening_none : (g : Group) (server : V) (group : IsGroup g) (same : R server (fresh_server g.mode g.count ready)) → (honest-opening g server group same).comes.events ≡ []
+  unfolding honest-opening
+  honest-opening_none g server group same = refl
+
   -- ---- a client is asked
 
   -- what a client sends joins its requests
