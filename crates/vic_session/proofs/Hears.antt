@@ -1,5 +1,5 @@
 -- A client takes a payload.
-use Rattle.std.proofs.Common.{◌≡◌, ℕ, ◌≤◌, Bool, true, false, ◌&&◌, List, ◌++◌, Option, Some, None, is_none, Result, Ok, Err, if◌then◌else◌, refl, sym, ap, subst, ◌∙◌, append_assoc, append-nil, arith}
+use Rattle.std.proofs.Common.{◌≡◌, ℕ, ◌≤◌, Bool, true, false, ◌&&◌, List, ◌++◌, Option, Some, None, is_none, Result, Ok, Err, OnErr, inr, if◌then◌else◌, refl, sym, ap, subst, ◌∙◌, append_assoc, append-nil, arith}
 use Rattle.vic_dict.specs.declared.op.Outcome.{Outcome}
 use Rattle.vic_rules.specs.declared.object.ObjectOutcome.{ObjectOutcome}
 use Rattle.vic_dict.specs.declared.bytes.NoMemory.{NoMemory}
@@ -13,7 +13,8 @@ use Rattle.vic_client.specs.Shows.{Shows}
 use Rattle.vic_session.specs.declared.place.At.TheVariants as at
 use Rattle.vic_session.specs.declared.place.Place.{Place}
 use Rattle.vic_session.specs.Talks.{Talk, Talker, steps, one_of, sent_in, hears, goes_from, ends_line, outcome_lines, returned_in, object_in, digest_of, is_idle as rests}
-use Rattle.vic_session.specs.Talking.{On, Went, GoesTo, IsDoing, Heard, Stands, PrintsFront, calls_of}
+use Rattle.vic_session.specs.Sessions.{IsLeftAt}
+use Rattle.vic_session.specs.Talking.{On, Went, GoesTo, IsDoing, Heard, Stands, PrintsFront, IsShortOf, calls_of}
 use Rattle.vic_session.proofs.Steps.{moved, standing_step, sent_step, heard, halted_none, sends_busy}
 use Rattle.vic_session.proofs.Begins.{move_is, sent_is, stands_on}
 use Rattle.vic_session.proofs.Extends.{after_step, hears_is, extends_hears}
@@ -43,6 +44,12 @@ pub few_after : (c new : Kept) (number : ℕ) (payload : List ℕ) (r : Step) �
 few_after c new number payload r so shows =
     let most = (heard (record { mode = c.mode; count = c.count; key = c.key }) c.id so.0 payload).calls in
     omega (arith, so.1.1, most, shows.stands.calls)
+
+-- where memory runs out behind the step, the client stands there
+pub short_behind : (w : Talker) (t : Talk) (start payload : List ℕ) (r : Step) (c new : Kept) (p : Place) (out : List ℕ) → Heard w t start payload r c p out → (result : Result (Option (List ℕ)) NoMemory)
+    → OnErr result (new ≡ c) → OnErr result (IsShortOf w t payload new)
+short_behind w t start payload r c new p out h (Ok sent) e = e
+short_behind w t start payload r c new p out h (Err none) e = inr (subst (λ (k : Kept). IsLeftAt w.group w.me (steps w t (input.Payload payload)).now k) (sym e) (h.me, (h.group, h.stands_so)))
 
 module _ (w : Talker) (t : Talk) (start payload : List ℕ) (r : Step) (c : Kept) (p : Place) (out : List ℕ) (h : Heard w t start payload r c p out) where
   u : Talk

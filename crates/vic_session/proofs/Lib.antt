@@ -7,6 +7,7 @@ pub mod Hears
 pub mod Lawful
 pub mod Lined
 pub mod Sessions
+pub mod Short
 pub mod Steps
 pub mod Streams
 pub mod Told

@@ -4,7 +4,9 @@ use Rattle.std.specs.Prelude.{codes}
 use Rattle.vic_wire.specs.Hashes.{Group}
 use Rattle.vic_wire.specs.declared.message.ToClient.TheVariants as say
 use Rattle.vic_wire.specs.Reading.{read_answer}
+use Rattle.vic_rules.specs.declared.trace.Input.TheVariants as input
 use Rattle.vic_rules.specs.Client.{Standing, at_start}
+use Rattle.vic_rules.specs.History.{standing}
 use Rattle.vic_client.specs.Kept.{Kept, StandsFor, group_of}
 use Rattle.vic_conn.specs.Frames.{frames_of}
 use Rattle.vic_ports.specs.Written.{AppendedAll, AppendedFront}
@@ -18,13 +20,15 @@ use Rattle.vic_session.specs.declared.end.SessionEnd.TheVariants as ends
 use Rattle.vic_session.specs.declared.place.At.{At}
 use Rattle.vic_session.specs.declared.place.At.TheVariants as at
 use Rattle.vic_session.specs.declared.place.Place.{Place}
-use Rattle.vic_session.specs.Talks.{Talk, Talker, Doing, Leaves, goes_on, hears, fresh, opening, talk, talker, one_of, sent_in}
-use Rattle.vic_session.specs.Talking.{On, Went, GoesTo, IsDoing, IsBusy, PrintsFront}
+use Rattle.vic_session.specs.Talks.{Talk, Talker, Doing, Leaves, goes_on, steps, hears, fresh, opening, talk, talker, one_of, sent_in}
+use Rattle.vic_session.specs.Talking.{On, Went, GoesTo, IsDoing, IsBusy, PrintsFront, IsShortOf}
 use Rattle.vic_session.specs.Wires.{frames, Asks}
-use Rattle.vic_session.specs.Sessions.{Stage, Greets, Talks, Goes_away, hello, bye, requests, Read, IsOver, IsOwed, IsAt, AllAwaited, EndsBy, Sent, Prints, printed_at, stands_at, IsLeftAt, StandsBehind, IsSessionOf}
+use Rattle.vic_session.specs.Sessions.{Stage, Greets, Talks, Goes_away, hello, bye, requests, Read, IsOver, IsOwed, IsAt, AllAwaited, EndsBy, Sent, Prints, printed_at, stands_at, IsLeftAt, IsLeftShort, StandsShort, StandsBehind, IsSessionOf}
 use Rattle.vic_session.specs.Running.{Greeted, JudgedHello, JudgedBye, Unanswered, PrintsBye, Parted, Left}
 use Rattle.vic_session.proofs.Told.{all_front, all_is_front, none_sent}
 use Rattle.vic_session.proofs.Extends.{extends_hears}
+use Rattle.vic_session.proofs.Short.{talk_there, reaches_on, reaches_step, reaches_behind, reaches_hears}
+use Rattle.vic_session.proofs.Steps.{sent_step}
 use Rattle.vic_session.proofs.Wires.{Wire, Failed, Cause, wire_start, wire_asked, wire_failed, splits_any, frames_more}
 
 abbrev end_for : WireFault → SessionEnd
@@ -57,25 +61,29 @@ owed_busy at.Leaves d b i o = b
 owed_busy (at.Bad k) d b i o = b
 owed_busy (at.Halts k h) d b i o = b
 
--- a client that stands there is left so, whatever the end is
-any_end : (end : SessionEnd) (g : Group) (me : ℕ) (s : Standing) (c : Kept) → IsLeftAt g me s c → StandsBehind end g me s c
-any_end ends.Ok g me s c here = here
-any_end (ends.BadLine n k) g me s c here = here
-any_end ends.LinkFault g me s c here = here
-any_end (ends.Halted k h) g me s c here = here
-any_end ends.BadFrame g me s c here = here
-any_end (ends.GreetingRefused r) g me s c here = here
-any_end ends.NoMemory g me s c here = tt
-
 module _ (g : Group) (me : ℕ) (script : List ℕ) (old : Told) (start : List ℕ) where
   talks : List (List ℕ) → Talk
   talks taken = talk (talker g me script) script taken
+
+  -- a client that has made all steps of its talk is left so, where memory ran out
+  short_all : (stage : Stage) (taken : List (List ℕ)) (new : Told) (kept : Kept) → IsLeftAt g me (stands_at stage (talk (talker g me script) script taken)) kept
+      → AppendedFront (frames (requests (talker g me script) (talk (talker g me script) script taken) stage)) old.written new.written → StandsShort stage g me script (talk (talker g me script) script taken) old new kept
+  short_all Greets taken new kept here sent = here
+  short_all Talks taken new kept here sent = record {
+    made = (talk (talker g me script) script taken).history;
+    unmade = [];
+    all = refl;
+    few = omega arith;
+    stands = subst (λ (s : Standing). IsLeftAt g me s kept) (talk_there g me script taken) here;
+    sent = sent;
+  }
+  short_all Goes_away taken new kept here sent = here
 
   -- an exchange failed
   failed : (f : WireFault) (new : Told) (stage : Stage) (ps taken : List (List ℕ)) (left printed : List ℕ) (kept : Kept) → Failed f old new ps left (requests (talker g me script) (talk (talker g me script) script taken) stage)
       → ((more : List (List ℕ)) → Read stage (ps ++ more) taken more) → AllAwaited (talker g me script) (opening (talker g me script) script) taken → IsAt stage (talk (talker g me script) script taken).doing
       → IsOwed stage (talk (talker g me script) script taken).doing → (stage ≡ Greets → left ≡ []) → printed ≡ start ++ printed_at stage (talk (talker g me script) script taken)
-      → StandsBehind (end_for f) g me (stands_at stage (talk (talker g me script) script taken)) kept → IsSessionOf g me script old start (end_for f) new printed kept
+      → IsLeftAt g me (stands_at stage (talk (talker g me script) script taken)) kept → IsSessionOf g me script old start (end_for f) new printed kept
   failed fault.Link new stage ps taken left printed kept x form awaited at owed none is stands = by_cause x.cause
     where
       reads : Read stage (frames_of x.read).0 taken x.more
@@ -101,7 +109,7 @@ module _ (g : Group) (me : ℕ) (script : List ℕ) (old : Told) (start : List �
     };
   }
   failed fault.NoMemory new stage ps taken left printed kept x form awaited at owed none is stands = record {
-    stands = stands;
+    stands = short_all stage taken new kept stands x.cause.1;
     did = record {
       read = x.read;
       took = x.took;
@@ -123,7 +131,7 @@ module _ (g : Group) (me : ℕ) (script : List ℕ) (old : Told) (start : List �
       → (AppendedAll (frames sent) old.written new.written → Sent end (frames (requests (talker g me script) (talk (talker g me script) script taken) stage)) old new)
       → Prints end (printed_at stage (talk (talker g me script) script taken)) start printed
       → ((rest : List ℕ) → new.faults ≡ old.faults → EndsBy end stage (talk (talker g me script) script taken) old new more rest)
-      → StandsBehind end g me (stands_at stage (talk (talker g me script) script taken)) kept → IsSessionOf g me script old start end new printed kept
+      → StandsBehind end stage g me script (talk (talker g me script) script taken) old new kept → IsSessionOf g me script old start end new printed kept
   ended end new stage ps taken more sent left printed kept i reads awaited at sends prints so stands = record {
     stands = stands;
     did = record {
@@ -152,8 +160,8 @@ module _ (g : Group) (me : ℕ) (script : List ℕ) (old : Told) (start : List �
   unanswered_hello ends.NoMemory after new kept here (inl same) =
       subst (λ (n : Told). IsSessionOf g me script old start ends.NoMemory n start kept) (sym same.0)
       (ended ends.NoMemory old Greets [] [] (frames_of []).0 [] [] start kept (wire_start old) (greets_form (frames_of []).0) tt tt (λ all. front_more [] (hello (talker g me []) ∷ []) old.written old.written all)
-      ([], [], (refl, sym (append-nil start))) (λ rest quiet. quiet) tt)
-  unanswered_hello ends.NoMemory after new kept here (inr a) = failed fault.NoMemory new Greets [] [] [] start kept (wire_failed old old [] [] [] (wire_start old) (Some (hello (talker g me []))) fault.NoMemory after new a) greets_form tt tt tt (λ e. refl) (sym (append-nil start)) tt
+      ([], [], (refl, sym (append-nil start))) (λ rest quiet. quiet) here)
+  unanswered_hello ends.NoMemory after new kept here (inr a) = failed fault.NoMemory new Greets [] [] [] start kept (wire_failed old old [] [] [] (wire_start old) (Some (hello (talker g me []))) fault.NoMemory after new a) greets_form tt tt tt (λ e. refl) (sym (append-nil start)) here
   unanswered_hello ends.Ok after new kept here a = absurd a
   unanswered_hello (ends.BadLine n k) after new kept here a = absurd a
   unanswered_hello (ends.Halted k h) after new kept here a = absurd a
@@ -173,7 +181,7 @@ module _ (g : Group) (me : ℕ) (script : List ℕ) (old : Told) (start : List �
           (λ rest quiet. (inr (j.0, (p, (refl, (j.1.0, j.1.1)))), quiet)) here
       by_end ends.NoMemory j =
           ended ends.NoMemory new Greets (p ∷ []) [] (p ∷ (frames_of after).0) (hello (talker g me []) ∷ []) after start kept wire (refl, refl) tt tt
-          (λ all. all_is_front (frames (hello (talker g me []) ∷ [])) old.written new.written all) ([], [], (refl, sym (append-nil start))) (λ rest quiet. quiet) tt
+          (λ all. all_is_front (frames (hello (talker g me []) ∷ [])) old.written new.written all) ([], [], (refl, sym (append-nil start))) (λ rest quiet. quiet) here
       by_end ends.Ok j = absurd j
       by_end (ends.BadLine n k) j = absurd j
       by_end ends.LinkFault j = absurd j
@@ -248,11 +256,25 @@ module _ (g : Group) (me : ℕ) (script : List ℕ) (old : Told) (start : List �
           all = ap (λ (l : List (List ℕ)). hello (talker g me script) ∷ l) v.sends;
         }
 
-    pub no_start : (kept : Kept) (out : List ℕ) → PrintsFront start (goes_on (talker g me script) (record (fresh at_start) { lines = lines_of script }) (lines_of script)) out → IsSessionOf g me script old start ends.NoMemory now out kept
-    no_start kept out front =
+    -- no step of the talk was made
+    short_none : (kept : Kept) → IsLeftAt g me at_start kept → IsLeftShort g me script (talk (talker g me script) script []) old now kept
+    unfolding standing
+    short_none kept here =
+        let r = reaches_on (talker g me script) (record (fresh at_start) { lines = lines_of script }) (lines_of script) in
+        record {
+          made = [];
+          unmade = r.more;
+          all = ap (λ (v : Talk). v.history) (sym open_is) ∙ r.is;
+          few = omega (arith, r.few);
+          stands = here;
+          sent = all_is_front (frames (hello (talker g me script) ∷ [])) old.written now.written wire_hi.sends;
+        }
+
+    pub no_start : (kept : Kept) (out : List ℕ) → IsLeftAt g me at_start kept → PrintsFront start (goes_on (talker g me script) (record (fresh at_start) { lines = lines_of script }) (lines_of script)) out → IsSessionOf g me script old start ends.NoMemory now out kept
+    no_start kept out here front =
         let f = subst (λ (v : Talk). PrintsFront start v out) open_is front in
         ended ends.NoMemory now Talks (greeted.0 ∷ []) [] (frames_of after).0 (hello (talker g me script) ∷ []) after out kept wire_hi (greeted.0, (greeted.1.1, refl)) tt tt
-        (λ all. front_more (hello (talker g me script) ∷ []) (sent_in (talk (talker g me script) script []).history) old.written now.written all) f (λ rest quiet. quiet) tt
+        (λ all. front_more (hello (talker g me script) ∷ []) (sent_in (talk (talker g me script) script []).history) old.written now.written all) f (λ rest quiet. quiet) (short_none kept here)
 
   module _ (now : Told) (left : List ℕ) (c : Kept) (p : Place) (out : List ℕ) (pending : Option (List ℕ)) (i : Going now left c p out pending) where
     w : Talker
@@ -293,8 +315,41 @@ module _ (g : Group) (me : ℕ) (script : List ℕ) (old : Told) (start : List �
             all = ap (λ (l : List (List ℕ)). hello (talker g me script) ∷ l) v.sends ∙ ap (λ (l : List (List ℕ)). l ++ one_of sent) i.all;
           }
 
-      pub no_hearing : (d : Kept) (text : List ℕ) → PrintsFront start (hears (talker g me script) (talk (talker g me script) script i.taken) payload) text → IsSessionOf g me script old start ends.NoMemory new text d
-      no_hearing d text front =
+      -- all was sent of what was to be sent before the payload came
+      sent_before : AppendedAll (frames (hello (talker g me script) ∷ sent_in (talk (talker g me script) script i.taken).history)) old.written new.written
+      sent_before = subst (λ (l : List (List ℕ)). AppendedAll (frames l) old.written new.written) (sym i.all) wire_on.sends
+
+      -- memory ran out before the step on the payload, or behind it
+      short_of : (d : Kept) → IsShortOf (talker g me script) (talk (talker g me script) script i.taken) payload d → IsLeftShort g me script (talk (talker g me script) script (i.taken ++ payload ∷ [])) old new d
+      short_of d (inl here) =
+          let t = talk (talker g me script) script i.taken in
+          let r = reaches_hears (talker g me script) t payload in
+          record {
+            made = t.history;
+            unmade = r.more;
+            all = ap (λ (v : Talk). v.history) (talk_more (talker g me script) script i.taken payload) ∙ r.is;
+            few = r.few;
+            stands = subst (λ (s : Standing). IsLeftAt g me s d) (talk_there g me script i.taken) here;
+            sent = all_is_front (frames (hello (talker g me script) ∷ sent_in t.history)) old.written new.written sent_before;
+          }
+      short_of d (inr here) =
+          let t = talk (talker g me script) script i.taken in
+          let u = steps (talker g me script) t (input.Payload payload) in
+          let r = reaches_behind (talker g me script) t payload in
+          let at = (reaches_step (talker g me script) t payload).there (talk_there g me script i.taken) in
+          let more = sent_step (talker g me script) t (input.Payload payload) in
+          record {
+            made = u.history;
+            unmade = r.more;
+            all = ap (λ (v : Talk). v.history) (talk_more (talker g me script) script i.taken payload) ∙ r.is;
+            few = omega (arith, r.few);
+            stands = subst (λ (s : Standing). IsLeftAt g me s d) at here;
+            sent = subst (λ (l : List (List ℕ)). AppendedFront (frames (hello (talker g me script) ∷ l)) old.written new.written) (sym more)
+                (front_more (hello (talker g me script) ∷ sent_in t.history) _ old.written new.written sent_before);
+          }
+
+      pub no_hearing : (d : Kept) (text : List ℕ) → IsShortOf (talker g me script) (talk (talker g me script) script i.taken) payload d → PrintsFront start (hears (talker g me script) (talk (talker g me script) script i.taken) payload) text → IsSessionOf g me script old start ends.NoMemory new text d
+      no_hearing d text short front =
           let t = talk (talker g me script) script i.taken in
           let e = extends_hears (talker g me script) t payload in
           let is = talk_more (talker g me script) script i.taken payload in
@@ -302,7 +357,7 @@ module _ (g : Group) (me : ℕ) (script : List ℕ) (old : Told) (start : List �
           = ap (λ (v : Talk). hello (talker g me script) ∷ sent_in v.history) is ∙ ap (λ (l : List (List ℕ)). hello (talker g me script) ∷ l) e.sent.1 ∙ ap (λ (l : List (List ℕ)). l ++ e.sent.0) i.all in
           ended ends.NoMemory new Talks (i.hi ∷ i.taken ++ payload ∷ []) (i.taken ++ payload ∷ []) (frames_of after).0 (i.before ++ one_of pending) after text d wire_on (talks_form (i.taken ++ payload ∷ []) (frames_of after).0) awaited_on tt
           (λ all. subst (λ (l : List (List ℕ)). AppendedFront (frames l) old.written new.written) (sym all_is) (front_more (i.before ++ one_of pending) e.sent.0 old.written new.written all))
-          (subst (λ (v : Talk). PrintsFront start v text) (sym is) front) (λ rest quiet. quiet) tt
+          (subst (λ (v : Talk). PrintsFront start v text) (sym is) front) (λ rest quiet. quiet) (short_of d short)
 
     -- no answer came
     pub unanswered : (f : WireFault) (after : List ℕ) (new : Told) → IsBusy p.doing → Asks pending left after now new (Err f) → IsSessionOf g me script old start (end_for f) new out c
@@ -310,14 +365,16 @@ module _ (g : Group) (me : ℕ) (script : List ℕ) (old : Told) (start : List �
         failed f new Talks (i.hi ∷ i.taken) i.taken left out c
         (subst (λ (l : List (List ℕ)). Failed f old new (i.hi ∷ i.taken) left l) (sym i.all) (wire_failed old now (i.hi ∷ i.taken) left i.before i.wire pending f after new a))
         (talks_form i.taken) i.awaited tt (owed_busy p.doing (talk (talker g me script) script i.taken).doing busy i.doing) (λ e. absurd cc) i.on.text
-        (any_end (end_for f) g me (talk (talker g me script) script i.taken).now c here)
+        here
 
     -- memory ran out
     gives_up : IsSessionOf g me script old start ends.NoMemory now out c
     gives_up =
         ended ends.NoMemory now Talks (i.hi ∷ i.taken) i.taken (frames_of left).0 i.before left out c i.wire (talks_form i.taken (frames_of left).0) i.awaited tt
         (λ all. subst (λ (l : List (List ℕ)). AppendedFront (frames l) old.written now.written) (sym i.all) (front_more i.before (one_of pending) old.written now.written all))
-        ((talk (talker g me script) script i.taken).text, [], (sym (append-nil (talk (talker g me script) script i.taken).text), i.on.text)) (λ rest quiet. quiet) tt
+        ((talk (talker g me script) script i.taken).text, [], (sym (append-nil (talk (talker g me script) script i.taken).text), i.on.text)) (λ rest quiet. quiet)
+        (short_all Talks i.taken now c here
+        (subst (λ (l : List (List ℕ)). AppendedFront (frames l) old.written now.written) (sym i.all) (front_more i.before (one_of pending) old.written now.written i.wire.sends)))
 
     -- all was sent
     module _ (none : pending ≡ None) where
@@ -350,7 +407,7 @@ module _ (g : Group) (me : ℕ) (script : List ℕ) (old : Told) (start : List �
           failed f new Goes_away (i.hi ∷ i.taken) i.taken left text c
           (subst (λ (l : List (List ℕ)). Failed f old new (i.hi ∷ i.taken) left l) (sym away_is) (wire_failed old now (i.hi ∷ i.taken) left i.before i.wire (Some bye) f after new a))
           (away_form i.taken) i.awaited (away_at leaves) tt (λ e. absurd cc) (same ∙ i.on.text)
-          (any_end (end_for f) g me (talk (talker g me script) script i.taken).now c here)
+          here
 
       away_unanswered : p.doing ≡ at.Leaves → (end : SessionEnd) (after : List ℕ) (new : Told) (text : List ℕ) → PrintsBye end out text → Unanswered (Some bye) left after now new end → IsSessionOf g me script old start end new text c
       away_unanswered leaves ends.LinkFault after new text same a = away_failed leaves fault.Link after new text same a
@@ -384,7 +441,7 @@ module _ (g : Group) (me : ℕ) (script : List ℕ) (old : Told) (start : List �
         away_judged ends.NoMemory same j =
             ended ends.NoMemory new Goes_away (i.hi ∷ i.taken ++ payload ∷ []) i.taken (payload ∷ (frames_of after).0) (i.before ++ bye ∷ []) after text c wire_away read_away i.awaited (away_at leaves)
             (λ all. all_is_front (frames (requests (talker g me script) (talk (talker g me script) script i.taken) Goes_away)) old.written new.written (sent_away all))
-            ((talk (talker g me script) script i.taken).text, [], (sym (append-nil (talk (talker g me script) script i.taken).text), same ∙ i.on.text)) (λ rest quiet. quiet) tt
+            ((talk (talker g me script) script i.taken).text, [], (sym (append-nil (talk (talker g me script) script i.taken).text), same ∙ i.on.text)) (λ rest quiet. quiet) here
         away_judged (ends.BadLine n k) same j = absurd j
         away_judged ends.LinkFault same j = absurd j
         away_judged ends.BadFrame same j = absurd j

@@ -1,5 +1,5 @@
 -- What a session over a link did: the talk between its greeting and its leave, the frames that it sent, and why it ended.
-use Rattle.std.specs.Prelude.{◌≡◌, ◌⊎◌, ℕ, List, [], ◌∷◌, ◌++◌, Option, Some, None, true, codes}
+use Rattle.std.specs.Prelude.{◌≡◌, ◌⊎◌, ◌≤◌, ℕ, List, [], ◌∷◌, ◌++◌, length, Option, Some, None, true, codes}
 use Rattle.std.specs.List.{flat_map}
 use Rattle.vic_wire.specs.Hashes.{Group}
 use Rattle.vic_wire.specs.declared.message.ToServer.TheVariants as ask
@@ -11,7 +11,9 @@ use Rattle.vic_conn.specs.Frames.{Waits, Broken, front_of, frame_text, frames_of
 use Rattle.vic_ports.specs.Causes.{Rose, LeavesBehind, IsSpent}
 use Rattle.vic_ports.specs.Written.{AppendedAll, AppendedFront}
 use Rattle.vic_ports.specs.Links.{Told}
+use Rattle.vic_rules.specs.declared.trace.TraceStep.{TraceStep}
 use Rattle.vic_rules.specs.Client.{Standing, at_start}
+use Rattle.vic_rules.specs.History.{standing}
 use Rattle.vic_client.specs.Kept.{Kept, StandsFor, group_of}
 use Rattle.vic_script.specs.Words.{newline}
 use Rattle.vic_session.specs.declared.end.SessionEnd.{SessionEnd}
@@ -144,12 +146,28 @@ stands_at Goes_away t = t.now
 abbrev pub IsLeftAt : Group → ℕ → Standing → Kept → Type 0
 IsLeftAt g me s c = (c.id ≡ me) × ((group_of c ≡ g) × StandsFor c s)
 
--- the client afterwards: memory may run out in the middle of a line
-abbrev pub StandsBehind : SessionEnd → Group → ℕ → Standing → Kept → Type 0
-StandsBehind ends.NoMemory g me s c = Unit {0}
-StandsBehind end g me s c = IsLeftAt g me s c
+-- where memory ran out in a talk, its newest steps aren't made, two at most: those on the last payload, or at the first line. The
+-- client stands behind the others, and a front of their requests was sent
+pub record IsLeftShort (g : Group) (me : ℕ) (script : List ℕ) (t : Talk) (old new : Told) (c : Kept) : Type 0 where
+  pub made : List TraceStep
+  pub unmade : List TraceStep
+  pub all : t.history ≡ unmade ++ made
+  pub few : length unmade ≤ 2
+  pub stands : IsLeftAt g me (standing g me made) c
+  pub sent : AppendedFront (frames (hello (talker g me script) ∷ sent_in made)) old.written new.written
+
+-- and so of a session: before the talk and behind it none of its steps is missing
+abbrev pub StandsShort : Stage → Group → ℕ → List ℕ → Talk → Told → Told → Kept → Type 0
+StandsShort Greets g me script t old new c = IsLeftAt g me at_start c
+StandsShort Talks g me script t old new c = IsLeftShort g me script t old new c
+StandsShort Goes_away g me script t old new c = IsLeftAt g me t.now c
+
+-- the client afterwards
+abbrev pub StandsBehind : SessionEnd → Stage → Group → ℕ → List ℕ → Talk → Told → Told → Kept → Type 0
+StandsBehind ends.NoMemory stage g me script t old new c = StandsShort stage g me script t old new c
+StandsBehind end stage g me script t old new c = IsLeftAt g me (stands_at stage t) c
 
 -- what a session did, and how it left its client
 pub record IsSessionOf (g : Group) (me : ℕ) (script : List ℕ) (old : Told) (out : List ℕ) (end : SessionEnd) (new : Told) (printed : List ℕ) (c : Kept) : Type 0 where
   pub did : IsSession g me script old out end new printed
-  pub stands : StandsBehind end g me (stands_at did.stage (talk (talker g me script) script did.taken)) c
+  pub stands : StandsBehind end did.stage g me script (talk (talker g me script) script did.taken) old new c

@@ -1,5 +1,5 @@
 -- A session that talks: the client, its place in the script and what was printed are those of a talk.
-use Rattle.std.specs.Prelude.{◌≡◌, ℕ, ◌+◌, ◌≤◌, List, ◌++◌, length, Option, Some, None, Result, Ok, Err}
+use Rattle.std.specs.Prelude.{◌≡◌, ◌⊎◌, ℕ, ◌+◌, ◌≤◌, List, ◌++◌, length, Option, Some, None, Result, Ok, Err}
 use Rattle.vic_rules.specs.declared.trace.Input.{Input}
 use Rattle.vic_rules.specs.declared.trace.Input.TheVariants as input
 use Rattle.vic_rules.specs.declared.object.Phase.{Phase}
@@ -22,6 +22,7 @@ use Rattle.vic_session.specs.declared.place.At.TheVariants as at
 use Rattle.vic_session.specs.declared.place.Place.{Place}
 use Rattle.vic_session.specs.declared.lines.Begun.{Begun}
 use Rattle.vic_session.specs.declared.lines.Begun.TheVariants as begun
+use Rattle.vic_session.specs.Sessions.{IsLeftAt}
 use Rattle.vic_session.specs.Talks.{Talk, Talker, Doing, Calls, Tells, Settles, Leaves, Bad, Halts, steps, asks, begins, goes_on, one_of, sent_in, digest_of}
 
 abbrev pub IsDoing : At → Doing → Type 0
@@ -165,3 +166,7 @@ pub record Heard (w : Talker) (t : Talk) (start payload : List ℕ) (r : Step) (
   pub send : r.send ≡ payload_of w.group w.me (step w.group w.me t.now (input.Payload payload)).next (step w.group w.me t.now (input.Payload payload)).sends
   pub returned : r.returned ≡ (step w.group w.me t.now (input.Payload payload)).returns
   pub object : r.object ≡ (step w.group w.me t.now (input.Payload payload)).object
+
+-- memory ran out at a payload: the client stands before its step on that, or behind it
+abbrev pub IsShortOf : Talker → Talk → List ℕ → Kept → Type 0
+IsShortOf w t payload c = IsLeftAt w.group w.me t.now c ⊎ IsLeftAt w.group w.me (steps w t (input.Payload payload)).now c

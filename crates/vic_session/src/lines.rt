@@ -8,7 +8,7 @@ ghost use Rattle.vic_dict.specs.declared.op.Mode.{Mode as AMode};
 ghost use Rattle.vic_text.specs.ClientLines.{client_line_of};
 ghost use Rattle.vic_session.specs.Talks.{outcome_line, object_line, outcome_lines, Talk, Talker, state_line, goes_on, ends_line, hears, asks, tells_state, Settles};
 ghost use Rattle.vic_rules.specs.declared.trace.Input.TheVariants as input;
-ghost use Rattle.vic_session.specs.Talking.{On, IsWithin, IsFine, IsDoing, Stands, GoesTo, Began, Rests, CanBegin, Lined, LinedAt, FitsIn, MaySend, IsBusy, Heard};
+ghost use Rattle.vic_session.specs.Talking.{On, IsWithin, IsFine, IsDoing, Stands, GoesTo, Began, Rests, CanBegin, Lined, LinedAt, FitsIn, MaySend, IsBusy, Heard, IsShortOf};
 ghost use Rattle.vic_session.specs.declared.place.Place.{Place as APlace};
 
 use crate::place::{At, Place, first_line, place_behind};
@@ -70,6 +70,7 @@ fn begin_settle(
     ensures rests { IfOk result (λ b. Rests b client.old client.new) }
     ensures fits { IfOk result FitsIn }
     ensures err { OnErr result (out.new ≡ out.old) }
+    ensures stays { OnErr result (client.new ≡ client.old) }
 {
     if most == 0 || client.unsettled() == 0 {
         tell_state(alloc, client, out)?;
@@ -94,6 +95,7 @@ fn begin_line(
     ensures rests { IfOk result (λ b. Rests b client.old client.new) }
     ensures fits { IfOk result FitsIn }
     ensures err { OnErr result (out.new ≡ out.old) }
+    ensures stays { OnErr result (client.new ≡ client.old) }
 {
     match line {
         ClientLine::Skip => Ok(Begun::Next),
@@ -123,6 +125,7 @@ fn begin(
     ensures rests { IfOk result (λ b. Rests b client.old client.new) }
     ensures fits { IfOk result FitsIn }
     ensures err { OnErr result (out.new ≡ out.old) }
+    ensures stays { OnErr result (client.new ≡ client.old) }
 {
     match read_client_line(alloc, text, client.mode()) {
         Ok(line) => begin_line(alloc, client, &line, out),
@@ -151,6 +154,7 @@ fn do_line(
     ensures rests { IfOk result (λ b. Rests b client.old client.new) }
     ensures fits { IfOk result FitsIn }
     ensures err { OnErr result (out.new ≡ out.old) }
+    ensures stays { OnErr result (client.new ≡ client.old) }
 {
     let (text, others) = first_line(place.rest);
     place.behind = place_behind(place.total, place.behind, text);
@@ -189,6 +193,7 @@ pub fn go_on(
     ensures sends { IfOk result (λ sent. MaySend place.new.doing sent) }
     ensures fits { IfOk result (λ sent. IfSome sent FitsFrame) }
     ensures total { place.new.total ≡ place.old.total }
+    ensures stays { OnErr result (client.new ≡ client.old) }
 {
     while !place.rest.is_empty() {
         match do_line(alloc, client, place, out) {
@@ -218,6 +223,7 @@ fn tell_and_go(
     ensures sends { IfOk result (λ sent. MaySend place.new.doing sent) }
     ensures fits { IfOk result (λ sent. IfSome sent FitsFrame) }
     ensures total { place.new.total ≡ place.old.total }
+    ensures stays { OnErr result (client.new ≡ client.old) }
 {
     match tell_state(alloc, client, out) {
         Ok(()) => go_on(alloc, client, place, out),
@@ -240,6 +246,7 @@ fn poll_again(
     ensures sends { IfOk result (λ sent. MaySend place.new.doing sent) }
     ensures fits { IfOk result (λ sent. IfSome sent FitsFrame) }
     ensures total { place.new.total ≡ place.old.total }
+    ensures stays { OnErr result (client.new ≡ client.old) }
 {
     match request_for(alloc, client, Given::Poll) {
         Ok(sent) => {
@@ -267,6 +274,7 @@ fn end_line(
     ensures sends { IfOk result (λ sent. MaySend place.new.doing sent) }
     ensures fits { IfOk result (λ sent. IfSome sent FitsFrame) }
     ensures total { place.new.total ≡ place.old.total }
+    ensures stays { OnErr result (client.new ≡ client.old) }
 {
     match place.doing {
         At::Calls => go_on(alloc, client, place, out),
@@ -343,6 +351,7 @@ fn hear_step(
     ensures sends { IfOk result (λ sent. MaySend place.new.doing sent) }
     ensures fits { IfOk result (λ sent. IfSome sent FitsFrame) }
     ensures total { place.new.total ≡ place.old.total }
+    ensures stays { OnErr result (client.new ≡ client.old) }
 {
     if let Some(check) = client.halted() {
         place.doing = At::Halts(check, content(payload));
@@ -386,6 +395,7 @@ pub fn hear(
     ensures sends { IfOk result (λ sent. MaySend place.new.doing sent) }
     ensures fits { IfOk result (λ sent. IfSome sent FitsFrame) }
     ensures total { place.new.total ≡ place.old.total }
+    ensures short { (w : Talker) (t : Talk) (start : List ℕ) → On w t start client.old place.old out.old → IsDoing place.old.doing t.doing → OnErr result (IsShortOf w t payload.now client.new) }
 {
     match make_step(alloc, client, Given::Payload(payload)) {
         Ok(step) => hear_step(alloc, client, place, payload, step, out),

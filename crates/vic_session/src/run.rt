@@ -107,8 +107,9 @@ fn leave<L: Link>(
 }
 
 /// Greets, does each line of a script, and leaves; what is printed joins the lines so far. Whatever the end is, what was sent and
-/// printed stays, and the client stands where the talk is, which may be in the middle of a call. It keeps what is not yet a whole frame, one buffer, one answer,
-/// and what its client keeps. A line costs the payloads that it sends and takes.
+/// printed stays, and the client stands where the talk is, which may be in the middle of a call. After want of memory it stands
+/// behind the steps that it made, two at most before that place, and nothing was sent of the others. It keeps what is not yet a
+/// whole frame, one buffer, one answer, and what its client keeps. A line costs the payloads that it sends and takes.
 pub fn run_lines<L: Link>(
     alloc: Global,
     client: &mut Client,

@@ -43,4 +43,5 @@ returns-in_default c = record {
   sends = c.tell_and_go-in_default.ensures.sends;
   fits = c.tell_and_go-in_default.ensures.fits;
   total = c.tell_and_go-in_default.ensures.total;
+  stays = c.tell_and_go-in_default.ensures.stays;
 }

@@ -15,6 +15,9 @@ returns-in-Err-clause-went c = λ w t start on.
     subst (λ (v : Talk). PrintsFront start v c.do_line.new.out) (sym led.1.1.0)
     (front_of_on w led.0 (goes_on w led.0 led.0.lines) start c.do_line.new.out (extends_on w led.0 led.0.lines) (c.in-Err.ensures.err ∙ led.1.0.text))
 
+pub returns-in-Err-clause-stays : goal.returns-in-Err-clause-stays
+returns-in-Err-clause-stays c = c.in-Err.ensures.stays ∙ c.loop-alloc.invariant.same
+
 pub returns-in-Ok-Asks-clause-went : goal.returns-in-Ok-Asks-clause-went
 returns-in-Ok-Asks-clause-went c = λ w t start on.
     let led = c.loop-alloc.invariant.led w t start on in
@@ -50,6 +53,7 @@ loop-alloc-preserved c =
       few = let same : c.do_line.new.client.calls ≡ c.loop-alloc.client.calls = ap (λ (k : Kept). k.calls) rests in omega (arith, same, i.few, c.in-Ok-Next.ensures.number);
       within = subst (λ (b : Begun). LinedAt b c.do_line.new.place) c.in-Ok-Next.field-0-is c.in-Ok-Next.ensures.at;
       total = c.in-Ok-Next.ensures.total ∙ i.total;
+      same = rests ∙ i.same;
       led = λ w t start on.
           let led = i.led w t start on in
           let more = lined w led.0 start led.1.0 in

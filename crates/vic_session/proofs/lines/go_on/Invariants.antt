@@ -11,6 +11,7 @@ invariant-loop-alloc l = record {
   few : l.client.calls ≤ l.place.number;
   within : IsWithin l.place;
   total : l.place.total ≡ l.initial.place.total;
+  same : l.client ≡ l.initial.client;
   led : (w : Talker) (t : Talk) (start : List ℕ) → On w t start l.initial.client l.initial.place l.initial.out → Led w t start l.client l.place l.out;
 }
 

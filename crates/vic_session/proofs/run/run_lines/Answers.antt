@@ -1,6 +1,6 @@
-use Rattle.std.proofs.Common.{◌≡◌, ◌≤◌, List, ℕ, None, Ok, Err, length, refl, subst, rules, arith}
+use Rattle.std.proofs.Common.{◌≡◌, ◌≤◌, List, ℕ, None, Ok, Err, length, refl, sym, subst, rules, arith}
 use Rattle.vic_rules.specs.Client.{at_start}
-use Rattle.vic_client.specs.Kept.{group_of}
+use Rattle.vic_client.specs.Kept.{Kept, group_of}
 use Rattle.vic_script.specs.Lines.{lines_of}
 use Rattle.vic_script.specs.Run.{limit}
 use Rattle.vic_session.specs.declared.wire.WireFault.{WireFault}
@@ -8,9 +8,10 @@ use Rattle.vic_session.specs.declared.wire.WireFault.TheVariants as fault
 use Rattle.vic_session.specs.declared.place.At.{At}
 use Rattle.vic_session.specs.declared.place.At.TheVariants as at
 use Rattle.vic_session.specs.Talks.{talk, talker, fresh, hears}
-use Rattle.vic_session.specs.Talking.{GoesTo, MaySend, IsBusy, IsFine, PrintsFront}
+use Rattle.vic_session.specs.Talking.{GoesTo, MaySend, IsBusy, IsFine, PrintsFront, IsShortOf}
 use Rattle.vic_session.specs.Wires.{Asks}
 use Rattle.vic_session.specs.Running.{Greeted}
+use Rattle.vic_session.specs.Sessions.{IsLeftAt}
 use Rattle.vic_session.proofs.Falls.{rank_falls}
 use Rattle.vic_session.proofs.Sessions.{not_greeted, not_well, on_begin, going_start, no_start, going_more, no_hearing, unanswered, bad_line, halts, parted}
 use Rattle.vic_session.proofs.run.run_lines.Goals as goal
@@ -23,6 +24,7 @@ returns-in-Err-clause-did g c =
 pub returns-in-Err-go_on-clause-did : goal.returns-in-Err-go_on-clause-did
 returns-in-Err-go_on-clause-did g c =
     no_start (group_of c.args.client.now) c.args.client.now.id c.args.script.now (g.L.Link.told c.args.link.now) c.args.out.now c.greet.new.reader (g.L.Link.told c.greet.new.link) (subst (λ (b : List ℕ). Greeted (group_of c.args.client.now) c.args.client.now.id b c.greet.new.reader (g.L.Link.told c.args.link.now) (g.L.Link.told c.greet.new.link) (Ok tt)) c.new-reader.ensures c.in-Ok.ensures) c.go_on.new.client c.go_on.new.out
+    (subst (λ (k : Kept). IsLeftAt (group_of c.args.client.now) c.args.client.now.id at_start k) (sym c.in-Err-go_on.ensures.stays) (refl, (refl, c.requires)))
     (c.in-Err-go_on.ensures.went (talker (group_of c.args.client.now) c.args.client.now.id c.args.script.now) (record (fresh at_start) { lines = lines_of c.args.script.now }) c.args.out.now (on_begin (group_of c.args.client.now) c.args.client.now.id c.args.script.now (g.L.Link.told c.args.link.now) c.args.out.now c.args.client.now (record { rest = c.args.script; total = length c.args.script.now; behind = 0; number = 0; doing = at.Leaves }) refl refl c.requires refl refl refl refl))
 
 pub answers-init : goal.answers-init
@@ -73,6 +75,8 @@ pub returns-in-Err-hear-clause-did : goal.returns-in-Err-hear-clause-did
 returns-in-Err-hear-clause-did g c =
     let busy : IsBusy c.answers.place.doing = search rules in
     no_hearing (group_of c.args.client.now) c.args.client.now.id c.args.script.now (g.L.Link.told c.args.link.now) c.args.out.now (g.L.Link.told c.answers.link) c.answers.reader c.answers.client c.answers.place c.answers.out c.answers.pending c.answers.invariant.going c.ask.new.reader c.in-Ok-ask.payload (g.L.Link.told c.ask.new.link) busy c.in-Ok-ask.ensures c.hear.new.client c.hear.new.out
+    (subst (λ (x : List ℕ). IsShortOf (talker (group_of c.args.client.now) c.args.client.now.id c.args.script.now) (talk (talker (group_of c.args.client.now) c.args.client.now.id c.args.script.now) c.args.script.now c.answers.invariant.going.taken) x c.hear.new.client) c.as_slice.ensures
+    (c.in-Err-hear.ensures.short (talker (group_of c.args.client.now) c.args.client.now.id c.args.script.now) (talk (talker (group_of c.args.client.now) c.args.client.now.id c.args.script.now) c.args.script.now c.answers.invariant.going.taken) c.args.out.now c.answers.invariant.going.on c.answers.invariant.going.doing))
     (subst (λ (x : List ℕ). PrintsFront c.args.out.now (hears (talker (group_of c.args.client.now) c.args.client.now.id c.args.script.now) (talk (talker (group_of c.args.client.now) c.args.client.now.id c.args.script.now) c.args.script.now c.answers.invariant.going.taken) x) c.hear.new.out) c.as_slice.ensures
     (c.in-Err-hear.ensures.went (talker (group_of c.args.client.now) c.args.client.now.id c.args.script.now) (talk (talker (group_of c.args.client.now) c.args.client.now.id c.args.script.now) c.args.script.now c.answers.invariant.going.taken) c.args.out.now c.answers.invariant.going.on c.answers.invariant.going.doing))
 
