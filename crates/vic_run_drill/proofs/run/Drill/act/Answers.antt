@@ -45,7 +45,7 @@ returns c = λ d n few at none.
     let there : slice_get r.seats.items k ≡ Some m = seat_there r.seats.items r.seats.items k m refl lt c.index_mut.ensures.value in
     let did = c.in_ok-act.ensures in
     let new : Drill = record r { seats = with_item r.seats k c.act-2.new.self; generator = c.act.new.self; calls = r.calls + c.calls_in.result } in
-    let next = c.in_ok-act-2.ensures d.scene.group d.scene.history who (seat_stands r d n at who k m is there) in
+    let next = c.in_ok-act-2.ensures.ok d.scene.group d.scene.history who (seat_stands r d n at who k m is there) in
     let calls_few : d.calls + 1 < 2 ^ 32 = let same = at.calls in omega (arith, same, c.requires.few) in
     acted_next r d n at who k m is there none new c.in_ok-act.act c.act-2.new.self c.act.new.self few calls_few
     (did.act ∙ ap (λ (x : Drawing). act_of x who (r.calls + 1)) at.drawing ∙ ap (λ (j : ℕ). act_of d.drawing who (j + 1)) at.calls)

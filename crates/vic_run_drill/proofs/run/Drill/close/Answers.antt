@@ -93,6 +93,6 @@ returns c = λ d n at.
     let is : owner ≡ k + 1 = omega (arith, c.from-place.ensures, low) in
     let there = seat_there r.seats.items r.seats.items k c.index_mut.result.now refl lt c.index_mut.ensures.value in
     let new : Drill = record r { seats = with_item r.seats k c.act.new.self } in
-    let stepped = c.in_ok-act.ensures d.scene.group d.scene.history owner (seat_stands r d n at owner k c.index_mut.result.now is there) in
+    let stepped = c.in_ok-act.ensures.ok d.scene.group d.scene.history owner (seat_stands r d n at owner k c.index_mut.result.now is there) in
     subst (λ (x : Definition). Stands new x (n + 1)) (sym (closes_by_poll r d n at none owner next))
     (polled r d n at owner k c.index_mut.result.now is there who.1 new c.act.new.self stepped (record { seats = refl; server = refl; tally = refl; drawing = refl; calls = refl }))

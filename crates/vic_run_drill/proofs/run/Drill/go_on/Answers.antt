@@ -19,7 +19,7 @@ returns-in-Nowhere c = λ d n at.
     let lt : k < length r.seats.items = omega (arith, c.from-place.ensures, c.requires.some, c.requires.known) in
     let there : slice_get r.seats.items k ≡ Some m = seat_there r.seats.items r.seats.items k m refl lt c.index_mut.ensures.value in
     let v = c.go_on.new.served.server in
-    let goes = c.in_ok-go_on.ensures d.scene.group d.scene.history (seat_stands r d n at who k m is there) in
+    let goes = c.in_ok-go_on.ensures.ok d.scene.group d.scene.history (seat_stands r d n at who k m is there) in
     let new : Drill = record r { seats = with_item r.seats k c.go_on.new.self; served = c.go_on.new.served } in
     went_on r d n at who k m is there new c.go_on.new.self v went.Nowhere
     (subst (λ (w : Went). Goes d.scene.group d.scene.history who m c.go_on.new.self r.served.server v w) c.in-Nowhere.is goes)
@@ -35,7 +35,7 @@ returns-in-Answered c = λ d n at.
     let lt : k < length r.seats.items = omega (arith, c.from-place.ensures, c.requires.some, c.requires.known) in
     let there : slice_get r.seats.items k ≡ Some m = seat_there r.seats.items r.seats.items k m refl lt c.index_mut.ensures.value in
     let v = c.go_on.new.served.server in
-    let goes = c.in_ok-go_on.ensures d.scene.group d.scene.history (seat_stands r d n at who k m is there) in
+    let goes = c.in_ok-go_on.ensures.ok d.scene.group d.scene.history (seat_stands r d n at who k m is there) in
     let new : Drill = record r { seats = with_item r.seats k c.go_on.new.self; served = c.go_on.new.served } in
     went_on r d n at who k m is there new c.go_on.new.self v went.Answered
     (subst (λ (w : Went). Goes d.scene.group d.scene.history who m c.go_on.new.self r.served.server v w) c.in-Answered.is goes)
@@ -51,7 +51,7 @@ returns-in-Taken c = λ d n at.
     let lt : k < length r.seats.items = omega (arith, c.from-place.ensures, c.requires.some, c.requires.known) in
     let there : slice_get r.seats.items k ≡ Some m = seat_there r.seats.items r.seats.items k m refl lt c.index_mut.ensures.value in
     let v = c.go_on.new.served.server in
-    let goes = c.in_ok-go_on.ensures d.scene.group d.scene.history (seat_stands r d n at who k m is there) in
+    let goes = c.in_ok-go_on.ensures.ok d.scene.group d.scene.history (seat_stands r d n at who k m is there) in
     let new : Drill = record r { seats = with_item r.seats k c.go_on.new.self; served = c.go_on.new.served; tally = c.count.new.self } in
     went_on r d n at who k m is there new c.go_on.new.self v (went.Taken c.in-Taken.returned)
     (subst (λ (w : Went). Goes d.scene.group d.scene.history who m c.go_on.new.self r.served.server v w) c.in-Taken.is goes)

@@ -8,8 +8,8 @@ use Rattle.vic_run_drill.specs.Running.{Steps}
 use Rattle.vic_run_drill.proofs.Seats.{steps_so, returned_so}
 use Rattle.vic_run_drill.proofs.seat.Seat.go_on.Goals as goal
 
-pub returns-in_ok-step-in-Answer : goal.returns-in_ok-step-in-Answer
-returns-in_ok-step-in-Answer c = λ g h at.
+pub returns-in_ok-step-in-Answer-clause-ok : goal.returns-in_ok-step-in-Answer-clause-ok
+returns-in_ok-step-in-Answer-clause-ok c = λ g h at.
     let p : List ℕ = c.in-Answer.answer in
     let old = c.args.self.now in
     let who = c.args.who in
