@@ -1,5 +1,6 @@
 pub mod Fronts
 pub mod Loops
+pub mod Parting
 pub mod Replays
 pub mod Marks
 pub mod Shows

@@ -1,16 +1,19 @@
 -- What the loops over views print is what is printed of the history.
-use Rattle.std.proofs.Common.{◌≡◌, ℕ, suc, zero, ◌+◌, ◌-◌, ◌<◌, ◌≤◌, Bool, List, [], ◌∷◌, ◌++◌, length, map, reverse, get_or, refl, sym, ◌∙◌, ap, arith}
+use Rattle.std.proofs.Common.{◌≡◌, ℕ, suc, zero, ◌+◌, ◌-◌, ◌<◌, ◌≤◌, Bool, List, [], ◌∷◌, ◌++◌, length, map, drop, reverse, get_or, refl, sym, ◌∙◌, ap, arith, append_assoc}
 use Rattle.std.specs.List.{flat_map}
-use Rattle.std.proofs.lemmas.List.{get_or_default, reverse-reverse, map-append, length-map}
+use Rattle.std.proofs.lemmas.List.{get_or_default, reverse-reverse, map-append, length-map, drop-map}
 use Rattle.vic_wire.specs.Hashes.{Group}
 use Rattle.vic_rules.specs.declared.trace.TraceStep.{TraceStep}
 use Rattle.vic_rules.specs.declared.trace.Shown.{Shown}
 use Rattle.vic_rules.specs.History.{IsLawful}
 use Rattle.vic_rules.specs.Views.{view_of}
-use Rattle.vic_script.specs.Print.{view_lines, agree_line, numbers_from, all_views, all_agreements, tags_line}
+use Rattle.vic_script.specs.Print.{view_lines, agreement, agree_line, numbers_from, all_views, all_agreements, tags_line}
 use Rattle.vic_view.specs.declared.replay.ClientPath.{ClientPath}
 use Rattle.vic_view.specs.Replay.{no_path, replayed, AreReplayed, shown_below, places_among}
 use Rattle.vic_view.specs.Printed.{shown_view, views_up_to, view_texts, agree_with, agree_texts}
+use Rattle.vic_view.specs.Together.{rows_of}
+use Rattle.vic_view.proofs.Fronts.{rest_from}
+use Rattle.vic_view.proofs.Parting.{row_at, as_many}
 use Rattle.vic_view.proofs.Shows.{view_shown, done_within}
 
 -- a path among those that were replayed
@@ -61,7 +64,7 @@ texts_are : (g : Group) (h : List TraceStep) (first n : ℕ) → view_texts firs
 texts_are g h first zero = refl
 texts_are g h first (suc n) = ap (λ (ts : List ℕ). view_lines g h first ++ ts) (texts_are g h (first + 1) n)
 
-agree_is : (g : Group) (h : List TraceStep) (i first n : ℕ) → agree_with i (shown_view g h i) first (map (shown_view g h) (numbers_from first n)) ≡ flat_map (agree_line g h i) (numbers_from first n)
+agree_is : (g : Group) (h : List TraceStep) (i first n : ℕ) → agree_with i first (map (agreement (shown_view g h i)) (map (shown_view g h) (numbers_from first n))) ≡ flat_map (agree_line g h i) (numbers_from first n)
 agree_is g h i first zero = refl
 agree_is g h i first (suc n) = ap (λ (ts : List ℕ). agree_line g h i first ++ ts) (agree_is g h i (first + 1) n)
 
@@ -77,6 +80,35 @@ agrees_are g h first (suc n) count e =
 length_numbers : (first n : ℕ) → length (numbers_from first n) ≡ n
 length_numbers first zero = refl
 length_numbers first (suc n) = ap suc (length_numbers (first + 1) n)
+
+-- how far the next view agrees with those behind it
+agree_row : (views : List (List Shown)) (i : ℕ) (v : List Shown) (row : List ℕ) → row ≡ map (agreement v) views → i < length views → v ≡ get_or views i v
+    → agree_with (i + 1) (i + 1 + 1) (drop (i + 1) row) ++ agree_texts (i + 1 + 1) (drop (i + 1) views) ≡ agree_texts (i + 1) (drop i views)
+agree_row views i v row e lt is =
+    ap (λ (ns : List ℕ). agree_with (i + 1) (i + 1 + 1) ns ++ agree_texts (i + 1 + 1) (drop (i + 1) views)) (ap (drop (i + 1)) e ∙ drop-map (agreement v) (i + 1) views)
+    ∙ sym (ap (agree_texts (i + 1)) (rest_from views i v lt is))
+
+pub agree_next : (views : List (List Shown)) (rows : List (List ℕ)) (i : ℕ) (kept row : List ℕ) (out more all : List ℕ) → rows ≡ rows_of agreement views → i < length rows → kept ≡ get_or rows i kept
+    → row ≡ kept → more ≡ out ++ agree_with (i + 1) (i + 1 + 1) (drop (i + 1) row) → out ++ agree_texts (i + 1) (drop i views) ≡ all
+    → more ++ agree_texts (i + 1 + 1) (drop (i + 1) views) ≡ all
+agree_next views rows i kept row out more all are lt is same put before =
+    let size : length rows ≡ length views = as_many agreement views rows are in
+    let v : List Shown = get_or views i [] in
+    let there : v ≡ get_or views i v = get_or_default views i [] v (omega (arith, size)) in
+    let e : row ≡ map (agreement v) views = same ∙ row_at agreement views rows i v kept are (omega (arith, size)) there is in
+    ap (λ (x : List ℕ). x ++ agree_texts (i + 1 + 1) (drop (i + 1) views)) put
+    ∙ append_assoc out (agree_with (i + 1) (i + 1 + 1) (drop (i + 1) row)) (agree_texts (i + 1 + 1) (drop (i + 1) views))
+    ∙ ap (λ (x : List ℕ). out ++ x) (agree_row views i v row e (omega (arith, size)) there)
+    ∙ before
+
+-- each row is as long as there are views
+pub row_length : (views : List (List Shown)) (rows : List (List ℕ)) (i : ℕ) (kept row : List ℕ) → rows ≡ rows_of agreement views → i < length rows → kept ≡ get_or rows i kept → row ≡ kept
+    → length row ≡ length views
+row_length views rows i kept row are lt is same =
+    let size : length rows ≡ length views = as_many agreement views rows are in
+    let v : List Shown = get_or views i [] in
+    let there : v ≡ get_or views i v = get_or_default views i [] v (omega (arith, size)) in
+    ap length (same ∙ row_at agreement views rows i v kept are (omega (arith, size)) there is) ∙ length-map views (agreement v)
 
 -- so many views as clients
 pub length_views : (g : Group) (h : List TraceStep) (n : ℕ) → length (views_up_to g h n) ≡ n

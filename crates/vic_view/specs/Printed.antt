@@ -26,12 +26,12 @@ view_texts first (v ∷ vs) = view_text first v ++ view_texts (first + 1) vs
 abbrev pub agree_text : ℕ → ℕ → ℕ → List ℕ
 agree_text i j n = codes "agree " ++ decimal i ++ space ++ decimal j ++ space ++ decimal n ++ newline
 
--- how far a client's view agrees with each of others
-abbrev pub agree_with : ℕ → List Shown → ℕ → List (List Shown) → List ℕ
-agree_with i v first [] = []
-agree_with i v first (w ∷ ws) = agree_text i first (agreement v w) ++ agree_with i v (first + 1) ws
+-- how far a client's view agrees with those of others, the first of which has this number
+abbrev pub agree_with : ℕ → ℕ → List ℕ → List ℕ
+agree_with i first [] = []
+agree_with i first (n ∷ ns) = agree_text i first n ++ agree_with i (first + 1) ns
 
 -- how far each two agree
 abbrev pub agree_texts : ℕ → List (List Shown) → List ℕ
 agree_texts first [] = []
-agree_texts first (v ∷ vs) = agree_with first v (first + 1) vs ++ agree_texts (first + 1) vs
+agree_texts first (v ∷ vs) = agree_with first (first + 1) (map (agreement v) vs) ++ agree_texts (first + 1) vs

@@ -15,6 +15,7 @@ mod forgery;
 pub mod plain;
 pub mod print;
 pub mod replay;
+mod together;
 pub mod transcript;
 pub mod view;
 pub mod views;

@@ -1,6 +1,6 @@
 //! What is printed of a transcript at its end: the views, how far they agree, and what is said of tags.
 
-ghost use Rattle.std.specs.Prelude.{◌≡◌, ◌<◌, ◌≤◌, ◌+◌, ◌-◌, ◌^◌, ◌↔◌, true, [], ◌∷◌, ◌++◌, length, reverse, IfOk, OnOk, OnErr, slice_get, slice_index_or, Some, None};
+ghost use Rattle.std.specs.Prelude.{◌≡◌, ◌<◌, ◌≤◌, ◌+◌, ◌-◌, ◌^◌, ◌↔◌, true, [], ◌∷◌, ◌++◌, drop, length, reverse, IfOk, OnOk, OnErr, slice_get, slice_index_or, Some, None};
 ghost use Rattle.std.specs.List.{flat_map};
 ghost use Rattle.std.specs.Fmt.{decimal};
 ghost use Rattle.vic_rules.specs.History.{IsLawful};
@@ -13,8 +13,8 @@ ghost use Rattle.vic_view.specs.Printed.{views_up_to, view_text, view_texts, agr
 use crate::forgery::forged_along;
 use crate::replay::ClientPath;
 use crate::transcript::Transcript;
-use crate::view::{View, common_calls};
-use crate::views::{all_paths, view_among};
+use crate::view::{View, agreements};
+use crate::views::{all_paths, common_lengths, view_among};
 use std::alloc::Global;
 use std::marker::Model;
 use vic_dict::{Bytes, NoMemory};
@@ -73,9 +73,11 @@ fn all_views(alloc: Global, t: &Transcript, all: &[ClientPath]) -> Result<Views,
     requires paths { AreReplayed t.now.count (history_of t.now) all.now }
     ensures { IfOk result (λ views. views ≡ views_up_to (group_of t.now) (history_of t.now) t.now.count) }
 {
+    let lengths = common_lengths(alloc, all)?;
+    let rows = lengths.as_slice();
     let mut views = Views::new(alloc);
-    for mine in all {
-        views.push(view_among(alloc, mine, all)?)?;
+    for (k, mine) in all.iter().enumerate() {
+        views.push(view_among(alloc, mine, rows[k].as_slice(), all)?)?;
     }
     Ok(views)
 }
@@ -149,21 +151,19 @@ fn put_agreement(
     out.append(b"\n")
 }
 
-/// How far a client's view agrees with those of others, the first of which has this number.
+/// How far a client's view agrees with those of the clients behind it, where it is known how far with each.
 fn put_agreements_with(
     out: &mut Bytes,
     alloc: Global,
     client: usize,
-    view: &[Shown],
-    first: usize,
-    others: &[View],
+    calls: &[usize],
 ) -> Result<(), NoMemory>
-    requires { first + length others.now < 2 ^ 64 }
-    ensures ok { OnOk result (out.new ≡ out.old ++ agree_with client view.now first others.now) }
+    requires member { client ≤ length calls.now }
+    requires few { length calls.now < 2 ^ 32 }
+    ensures ok { OnOk result (out.new ≡ out.old ++ agree_with client (client + 1) (drop client calls.now)) }
 {
-    for (k, other) in others.iter().enumerate() {
-        let calls = common_calls(view, other.as_slice());
-        put_agreement(out, alloc, client, first + k, calls)?;
+    for (k, common) in calls[client..].iter().enumerate() {
+        put_agreement(out, alloc, client, client + 1 + k, *common)?;
     }
     Ok(())
 }
@@ -173,8 +173,10 @@ fn put_agreements(out: &mut Bytes, alloc: Global, views: &[View]) -> Result<(), 
     requires { length views.now < 2 ^ 32 }
     ensures ok { OnOk result (out.new ≡ out.old ++ agree_texts 1 views.now) }
 {
-    for (k, view) in views.iter().enumerate() {
-        put_agreements_with(out, alloc, k + 1, view.as_slice(), k + 2, &views[k + 1..])?;
+    let agreed = agreements(alloc, views)?;
+    let rows = agreed.as_slice();
+    for (k, row) in rows.iter().enumerate() {
+        put_agreements_with(out, alloc, k + 1, row.as_slice())?;
     }
     Ok(())
 }
@@ -210,7 +212,7 @@ fn print_along(
 
 /// What is printed at the end of a run: the lines of all views, how far each two agree, and whether each tag that was taken
 /// was made, which it also tells. It costs the transcript; for each client a look at each step, the hashes along its path, and what
-/// the calls of its view hold; for each two clients a comparison of their paths and of their views; and for each text that was
+/// the calls of its view hold; for each two clients a few numbers; and for each text that was
 /// tagged or taken the logarithm of the number of those tagged.
 pub fn print_end(alloc: Global, t: &Transcript) -> Result<Printed, NoMemory>
     requires { IsLawful (group_of t.now) (history_of t.now) }

@@ -1,7 +1,9 @@
 use crate::forgery::{Texts, note_made, takes_unmade};
 use crate::plain::{all_completed, confirmed_on, is_some_unmade, last_path, put_made, texts_taken};
 use crate::replay::path_of;
-use crate::views::{all_paths, view_among};
+use crate::together::row_afresh;
+use crate::view::agreements;
+use crate::views::{all_paths, common_length, common_lengths, view_among};
 use crate::{
     Input, Shown, TraceStep, Transcript, View, agree, forged, forged_plainly, print_end,
     print_views, view_of, view_plainly,
@@ -349,7 +351,8 @@ fn view_from_paths(alloc: Global, t: &Transcript, client: u8) -> Result<View, No
     if mine.done > mine.places.as_slice().len() {
         return Ok(View::new(alloc));
     }
-    view_among(alloc, &mine, all.as_slice())
+    let lengths = row_afresh(alloc, &mine, all.as_slice())?;
+    view_among(alloc, &mine, lengths.as_slice(), all.as_slice())
 }
 
 // A client's view, as `view_plainly` takes it from the calls that were completed.
@@ -380,6 +383,132 @@ fn views_plainly(rt: HostRuntime) -> Result<(), Fail> {
                 fast.len() < 9 && agree(&fast, &plain) as usize == fast.len(),
                 "story {n}"
             );
+        }
+    }
+    Ok(())
+}
+
+/// Client 3 takes the first entry of client 1 and then that of client 2.
+const BOTH_3: Row = (
+    3,
+    b"\x45\0\0\0\0\0\x02\x01\0\0\0\x01\x01\x01a\x01x\xf0\x02\0\0\0\x01\x01\x01b\x01y\xf0",
+    b"",
+    false,
+);
+
+/// Client 4 takes the first entry of client 2.
+const SECOND_4: Row = (
+    4,
+    b"\x45\0\0\0\0\0\x01\x02\0\0\0\x01\x01\x01b\x01y\xf0",
+    b"",
+    false,
+);
+
+/// Client 5 takes what client 3 does.
+const BOTH_5: Row = (
+    5,
+    b"\x45\0\0\0\0\0\x02\x01\0\0\0\x01\x01\x01a\x01x\xf0\x02\0\0\0\x01\x01\x01b\x01y\xf0",
+    b"",
+    false,
+);
+
+/// Steps of six clients, the last of which does nothing, and how many entries each has in common with each.
+type Parting = (&'static [Row], [[usize; 6]; 6]);
+
+const PARTINGS: [Parting; 3] = [
+    (&[], [[0; 6]; 6]),
+    // Clients 3 and 5 go together, beyond client 2, which differs from them only behind the first entry.
+    (
+        &[CALL_1, REPLY_1, REPLY_2_AGAIN, BOTH_3, SECOND_4, BOTH_5],
+        [
+            [1, 1, 1, 0, 1, 0],
+            [1, 2, 1, 0, 1, 0],
+            [1, 1, 2, 0, 2, 0],
+            [0, 0, 0, 1, 0, 0],
+            [1, 1, 2, 0, 2, 0],
+            [0, 0, 0, 0, 0, 0],
+        ],
+    ),
+    // Clients 1 and 4 begin with the first entry of client 2; client 2 goes with clients 3 and 5.
+    (
+        &[BOTH_5, REPLY_1_SECOND, SECOND_4, REPLY_2_SECOND, BOTH_3],
+        [
+            [2, 0, 0, 1, 0, 0],
+            [0, 2, 2, 0, 2, 0],
+            [0, 2, 2, 0, 2, 0],
+            [1, 0, 0, 1, 0, 0],
+            [0, 2, 2, 0, 2, 0],
+            [0, 0, 0, 0, 0, 0],
+        ],
+    ),
+];
+
+fn transcript_of_six(alloc: Global, rows: &[Row]) -> Result<Transcript, Fail> {
+    let key = GroupKey::from_hex(alloc, "00")?;
+    let mut t = Transcript::new(alloc, Mode::Plain, 6, key);
+    for row in rows {
+        t.push(step_of(alloc, row)?)?;
+    }
+    Ok(t)
+}
+
+// How far each two paths go together, by what is known of others and by comparison from their fronts: both are right.
+#[test]
+fn paths_part(rt: HostRuntime) -> Result<(), Fail> {
+    for (n, (rows, right)) in PARTINGS.iter().enumerate() {
+        let t = transcript_of_six(rt.alloc(), rows)?;
+        let all = all_paths(rt.alloc(), &t)?;
+        let lengths = common_lengths(rt.alloc(), all.as_slice())?;
+        assert_eq!(rt; lengths.as_slice().len(), 6);
+        for ((mine, row), numbers) in all.as_slice().iter().zip(lengths.as_slice()).zip(right) {
+            assert_eq!(rt; row.as_slice(), numbers.as_slice());
+            for (other, number) in all.as_slice().iter().zip(numbers) {
+                let plain = common_length(mine.places.as_slice(), other.places.as_slice());
+                assert!(rt; plain == *number, "parting {n}");
+            }
+        }
+    }
+    Ok(())
+}
+
+/// Views: each byte stands for a call with this number.
+const LINES: [&[u8]; 8] = [
+    b"abcde", b"xy", b"abd", b"", b"abdfg", b"xyz", b"abcdf", b"abdfg",
+];
+
+/// How many calls each has in common with each.
+const AGREED: [[usize; 8]; 8] = [
+    [5, 0, 2, 0, 2, 0, 4, 2],
+    [0, 2, 0, 0, 0, 2, 0, 0],
+    [2, 0, 3, 0, 3, 0, 2, 3],
+    [0, 0, 0, 0, 0, 0, 0, 0],
+    [2, 0, 3, 0, 5, 0, 2, 5],
+    [0, 2, 0, 0, 0, 3, 0, 0],
+    [4, 0, 2, 0, 2, 0, 5, 2],
+    [2, 0, 3, 0, 5, 0, 2, 5],
+];
+
+fn view_with(alloc: Global, calls: &[u8]) -> Result<View, NoMemory> {
+    let mut view = View::new(alloc);
+    for call in calls {
+        view.push(put(alloc, u32::from(*call), b"k", Outcome::Aborted(1))?)?;
+    }
+    Ok(view)
+}
+
+// How far each two views agree, by what is known of others and by comparison from their fronts: both are right.
+#[test]
+fn views_part(rt: HostRuntime) -> Result<(), Fail> {
+    let mut views = Vec::new(rt.alloc());
+    for calls in LINES {
+        views.push(view_with(rt.alloc(), calls)?)?;
+    }
+    let agreed = agreements(rt.alloc(), views.as_slice())?;
+    assert_eq!(rt; agreed.as_slice().len(), 8);
+    for ((view, row), numbers) in views.iter().zip(agreed.as_slice()).zip(&AGREED) {
+        assert_eq!(rt; row.as_slice(), numbers.as_slice());
+        for (other, number) in views.iter().zip(numbers) {
+            assert!(rt; view.len() < 9 && agree(view, other) as usize == *number);
         }
     }
     Ok(())

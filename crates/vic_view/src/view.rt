@@ -1,10 +1,12 @@
 //! Views, and how far two of them agree.
 
-ghost use Rattle.std.specs.Prelude.{◌≡◌, ◌<◌, ◌≤◌, ◌^◌, [], ◌∷◌, ◌++◌, ◌&&◌, length, OnOk, OnErr, slice_get, Some, nat_eq};
+ghost use Rattle.std.specs.Prelude.{◌≡◌, ◌<◌, ◌≤◌, ◌^◌, [], ◌∷◌, ◌++◌, ◌&&◌, length, IfOk, OnOk, OnErr, slice_get, Some, nat_eq};
 ghost use Rattle.std.specs.Cmp.Lexicographic.{pointwise};
 ghost use Rattle.std.specs.Str.{bytes_eq};
 ghost use Rattle.vic_script.specs.Print.{same_answer as same_answer_test, same_outcome as same_outcome_test, same_shown as same_shown_test, agreement};
+ghost use Rattle.vic_view.specs.Together.{rows_of};
 
+use crate::together::{Line, Rows, together};
 use std::alloc::Global;
 use std::marker::Model;
 use vic_dict::{Answer, Bytes, Names, NoMemory, Outcome};
@@ -133,6 +135,31 @@ pub(crate) fn common_calls(left: &[Shown], right: &[Shown]) -> usize
         common += 1;
     }
     common
+}
+
+/// The same, where so many are known to be. It costs the others.
+fn common_calls_beyond(left: &[Shown], right: &[Shown], known: usize) -> usize
+    requires first { known ≤ length left.now }
+    requires second { known ≤ length right.now }
+    requires common { known ≤ agreement left.now right.now }
+    ensures { result ≡ agreement left.now right.now }
+{
+    known + common_calls(&left[known..], &right[known..])
+}
+
+impl Line for View {
+    ghost in_common = { agreement };
+
+    fn common_beyond(&self, other: &View, known: usize) -> usize {
+        common_calls_beyond(self.as_slice(), other.as_slice(), known)
+    }
+}
+
+/// How many calls each two views have in common at their front. It costs the views, and a number for each two of them.
+pub(crate) fn agreements(alloc: Global, views: &[View]) -> Result<Rows, NoMemory>
+    ensures { IfOk result (λ rows. rows ≡ rows_of agreement views.now) }
+{
+    together(alloc, views)
 }
 
 /// How many calls two views have in common at their front. It takes no memory, and costs that number.

@@ -1,12 +1,13 @@
 //! The views of a transcript's clients.
 
-ghost use Rattle.std.specs.Prelude.{◌≡◌, ◌<◌, ◌≤◌, ◌+◌, ◌-◌, [], ◌∷◌, ◌++◌, length, reverse, IfOk, OnOk, OnErr, slice_get, slice_index, slice_index_or, Some, None, IfSome, if◌then◌else◌};
+ghost use Rattle.std.specs.Prelude.{◌≡◌, ◌<◌, ◌≤◌, ◌+◌, ◌-◌, [], ◌∷◌, ◌++◌, length, map, reverse, IfOk, OnOk, OnErr, slice_get, slice_index, slice_index_or, Some, None, IfSome, if◌then◌else◌};
 ghost use Rattle.vic_rules.specs.History.{IsLawful};
 ghost use Rattle.vic_rules.specs.Views.{view_of as view_after};
 ghost use Rattle.vic_view.specs.Transcripts.{group_of, history_of};
 ghost use Rattle.vic_view.specs.Replay.{AreReplayed, common, outcome_of, length_among, outcome_among, lengths_with, places_among, shown_by, shown_below};
 
-use crate::replay::{ClientPath, Place, Places, path_of};
+use crate::replay::{ClientPath, Place, path_of};
+use crate::together::{Line, Rows, row_afresh, together};
 use crate::transcript::Transcript;
 use crate::view::View;
 use std::alloc::Global;
@@ -78,14 +79,29 @@ pub fn common_length(a: &[Place], b: &[Place]) -> usize
     length
 }
 
-fn common_lengths(alloc: Global, mine: &Places, all: &[ClientPath]) -> Result<Vec<usize>, NoMemory>
-    ensures { IfOk result (λ lengths. lengths.items ≡ lengths_with mine.now all.now) }
+/// The same, where so many are known to be. It costs the others.
+fn common_length_beyond(a: &[Place], b: &[Place], known: usize) -> usize
+    requires first { known ≤ length a.now }
+    requires second { known ≤ length b.now }
+    requires common { known ≤ common a.now b.now }
+    ensures { result ≡ common a.now b.now }
 {
-    let mut lengths = Vec::new(alloc);
-    for path in all {
-        lengths.push(common_length(mine.as_slice(), path.places.as_slice()))?;
+    known + common_length(&a[known..], &b[known..])
+}
+
+impl Line for ClientPath {
+    ghost in_common = { λ a b. common a.places b.places };
+
+    fn common_beyond(&self, other: &ClientPath, known: usize) -> usize {
+        common_length_beyond(self.places.as_slice(), other.places.as_slice(), known)
     }
-    Ok(lengths)
+}
+
+/// How many entries each two paths have in common at their front. It costs the paths, and a number for each two of them.
+pub(crate) fn common_lengths(alloc: Global, all: &[ClientPath]) -> Result<Rows, NoMemory>
+    ensures { IfOk result (λ rows. rows ≡ map (λ p. lengths_with p.places all.now) all.now) }
+{
+    together(alloc, all)
 }
 
 /// The outcome at a place, if it has one.
@@ -142,20 +158,21 @@ pub(crate) fn show(
     Ok(())
 }
 
-/// What a path shows, up to its client's last completed call.
+/// What a path shows, up to its client's last completed call, where its lengths in common with all paths are known.
 pub(crate) fn view_among(
     alloc: Global,
     mine: &ClientPath,
+    lengths: &[usize],
     all: &[ClientPath],
 ) -> Result<View, NoMemory>
-    requires { mine.now.done ≤ length mine.now.places }
+    requires done { mine.now.done ≤ length mine.now.places }
+    requires lengths { lengths.now ≡ lengths_with mine.now.places all.now }
     ensures { IfOk result (λ v. reverse v ≡ shown_below (places_among all.now) mine.now.places mine.now.done) }
 {
-    let lengths = common_lengths(alloc, &mine.places, all)?;
     let mut view = View::new(alloc);
     for number in 0..mine.done {
         let place = mine.places.at(number);
-        let outcome = owner_outcome(alloc, lengths.as_slice(), all, place.entry.client, number)?;
+        let outcome = owner_outcome(alloc, lengths, all, place.entry.client, number)?;
         show(alloc, &mut view, place, outcome)?;
     }
     Ok(view)
@@ -168,6 +185,8 @@ pub fn view_of(alloc: Global, t: &Transcript, client: u8) -> Result<View, NoMemo
     ensures { IfOk result (λ v. reverse v ≡ view_after (group_of t.now) client (history_of t.now)) }
 {
     let mine = path_of(alloc, t, client)?;
-    let all = all_paths(alloc, t)?;
-    view_among(alloc, &mine, all.as_slice())
+    let paths = all_paths(alloc, t)?;
+    let all = paths.as_slice();
+    let lengths = row_afresh(alloc, &mine, all)?;
+    view_among(alloc, &mine, lengths.as_slice(), all)
 }

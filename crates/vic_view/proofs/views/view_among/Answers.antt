@@ -1,4 +1,3 @@
-use Rattle.std.proofs.Common.{◌∙◌}
 use Rattle.vic_view.specs.Replay.{places_among}
 use Rattle.vic_view.proofs.Shows.{shown_start, shown_more}
 use Rattle.vic_view.proofs.views.view_among.Goals as goal
@@ -8,5 +7,5 @@ loop-number-init c = shown_start (places_among c.args.all.now) c.args.mine.now.p
 
 pub loop-number-preserved : goal.loop-number-preserved
 loop-number-preserved c =
-    shown_more c.as_slice.result.now c.args.all.now c.args.mine.now.places c.loop-number.view c.show.new.view c.loop-number.number c.at-place.result.now c.in_ok-outcome.outcome
-    c.loop-number.invariant c.at-place.ensures (c.as_slice.ensures.value ∙ c.in_ok-lengths.ensures) c.in_ok-outcome.ensures c.in_ok-show.ensures
+    shown_more c.args.lengths.now c.args.all.now c.args.mine.now.places c.loop-number.view c.show.new.view c.loop-number.number c.at-place.result.now c.in_ok-outcome.outcome
+    c.loop-number.invariant c.at-place.ensures c.requires.lengths c.in_ok-outcome.ensures c.in_ok-show.ensures
