@@ -1,5 +1,5 @@
 -- Where two lists part by a test of their items; and the rows of lengths that are known, one for each line before the next one.
-use Rattle.std.proofs.Common.{◌≡◌, ℕ, zero, suc, ◌+◌, ◌-◌, ◌<◌, ◌≤◌, Bool, true, false, ◌&&◌, List, [], ◌∷◌, length, map, take, drop, get_or, if◌then◌else◌, Option, Some, refl, sym, ◌∙◌, ap, subst, arith, Decides, true≢false, bytes_eq}
+use Rattle.std.proofs.Common.{◌≡◌, ℕ, zero, suc, ◌+◌, ◌-◌, ◌<◌, ◌≤◌, Bool, true, false, List, [], ◌∷◌, length, map, take, drop, get_or, if◌then◌else◌, Some, refl, sym, ◌∙◌, ap, subst, arith, Decides, true≢false, bytes_eq}
 use Rattle.std.specs.Prelude.{slice_get}
 use Rattle.std.specs.Cmp.Lexicographic.{pointwise}
 use Rattle.std.specs.Option.{option_map}
@@ -19,7 +19,7 @@ use Rattle.vic_script.specs.Print.{same_answer, same_outcome, same_shown, agreem
 use Rattle.vic_laws.proofs.SameOp.{same_entry-Decides}
 use Rattle.vic_view.specs.declared.replay.Place.{Place}
 use Rattle.vic_view.specs.declared.replay.ClientPath.{ClientPath}
-use Rattle.vic_view.specs.Replay.{common, lengths_with}
+use Rattle.vic_view.specs.Replay.{common}
 use Rattle.vic_view.specs.Together.{IsNested, IsSymmetric, IsRowBy, row_of, rows_of}
 
 -- ---- where two lists part

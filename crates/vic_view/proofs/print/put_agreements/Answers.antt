@@ -1,4 +1,4 @@
-use Rattle.std.proofs.Common.{◌≡◌, ◌<◌, ◌≤◌, ◌+◌, ◌++◌, List, ℕ, length, ap, arith, ◌∙◌}
+use Rattle.std.proofs.Common.{◌≡◌, ◌<◌, ◌++◌, length, arith, ◌∙◌}
 use Rattle.vic_script.specs.Print.{agreement}
 use Rattle.vic_view.specs.Together.{rows_of}
 use Rattle.vic_view.specs.Printed.{agree_texts}
