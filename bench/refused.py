@@ -8,15 +8,17 @@ on, which is refused alone. Growths of what was allocated before count too. Thos
 program itself asks for is counted and refused, by a library of this script's own, which the system loads before the program
 (LD_PRELOAD) and which a C compiler builds at the start.
 
-The runs: a script of one client, a client's session over the loopback address with a server of this script's own, a drill, and a
-server to which a client of this script's own comes. Each is to end with status 6 and `no memory` alone, or as it does undisturbed;
-the server also with status 0, where its one connection was given up for want of memory and is counted so. It prints how many
-allocations each run asked for and what came, and with --all what came of each.
+The runs: a script of one client; one of a group with objects, in which the longest content is stored and loaded; a client's
+session over the loopback address with a server of this script's own; a drill; and a server to which a client of this script's own
+comes. Each is to end with status 6 and `no memory` alone, or as it does undisturbed; the server also with status 0, where its one
+connection was given up for want of memory and is counted so. It prints how many allocations each run asked for and what came, and
+with --all what came of each.
 
 Status 0: nothing else came. Status 1: something else did, and is told. Status 2: wrong words, or there is no program or no C
 compiler. FILE is the built program, which `./vicos` leaves as crates/vicos/out/vicos.
 """
 import argparse
+import hashlib
 import shutil
 import socket
 import struct
@@ -31,6 +33,7 @@ from scale import built, default_program, stop
 
 PATIENCE = 60  # seconds after which a run is given up
 NO_MEMORY = (6, b"no memory\n")
+LONGEST = 8_388_608  # bytes that a content may have
 
 # Counts what the program asks for in a file's first eight bytes, which outlive it, and refuses the one with the number that the
 # environment tells.
@@ -151,6 +154,18 @@ def run(program, library, counter, words, script, number):
     return (ran.returncode, ran.stdout), asked
 
 
+def stored_and_loaded(length):
+    """A script that stores so many zeros, at least 32, and loads them again, and what it comes to."""
+    reference = hashlib.sha256(b"\x06" + bytes(length)).hexdigest() + f"{length:08x}"
+    script = f"objects 1\ncall 1 store f zeros:{length}\nrun 1\ncall 1 load f\nrun 1\n"
+    printed = (
+        "1 took\n1 done stored\n1 object stored\n1 took\n1 took\n"
+        f"1 done value %{reference}\n1 took\n1 took\n1 object content {length} %{'00' * 32}\n"
+        f"view 1\n1.1 put f %{reference} = done stored\n1.2 get f = done value %{reference}\ntags made\n"
+    )
+    return script.encode(), (0, printed.encode())
+
+
 def served(changes, no_memory):
     """What a server prints of one connection, of a client that comes in and leaves."""
     return b"connections 1\nordered 0\nsealed 0\nchanges %d\nlink faults 0\nbad frames 0\nno memory %d\n" % (changes, no_memory)
@@ -204,6 +219,7 @@ def main():
                 b"view 1\n1.1 put a x = done stored\n1.2 get a = done value x\ntags made\n",
             ),
         ),
+        ("objects", ["group"], *stored_and_loaded(LONGEST)),
         ("client", ["client", address, "1", "1", "0b", "plain"], b"put a x", (0, b"refused 2\nbye\n")),
         (
             "drill",
