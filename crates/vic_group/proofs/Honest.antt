@@ -118,7 +118,7 @@ module _ {S V : Type 0} (state : S → V) (rule : Serving V) where
   line_fits s (line.Clients n) bytes good honest = absurd cc
   line_fits s (line.Objects n) bytes good honest = absurd cc
   line_fits s (line.Key digits) bytes good honest = absurd cc
-  line_fits s (line.Hostile name n) bytes good honest = tt
+  line_fits s (line.Hostile name n) bytes good honest = absurd cc
   line_fits s (line.Call i o) bytes good honest = ((fits_op_is o).0 (and_parts (same_mode s.group.mode mode.Plain) (fits_op o) (called_first s i o good)).1, bytes)
   line_fits s (line.Object i c) bytes good honest = ((fits_object_is c).0 (and_parts (same_mode s.group.mode mode.Objects) (fits_object c) (object_called_first s i c good)).1, bytes)
   line_fits s (line.Poll i) bytes good honest = tt

@@ -1,7 +1,7 @@
 -- A script's lines, done in a world that shows where the script stands.
 use Rattle.std.proofs.Common.{◌≡◌, ℕ, ◌+◌, ◌-◌, ◌<◌, ◌≤◌, ◌^◌, Bool, true, false, List, [], ◌∷◌, ◌++◌, length, take, Option, Some, None, is_some, is_none, Result, Ok, Err, refl, sym, ap, subst, ◌∙◌, arith, append_assoc, append-nil, slice_get}
 use Rattle.std.proofs.lemmas.Bool.{le-ltb, lt-ltb}
-use Rattle.std.specs.Prelude.{IfOk, if◌then◌else◌, nat_lt}
+use Rattle.std.specs.Prelude.{IfOk, if◌then◌else◌, nat_lt, not, ◌&&◌}
 use Rattle.std.specs.Result.{result_ok}
 use Rattle.hex.specs.Hex.{decode_of}
 use Rattle.std.proofs.lemmas.List.{take_all}
@@ -13,12 +13,14 @@ use Rattle.vic_view.specs.Transcripts.{history_of, group_of as transcript_group}
 use Rattle.vic_script.specs.declared.line.Line.{Line}
 use Rattle.vic_script.specs.declared.line.Line.TheVariants as line
 use Rattle.vic_script.specs.Lines.{lines_of, line_of}
-use Rattle.vic_order.specs.Scenes.{Scene, opening}
-use Rattle.vic_script.specs.Run.{limit, Bad, Header as Told, group_by, Place, Before, Heads, Stands, scene_in, Played as Run, stops, printed_before, Tried, Fails, Does, try_line, mode_in, follow, place_behind, bad_end, play, run_of, group_in, history_in}
+use Rattle.vic_attacks.specs.Hostile.{Hostile}
+use Rattle.vic_order.specs.Scenes.{SceneOf}
+use Rattle.vic_script.specs.Run.{limit, Bad, Attack, Header as Told, group_by, attack_by, opening_by, Place, Before, Heads, Stands, scene_in, Played as Run, stops, printed_before, Tried, Fails, Does, try_line, mode_in, follow, place_behind, bad_end, play, run_of, group_in, history_in}
 use Rattle.vic_script.specs.Print.{bad_line, end_text, print_of, is_forged}
 use Rattle.vic_runs.proofs.Words.{text_fits}
 use Rattle.vic_runs.specs.Claims.{FitsLine}
 use Rattle.vic_runs.specs.Reached.{IsReached}
+use Rattle.vic_runs.proofs.Headers.{attack_named}
 use Rattle.vic_runs.proofs.Runs.{TriedReaches, opens_reached, tried}
 use Rattle.vic_group.specs.declared.header.Header.{Header}
 use Rattle.vic_group.specs.declared.header.Headed.{Headed}
@@ -31,7 +33,6 @@ use Rattle.vic_group.specs.declared.play.Ran.TheVariants as ran
 use Rattle.vic_group.specs.declared.member.Member.{Member}
 use Rattle.vic_group.specs.declared.world.World.{World}
 use Rattle.vic_group.specs.World.{MemberStands, ShowsScene, IsReady, MayDo}
-use Rattle.vic_server.specs.Replay.{Kept}
 use Rattle.vic_group.specs.Playing.{state, scene_of, Shows, header_by, place_by, HasFew, Leads, Tries, tried_at, Follows, Leaves, ended_by, end_of}
 use Rattle.vic_group.proofs.Members.{stand_at}
 use Rattle.vic_group.proofs.Scenes.{same_scene}
@@ -39,17 +40,17 @@ use Rattle.vic_group.proofs.Scenes.{same_scene}
 -- ---- the world and its scene
 
 -- a world shows no other scene
-pub scene_same : (w : World Kept) (s : Scene) → ShowsScene state w s → s ≡ scene_of w
+pub scene_same : (w : World Hostile) (s : SceneOf Hostile) → ShowsScene state w s → s ≡ scene_of w
 scene_same w s h = same_scene s (scene_of w) (sym h.group) (sym h.history) (sym h.up) (sym h.down) (sym h.served_by) (sym h.servers)
 
 -- where so few lines were done, each client may call once more
-is_ready : (w : World Kept) (n i : ℕ) (k : Mode) (m : Member) → Shows w → IsReached (scene_of w) n → n + 1 < 2 ^ 32 → w.transcript.mode ≡ k → slice_get w.members.items (i - 1) ≡ Some m → IsReady k m
+is_ready : (w : World Hostile) (n i : ℕ) (k : Mode) (m : Member) → Shows w → IsReached (scene_of w) n → n + 1 < 2 ^ 32 → w.transcript.mode ≡ k → slice_get w.members.items (i - 1) ≡ Some m → IsReady k m
 is_ready w n i k m shows r few is at =
     let so = stand_at (MemberStands (scene_of w).group (scene_of w).history) 1 (i - 1) w.members.items m shows.clients at in
     (ap (λ (x : Group). x.mode) so.group ∙ is, omega (arith, few, r.calls (1 + (i - 1)), so.stands.calls))
 
 -- also the one that a line calls
-pub may_of : (w : World Kept) (n : ℕ) (l : Line) → Shows w → IsReached (scene_of w) n → n + 1 < 2 ^ 32 → MayDo w l
+pub may_of : (w : World Hostile) (n : ℕ) (l : Line) → Shows w → IsReached (scene_of w) n → n + 1 < 2 ^ 32 → MayDo w l
 may_of w n (line.Call i o) shows r few = λ plain above m at. is_ready w n i mode.Plain m shows r few plain at
 may_of w n (line.Object i c) shows r few = λ objects above m at. is_ready w n i mode.Objects m shows r few objects at
 may_of w n (line.Clients k) shows r few = tt
@@ -75,29 +76,46 @@ pub known_all : (n : ℕ) (script : List ℕ) → length script ≤ n → script
 known_all n script few = sym (take_all (n + 1) script (omega (arith, few)))
 
 -- a line that begins a header
-pub leads_clients : (l : Option Line) (count : ℕ) (r : Headed) → l ≡ Some (line.Clients count) → FitsLine (line.Clients count) → r ≡ headed.Goes (Some (record { mode = mode.Plain; count = count; key = None })) → Leads Before l r
+pub leads_clients : (l : Option Line) (count : ℕ) (r : Headed) → l ≡ Some (line.Clients count) → FitsLine (line.Clients count) → r ≡ headed.Goes (Some (record { mode = mode.Plain; count = count; key = None; hostile = None })) → Leads Before l r
 leads_clients l count r e fits is = subst (λ (o : Option Line). Leads Before o r) (sym e) (subst (λ (x : Headed). Leads Before (Some (line.Clients count)) x) (sym is) (refl, fits))
 
-pub leads_objects : (l : Option Line) (count : ℕ) (r : Headed) → l ≡ Some (line.Objects count) → FitsLine (line.Objects count) → r ≡ headed.Goes (Some (record { mode = mode.Objects; count = count; key = None })) → Leads Before l r
+pub leads_objects : (l : Option Line) (count : ℕ) (r : Headed) → l ≡ Some (line.Objects count) → FitsLine (line.Objects count) → r ≡ headed.Goes (Some (record { mode = mode.Objects; count = count; key = None; hostile = None })) → Leads Before l r
 leads_objects l count r e fits is = subst (λ (o : Option Line). Leads Before o r) (sym e) (subst (λ (x : Headed). Leads Before (Some (line.Objects count)) x) (sym is) (refl, fits))
 
-no_second : (o : Option (List ℕ)) (t : Tried) → is_some o ≡ true → (if is_none o then t else Fails 1) ≡ Fails 1
-no_second (Some k) t e = refl
-no_second None t e = absurd cc
+if-so : (b : Bool) (t u : Tried) → b ≡ true → (if b then t else u) ≡ t
+if-so b t u e = ap (λ (x : Bool). if x then t else u) e
 
-first_key : (o : Option (List ℕ)) (t : Tried) → is_some o ≡ false → (if is_none o then t else Fails 1) ≡ t
-first_key (Some k) t e = absurd cc
-first_key None t e = refl
+if-not : (b : Bool) (t u : Tried) → b ≡ false → (if b then t else u) ≡ u
+if-not b t u e = ap (λ (x : Bool). if x then t else u) e
 
--- a second key
-pub leads_again : (h : Header) (digits : List ℕ) → is_some h.key ≡ true → HasFew (Some h) → Leads (Heads (header_by h)) (Some (line.Key digits)) (headed.Bad (Some h) 1)
-leads_again h digits e few = (no_second h.key (Does (Heads (record (header_by h) { key = result_ok (decode_of digits) })) []) e, (refl, few))
+is-none : {A : Type 0} (o : Option A) (b : Bool) → is_some o ≡ b → is_none o ≡ not b
+is-none None b e = ap not e
+is-none (Some a) b e = ap not e
 
--- the first one
-pub leads_keyed : (h : Header) (digits key : List ℕ) → is_some h.key ≡ false → result_ok (decode_of digits) ≡ Some key → HasFew (Some h)
-    → Leads (Heads (header_by h)) (Some (line.Key digits)) (headed.Goes (Some (record { mode = h.mode; count = h.count; key = Some key })))
+-- a key in a header that has one, or that says how its server misbehaves
+pub leads_again : (h : Header) (digits : List ℕ) → (is_none h.key && is_none h.hostile) ≡ false → HasFew (Some h) → Leads (Heads (header_by h)) (Some (line.Key digits)) (headed.Bad (Some h) 1)
+leads_again h digits e few = (if-not (is_none h.key && is_none h.hostile) (Does (Heads (record (header_by h) { key = result_ok (decode_of digits) })) []) (Fails 1) e, (refl, few))
+
+-- the first key
+pub leads_keyed : (h : Header) (digits key : List ℕ) → (is_none h.key && is_none h.hostile) ≡ true → result_ok (decode_of digits) ≡ Some key → HasFew (Some h)
+    → Leads (Heads (header_by h)) (Some (line.Key digits)) (headed.Goes (Some (record { mode = h.mode; count = h.count; key = Some key; hostile = h.hostile })))
 leads_keyed h digits key e spelled few = (
-  first_key h.key (Does (Heads (record (header_by h) { key = result_ok (decode_of digits) })) []) e ∙ ap (λ (o : Option (List ℕ)). Does (Heads (record (header_by h) { key = o })) []) spelled,
+  if-so (is_none h.key && is_none h.hostile) (Does (Heads (record (header_by h) { key = result_ok (decode_of digits) })) []) (Fails 1) e
+      ∙ ap (λ (o : Option (List ℕ)). Does (Heads (record (header_by h) { key = o })) []) spelled,
+  few,
+)
+
+-- how a server misbehaves, told twice
+pub leads_twice : (h : Header) (name : List ℕ) (n : ℕ) → is_some h.hostile ≡ true → HasFew (Some h) → Leads (Heads (header_by h)) (Some (line.Hostile name n)) (headed.Bad (Some h) 1)
+leads_twice h name n e few =
+    (if-not (is_none h.hostile) (Does (Heads (record (header_by h) { hostile = attack_named name n })) []) (Fails 1) (is-none h.hostile true e), (refl, few))
+
+-- told once
+pub leads_turned : (h : Header) (name : List ℕ) (n : ℕ) (o : Option Attack) → is_some h.hostile ≡ false → o ≡ attack_named name n → HasFew (Some h)
+    → Leads (Heads (header_by h)) (Some (line.Hostile name n)) (headed.Goes (Some (record { mode = h.mode; count = h.count; key = h.key; hostile = o })))
+leads_turned h name n o e is few = (
+  if-so (is_none h.hostile) (Does (Heads (record (header_by h) { hostile = attack_named name n })) []) (Fails 1) (is-none h.hostile false e)
+      ∙ ap (λ (x : Option Attack). Does (Heads (record (header_by h) { hostile = x })) []) (sym is),
   few,
 )
 
@@ -106,14 +124,14 @@ leads_keyed h digits key e spelled few = (
 none-some : (kind : ℕ) → None ≡ Some kind → ⊥
 none-some kind e = absurd cc
 
-follows-tried : (n : ℕ) (t : Tried) (s : Scene) (w : World Kept) (old new : List ℕ) → TriedReaches t (n + 1) → Tries t s w old new None → Follows n t s w old new None
+follows-tried : (n : ℕ) (t : Tried) (s : SceneOf Hostile) (w : World Hostile) (old new : List ℕ) → TriedReaches t (n + 1) → Tries t s w old new None → Follows n t s w old new None
 follows-tried n (Fails kind) s w old new r h = absurd (none-some kind h.0)
 follows-tried n (Does Before text) s w old new r h = absurd h.1.1
 follows-tried n (Does (Heads header) text) s w old new r h = absurd h.1.1
 follows-tried n (Does (Stands next) text) s w old new r h = (refl, (h.1.0, (h.1.1, r)))
 
 -- a line within the limit that was done
-pub follows_none : (behind n : ℕ) (s : Scene) (text : List ℕ) (w : World Kept) (old new : List ℕ) → behind ≤ limit → IsReached s n → n + 1 < 2 ^ 32
+pub follows_none : (behind n : ℕ) (s : SceneOf Hostile) (text : List ℕ) (w : World Hostile) (old new : List ℕ) → behind ≤ limit → IsReached s n → n + 1 < 2 ^ 32
     → Tries (try_line (Stands s) (line_of (Some s.group.mode) text)) s w old new None → Follows n (tried_at behind (Stands s) text) s w old new None
 follows_none behind n s text w old new within r few h =
     let t : Tried = try_line (Stands s) (line_of (Some s.group.mode) text) in
@@ -146,15 +164,15 @@ printed-nothing : (p : Run) → printed_before [] p ≡ p
 printed-nothing p = refl
 
 -- a line was done, and the run goes on from there
-pub goes_on : (n : ℕ) (run : Run) (place : Place) (t : Tried) (rest : Place → Run) (was : Scene) (w : World Kept) (old new : List ℕ) → run ≡ printed_before old (follow n place t rest) → Follows n t was w old new None
+pub goes_on : (n : ℕ) (run : Run) (place : Place) (t : Tried) (rest : Place → Run) (was : SceneOf Hostile) (w : World Hostile) (old new : List ℕ) → run ≡ printed_before old (follow n place t rest) → Follows n t was w old new None
     → (Shows w × IsReached (scene_of w) (n + 1)) × (run ≡ printed_before new (rest (Stands (scene_of w))))
 goes_on n run place (Fails kind) rest was w old new e h = absurd cc
 goes_on n run place (Does Before text) rest was w old new e h = absurd h.1.1
 goes_on n run place (Does (Heads header) text) rest was w old new e h = absurd h.1.1
 goes_on n run place (Does (Stands s) text) rest was w old new e h =
     let same : s ≡ scene_of w = scene_same w s h.1.1.0 in (
-      (subst (λ (x : Scene). ShowsScene state w x) same h.1.1.0, subst (λ (x : Scene). IsReached x (n + 1)) same h.1.1.1),
-      e ∙ printed-twice old text (rest (Stands s)) ∙ ap (λ (o : List ℕ). printed_before o (rest (Stands s))) (sym h.1.0) ∙ ap (λ (x : Scene). printed_before new (rest (Stands x))) same,
+      (subst (λ (x : SceneOf Hostile). ShowsScene state w x) same h.1.1.0, subst (λ (x : SceneOf Hostile). IsReached x (n + 1)) same h.1.1.1),
+      e ∙ printed-twice old text (rest (Stands s)) ∙ ap (λ (o : List ℕ). printed_before o (rest (Stands s))) (sym h.1.0) ∙ ap (λ (x : SceneOf Hostile). printed_before new (rest (Stands x))) same,
     )
 
 -- the run, with its next line before the others
@@ -175,7 +193,7 @@ stopped-so run t out place n kind e group history = (
 )
 
 -- a line was bad
-pub leaves_stop : (n : ℕ) (run : Run) (s : Scene) (t : Tried) (rest : Place → Run) (w : World Kept) (done : Transcript) (old new : List ℕ) (b : BadLine) → run ≡ printed_before old (follow n (Stands s) t rest)
+pub leaves_stop : (n : ℕ) (run : Run) (s : SceneOf Hostile) (t : Tried) (rest : Place → Run) (w : World Hostile) (done : Transcript) (old new : List ℕ) (b : BadLine) → run ≡ printed_before old (follow n (Stands s) t rest)
     → Follows n t s w old new (Some b) → done ≡ w.transcript → Leaves run (ran.Stopped done new b)
 leaves_stop n run s (Does next made) rest w done old new b e h is = absurd cc
 leaves_stop n run s (Fails kind) rest w done old new b e h is =
@@ -191,7 +209,7 @@ unfolding play
 play_nil total before n place = refl
 
 -- no line is left
-pub leaves_end : (total before n : ℕ) (run : Run) (w : World Kept) (out : List ℕ) → run ≡ printed_before out (play total before n (Stands (scene_of w)) []) → Shows w → Leaves run (ran.Whole w out)
+pub leaves_end : (total before n : ℕ) (run : Run) (w : World Hostile) (out : List ℕ) → run ≡ printed_before out (play total before n (Stands (scene_of w)) []) → Shows w → Leaves run (ran.Whole w out)
 leaves_end total before n run w out e shows =
     let done : run ≡ printed_before out (record { scene = Some (scene_of w); text = []; bad = None }) = e ∙ ap (printed_before out) (play_nil total before n (Stands (scene_of w))) in
     (ap (λ (r : Run). r.bad) done, (ap (λ (r : Run). r.text) done ∙ append-nil out, (ap (λ (r : Run). r.scene) done, shows)))
@@ -222,39 +240,39 @@ unopened_leaves (Some h) t n kind group none = (refl, (refl, (group, none)))
 pub head_goes : (run : Run) (n : ℕ) (place next : Place) (t : Tried) (rest : Place → Run) → run ≡ follow n place t rest → t ≡ Does next [] → run ≡ rest next
 head_goes run n place next t rest e is = e ∙ ap (λ (x : Tried). follow n place x rest) is ∙ printed-nothing (rest next)
 
-follow-same : (n : ℕ) (h : Told) (t : Tried) (rest : Place → Run) → follow n (Heads h) t rest ≡ follow n (Stands (opening (group_by h))) t rest
+follow-same : (n : ℕ) (h : Told) (t : Tried) (rest : Place → Run) → follow n (Heads h) t rest ≡ follow n (Stands (opening_by h)) t rest
 follow-same n h (Fails kind) rest = refl
 follow-same n h (Does next text) rest = refl
 
 play-ends : (total before n : ℕ) (h : Told) (text : List ℕ) (texts : List (List ℕ)) → place_behind total before text ≤ limit
-    → try_line (Heads h) (line_of (Some h.mode) text) ≡ try_line (Stands (opening (group_by h))) (line_of (Some h.mode) text)
-    → play total before n (Heads h) (text ∷ texts) ≡ play total before n (Stands (opening (group_by h))) (text ∷ texts)
+    → try_line (Heads h) (line_of (Some h.mode) text) ≡ try_line (Stands (opening_by h)) (line_of (Some h.mode) text)
+    → play total before n (Heads h) (text ∷ texts) ≡ play total before n (Stands (opening_by h)) (text ∷ texts)
 play-ends total before n h text texts within same =
     let behind : ℕ = place_behind total before text in
-    let s : Scene = opening (group_by h) in
+    let s : SceneOf Hostile = opening_by h in
     let rest : Place → Run = λ next. play total behind (n + 1) next texts in
     play_line total before n (Heads h) text texts ∙ ap (λ (t : Tried). follow n (Heads h) t rest) (tried_short behind (Heads h) text within ∙ same) ∙ follow-same n h (try_line (Stands s) (line_of (Some h.mode) text)) rest
     ∙ ap (λ (t : Tried). follow n (Stands s) t rest) (sym (tried_short behind (Stands s) text within)) ∙ sym (play_line total before n (Stands s) text texts)
 
 -- or it isn't of the header, and is tried in the scene that a world shows
-pub head_ends : (run : Run) (total before n : ℕ) (place : Place) (h : Header) (w : World Kept) (rest text others : List ℕ) → Heading run total before n place (lines_of rest) → lines_of rest ≡ text ∷ lines_of others
-    → place_behind total before text ≤ limit → Leads place (line_of (mode_in (scene_in place)) text) (headed.Ends h) → ShowsScene state w (opening (group_by (header_by h)))
+pub head_ends : (run : Run) (total before n : ℕ) (place : Place) (h : Header) (w : World Hostile) (rest text others : List ℕ) → Heading run total before n place (lines_of rest) → lines_of rest ≡ text ∷ lines_of others
+    → place_behind total before text ≤ limit → Leads place (line_of (mode_in (scene_in place)) text) (headed.Ends h) → ShowsScene state w (opening_by (header_by h))
     → Heading run total before n (Stands (scene_of w)) (lines_of rest)
 head_ends run total before n place h w rest text others e lines within leads shows =
     let told : Told = header_by h in
     let texts : List (List ℕ) = lines_of others in
-    let same = subst (λ (p : Place). try_line p (line_of (mode_in (scene_in p)) text) ≡ try_line (Stands (opening (group_by told))) (line_of (mode_in (scene_in p)) text)) leads.0 leads.1.0 in
+    let same = subst (λ (p : Place). try_line p (line_of (mode_in (scene_in p)) text) ≡ try_line (Stands (opening_by told)) (line_of (mode_in (scene_in p)) text)) leads.0 leads.1.0 in
     e ∙ ap (λ (xs : List (List ℕ)). play total before n place xs) lines ∙ ap (λ (p : Place). play total before n p (text ∷ texts)) leads.0 ∙ play-ends total before n told text texts within same
-    ∙ ap (λ (s : Scene). play total before n (Stands s) (text ∷ texts)) (scene_same w (opening (group_by told)) shows) ∙ ap (λ (xs : List (List ℕ)). play total before n (Stands (scene_of w)) xs) (sym lines)
+    ∙ ap (λ (s : SceneOf Hostile). play total before n (Stands s) (text ∷ texts)) (scene_same w (opening_by told) shows) ∙ ap (λ (xs : List (List ℕ)). play total before n (Stands (scene_of w)) xs) (sym lines)
 
 -- the world that a header opens
-pub opened_shows : (w : World Kept) (g : Group) → ShowsScene state w (opening g) → Shows w
-opened_shows w g shows = subst (λ (s : Scene). ShowsScene state w s) (scene_same w (opening g) shows) shows
+pub opened_shows : (w : World Hostile) (h : Header) → ShowsScene state w (opening_by (header_by h)) → Shows w
+opened_shows w h shows = subst (λ (s : SceneOf Hostile). ShowsScene state w s) (scene_same w (opening_by (header_by h)) shows) shows
 
-pub opened_reached : (w : World Kept) (h : Header) (n : ℕ) → ShowsScene state w (opening (group_by (header_by h))) → IsReached (scene_of w) n
+pub opened_reached : (w : World Hostile) (h : Header) (n : ℕ) → ShowsScene state w (opening_by (header_by h)) → IsReached (scene_of w) n
 opened_reached w h n shows =
-    let g : Group = group_by (header_by h) in
-    subst (λ (s : Scene). IsReached s n) (scene_same w (opening g) shows) (opens_reached g n shows.lawful.group)
+    let told : Told = header_by h in
+    subst (λ (s : SceneOf Hostile). IsReached s n) (scene_same w (opening_by told) shows) (opens_reached (group_by told) (attack_by told) n shows.lawful.group)
 
 -- ---- the whole script
 
@@ -268,8 +286,8 @@ unfolding run_of
 run_known script known e = ap (λ (bytes : List ℕ). play (length bytes) 0 1 Before (lines_of bytes)) e
 
 -- no event came
-pub closed_whole : (w : World Kept) (h : Header) (n : ℕ) → ShowsScene state w (opening (group_by (header_by h))) → Leaves (record { scene = Some (opening (group_by (header_by h))); text = []; bad = None }) (ran.Whole w [])
-closed_whole w h n shows = (refl, (refl, (ap (λ (s : Scene). Some s) (scene_same w (opening (group_by (header_by h))) shows), opened_shows w (group_by (header_by h)) shows)))
+pub closed_whole : (w : World Hostile) (h : Header) (n : ℕ) → ShowsScene state w (opening_by (header_by h)) → Leaves (record { scene = Some (opening_by (header_by h)); text = []; bad = None }) (ran.Whole w [])
+closed_whole w h n shows = (refl, (refl, (ap (λ (s : SceneOf Hostile). Some s) (scene_same w (opening_by (header_by h)) shows), opened_shows w h shows)))
 
 -- what holds of a value of a result
 pub if_ok-map : {A E : Type 0} (r : Result A E) (P Q : A → Type 0) → ((a : A) → P a → Q a) → IfOk r P → IfOk r Q
@@ -279,13 +297,13 @@ if_ok-map (Err e) P Q f h = tt
 -- ---- what is printed
 
 -- every line was done
-pub prints_whole : (r : Run) (w : World Kept) (out : List ℕ) → Leaves r (ran.Whole w out) → (p : Played)
+pub prints_whole : (r : Run) (w : World Hostile) (out : List ℕ) → Leaves r (ran.Whole w out) → (p : Played)
     → (p.text ≡ out ++ end_text (transcript_group w.transcript) (history_of w.transcript) None) × (p.end ≡ ended_by None (is_forged (transcript_group w.transcript) (history_of w.transcript))) → (p.text ≡ print_of r) × (p.end ≡ end_of r)
 unfolding print_of
 prints_whole r w out left p h = (
   h.0 ∙ ap (λ (o : List ℕ). o ++ end_text (transcript_group w.transcript) (history_of w.transcript) None) (sym left.1.0)
-      ∙ ap (λ (o : Option Scene). r.text ++ end_text (group_in o) (history_in o) None) (sym left.1.1.0) ∙ ap (λ (b : Option Bad). r.text ++ end_text (group_in r.scene) (history_in r.scene) b) (sym left.0),
-  h.1 ∙ ap (λ (o : Option Scene). ended_by None (is_forged (group_in o) (history_in o))) (sym left.1.1.0) ∙ ap (λ (b : Option Bad). ended_by b (is_forged (group_in r.scene) (history_in r.scene))) (sym left.0),
+      ∙ ap (λ (o : Option (SceneOf Hostile)). r.text ++ end_text (group_in o) (history_in o) None) (sym left.1.1.0) ∙ ap (λ (b : Option Bad). r.text ++ end_text (group_in r.scene) (history_in r.scene) b) (sym left.0),
+  h.1 ∙ ap (λ (o : Option (SceneOf Hostile)). ended_by None (is_forged (group_in o) (history_in o))) (sym left.1.1.0) ∙ ap (λ (b : Option Bad). ended_by b (is_forged (group_in r.scene) (history_in r.scene))) (sym left.0),
 )
 
 -- a line was bad
@@ -305,9 +323,9 @@ IsOf (ran.Stopped done text b) t = t ≡ done
 
 -- it is the group and the history of the run
 pub tells_group : (r : Run) (x : Ran) (t : Transcript) → Leaves r x → IsOf x t → transcript_group t ≡ group_in r.scene
-tells_group r (ran.Whole w text) t left is = ap (λ (y : Transcript). transcript_group y) is ∙ ap (λ (o : Option Scene). group_in o) (sym left.1.1.0)
+tells_group r (ran.Whole w text) t left is = ap (λ (y : Transcript). transcript_group y) is ∙ ap (λ (o : Option (SceneOf Hostile)). group_in o) (sym left.1.1.0)
 tells_group r (ran.Stopped done text b) t left is = ap (λ (y : Transcript). transcript_group y) is ∙ left.1.1.0
 
 pub tells_history : (r : Run) (x : Ran) (t : Transcript) → Leaves r x → IsOf x t → history_of t ≡ history_in r.scene
-tells_history r (ran.Whole w text) t left is = ap (λ (y : Transcript). history_of y) is ∙ ap (λ (o : Option Scene). history_in o) (sym left.1.1.0)
+tells_history r (ran.Whole w text) t left is = ap (λ (y : Transcript). history_of y) is ∙ ap (λ (o : Option (SceneOf Hostile)). history_in o) (sym left.1.1.0)
 tells_history r (ran.Stopped done text b) t left is = ap (λ (y : Transcript). history_of y) is ∙ left.1.1.1

@@ -1,13 +1,12 @@
 -- What trying a line makes of a world, and what is then printed.
 use Rattle.std.specs.Prelude.{◌≡◌, ℕ, ◌+◌, ◌<◌, ◌≤◌, Bool, true, false, List, [], ◌++◌, map, Option, Some, None, nat_lt, if◌then◌else◌}
-use Rattle.vic_order.specs.Order.{Server}
-use Rattle.vic_server.specs.Replay.{Kept}
+use Rattle.vic_attacks.specs.Hostile.{Hostile}
 use Rattle.vic_view.specs.declared.transcript.Transcript.{Transcript}
 use Rattle.vic_view.specs.Transcripts.{history_of, group_of as transcript_group}
 use Rattle.vic_script.specs.declared.line.Line.{Line}
 use Rattle.vic_script.specs.Lines.{line_of}
-use Rattle.vic_order.specs.Scenes.{Scene, opening}
-use Rattle.vic_script.specs.Run.{limit, Bad, Header as Told, group_by, Place, Before, Heads, Stands, scene_in, Played as Run, Tried, Fails, Does, try_line, mode_in, group_in, history_in}
+use Rattle.vic_order.specs.Scenes.{SceneOf}
+use Rattle.vic_script.specs.Run.{limit, Bad, Header as Told, opening_by, Place, Before, Heads, Stands, scene_in, Played as Run, Tried, Fails, Does, try_line, mode_in, group_in, history_in}
 use Rattle.vic_script.specs.Print.{is_forged}
 use Rattle.vic_runs.specs.Reached.{IsReached}
 use Rattle.vic_group.specs.declared.header.Header.{Header}
@@ -21,12 +20,12 @@ use Rattle.vic_group.specs.declared.play.Ran.TheVariants as ran
 use Rattle.vic_group.specs.declared.world.World.{World}
 use Rattle.vic_group.specs.World.{ShowsScene, states}
 
--- a server that follows the rule is what the rule says of it
-abbrev pub state : Kept → Server
-state s = s.server
+-- a server that may misbehave is what the rule of such servers says of it
+abbrev pub state : Hostile → Hostile
+state h = h
 
 -- the one scene that a world of such servers can show
-abbrev pub scene_of : World Kept → Scene
+abbrev pub scene_of : World Hostile → SceneOf Hostile
 scene_of w = record {
   group = transcript_group w.transcript;
   history = history_of w.transcript;
@@ -37,14 +36,14 @@ scene_of w = record {
 }
 
 -- it shows it
-abbrev pub Shows : World Kept → Type 0
+abbrev pub Shows : World Hostile → Type 0
 Shows w = ShowsScene state w (scene_of w)
 
 -- ---- the header
 
 -- the header that has been read
 abbrev pub header_by : Header → Told
-header_by h = record { mode = h.mode; count = h.count; key = h.key }
+header_by h = record { mode = h.mode; count = h.count; key = h.key; hostile = h.hostile }
 
 -- where it leaves a script, if it has begun
 abbrev pub place_by : Option Header → Place
@@ -60,25 +59,25 @@ HasFew (Some h) = (0 < h.count) × (h.count ≤ 64)
 -- header opens
 abbrev pub Leads : Place → Option Line → Headed → Type 0
 Leads place l (headed.Goes next) = (try_line place l ≡ Does (place_by next) []) × HasFew next
-Leads place l (headed.Ends h) = (place ≡ Heads (header_by h)) × ((try_line place l ≡ try_line (Stands (opening (group_by (header_by h)))) l) × HasFew (Some h))
+Leads place l (headed.Ends h) = (place ≡ Heads (header_by h)) × ((try_line place l ≡ try_line (Stands (opening_by (header_by h))) l) × HasFew (Some h))
 Leads place l (headed.Bad h kind) = (try_line place l ≡ Fails kind) × ((place ≡ place_by h) × HasFew h)
 
 -- ---- the lines behind it
 
 -- a world shows where a script stands behind its header
-abbrev pub ShowsPlace : World Kept → Place → Type 0
+abbrev pub ShowsPlace : World Hostile → Place → Type 0
 ShowsPlace w Before = ⊥
 ShowsPlace w (Heads h) = ⊥
 ShowsPlace w (Stands s) = ShowsScene state w s
 
 -- and its scene is reached by so many lines
-abbrev pub ShowsReached : World Kept → Place → ℕ → Type 0
+abbrev pub ShowsReached : World Hostile → Place → ℕ → Type 0
 ShowsReached w Before n = ⊥
 ShowsReached w (Heads h) n = ⊥
 ShowsReached w (Stands s) n = ShowsScene state w s × IsReached s n
 
 -- what trying a line in a scene made of a world and of what was printed before
-abbrev pub Tries : Tried → Scene → World Kept → List ℕ → List ℕ → Option ℕ → Type 0
+abbrev pub Tries : Tried → SceneOf Hostile → World Hostile → List ℕ → List ℕ → Option ℕ → Type 0
 Tries (Fails kind) s w old new bad = (bad ≡ Some kind) × ((new ≡ old) × ShowsScene state w s)
 Tries (Does place text) s w old new bad = (bad ≡ None) × ((new ≡ old ++ text) × ShowsPlace w place)
 
@@ -87,7 +86,7 @@ abbrev pub tried_at : ℕ → Place → List ℕ → Tried
 tried_at behind place text = if nat_lt limit behind then Fails 7 else try_line place (line_of (mode_in (scene_in place)) text)
 
 -- the same for the line of a number
-abbrev pub Follows : ℕ → Tried → Scene → World Kept → List ℕ → List ℕ → Option BadLine → Type 0
+abbrev pub Follows : ℕ → Tried → SceneOf Hostile → World Hostile → List ℕ → List ℕ → Option BadLine → Type 0
 Follows n (Fails kind) s w old new bad = (bad ≡ Some (record { number = n; kind = kind })) × ((new ≡ old) × ShowsScene state w s)
 Follows n (Does place text) s w old new bad = (bad ≡ None) × ((new ≡ old ++ text) × ShowsReached w place (n + 1))
 

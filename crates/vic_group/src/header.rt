@@ -1,9 +1,9 @@
-//! The header of a script: the kind of the group, how many clients it has, and its key.
+//! The header of a script: the kind of the group, how many clients it has, its key, and how its server misbehaves.
 
-ghost use Rattle.std.specs.Prelude.{◌≡◌, [], IfOk, Some, None, unwrap_or};
-ghost use Rattle.vic_order.specs.Scenes.{opening};
-ghost use Rattle.vic_script.specs.Lines.{line_of};
-ghost use Rattle.vic_script.specs.Run.{zero_key as zeros, group_by, group_in, mode_in, scene_in, Before, Heads};
+ghost use Rattle.std.specs.Prelude.{◌≡◌, ◌≤◌, ◌&&◌, [], IfOk, Some, None, is_none, option_map, unwrap_or};
+ghost use Rattle.vic_script.specs.Lines.{line_of, kind_named as kind_by};
+ghost use Rattle.vic_script.specs.Run.{zero_key as zeros, no_attack, opening_by, group_in, mode_in, scene_in, Before, Heads};
+ghost use Rattle.vic_runs.specs.Claims.{FitsLine};
 ghost use Rattle.vic_view.specs.Transcripts.{group_of, history_of};
 ghost use Rattle.vic_group.specs.World.{ShowsScene};
 ghost use Rattle.vic_group.specs.Playing.{state, header_by, place_by, HasFew, Leads};
@@ -11,18 +11,40 @@ ghost use Rattle.vic_group.specs.Playing.{state, header_by, place_by, HasFew, Le
 use crate::opening::{spelled_key, zero_key};
 use crate::world::World;
 use std::alloc::Global;
+use std::marker::Model;
 use vic_dict::{Bytes, Mode, NoMemory};
+use vic_hostile::{Hostile, HostileKind};
 use vic_server::Served;
 use vic_tag::GroupKey;
-use vic_text::{Line, LineFault, read_line};
+use vic_text::{Line, LineFault, kind_named, read_line};
 use vic_view::Transcript;
 
-/// A header, as far as it goes: the kind of the group, the number of its clients, and its key, once a line has named it.
+/// How a server misbehaves, and after how many requests, at most 1,000,000.
+#[derive(Drop)]
+pub(crate) struct Attack {
+    kind: HostileKind,
+    after: u32,
+}
+
+impl Model for Attack {
+    ghost use Rattle.std.specs.Prelude.{◌≤◌};
+    ghost use Rattle.vic_script.specs.Run.{Attack};
+
+    ghost Value = { Attack };
+
+    ghost view = { λ a. record { kind = a.kind; after = a.after } };
+
+    ghost invariant = { λ a. a.after ≤ 1000000 };
+}
+
+/// A header, as far as it goes: the kind of the group, the number of its clients, and its key and how its server misbehaves, once a line
+/// has named them.
 #[derive(Drop)]
 pub(crate) struct Header {
     pub(crate) mode: Mode,
     pub(crate) count: u8,
     pub(crate) key: Option<GroupKey>,
+    pub(crate) hostile: Option<Attack>,
 }
 
 /// What a line comes to before the first event.
@@ -66,12 +88,13 @@ fn opening_line(alloc: Global, text: &[u8]) -> Result<Headed, NoMemory>
 
 /// A header begins, of a group of this kind with so many clients.
 fn begun(mode: Mode, count: u8) -> Headed
-    ensures { result ≡ Headed.Goes (Some (record { mode = mode; count = count; key = None })) }
+    ensures { result ≡ Headed.Goes (Some (record { mode = mode; count = count; key = None; hostile = None })) }
 {
     Headed::Goes(Some(Header {
         mode,
         count,
         key: None,
+        hostile: None,
     }))
 }
 
@@ -81,19 +104,39 @@ fn later_line(alloc: Global, header: Header, text: &[u8]) -> Result<Headed, NoMe
     ensures { IfOk result (λ r. Leads (Heads (header_by header)) (line_of (Some header.mode) text.now) r) }
 {
     match read_line(alloc, text, Some(header.mode)) {
-        Ok(Line::Skip) => Ok(Headed::Goes(Some(header))),
-        Ok(Line::Key(digits)) => keyed(alloc, header, &digits),
-        Ok(_) | Err(LineFault::Grammar) => Ok(Headed::Ends(header)),
+        Ok(line) => behind(alloc, header, &line),
+        Err(LineFault::Grammar) => Ok(Headed::Ends(header)),
         Err(LineFault::NoMemory) => Err(NoMemory),
     }
 }
 
-/// The header with the key that digits spell; a second key is bad.
+/// What a line comes to behind the first one of a header.
+fn behind(alloc: Global, header: Header, line: &Line) -> Result<Headed, NoMemory>
+    requires few { HasFew (Some header) }
+    requires fits { FitsLine line.now }
+    ensures { IfOk result (λ r. Leads (Heads (header_by header)) (Some line.now) r) }
+{
+    match line {
+        Line::Skip => Ok(Headed::Goes(Some(header))),
+        Line::Key(digits) => keyed(alloc, header, digits),
+        Line::Hostile(name, after) => Ok(turned(header, name, *after)),
+        _ => Ok(Headed::Ends(header)),
+    }
+}
+
+/// Whether a key may follow: none did, nor a line that tells how the server misbehaves.
+fn may_name_key(header: &Header) -> bool
+    ensures { result ≡ (is_none header.now.key && is_none header.now.hostile) }
+{
+    header.key.is_none() && header.hostile.is_none()
+}
+
+/// The header with the key that digits spell; a second key is bad, and so is one behind how the server misbehaves.
 fn keyed(alloc: Global, header: Header, digits: &Bytes) -> Result<Headed, NoMemory>
     requires { HasFew (Some header) }
     ensures { IfOk result (λ r. Leads (Heads (header_by header)) (Some (Line.Key digits.now)) r) }
 {
-    if header.key.is_some() {
+    if !may_name_key(&header) {
         return Ok(Headed::Bad(Some(header), 1));
     }
     let key = spelled_key(alloc, digits.as_slice())?;
@@ -101,7 +144,34 @@ fn keyed(alloc: Global, header: Header, digits: &Bytes) -> Result<Headed, NoMemo
         mode: header.mode,
         count: header.count,
         key: Some(key),
+        hostile: header.hostile,
     })))
+}
+
+/// The header with a server that misbehaves in the way of this name after so many requests; a second such line is bad.
+fn turned(header: Header, name: &Bytes, after: u32) -> Headed
+    requires header { HasFew (Some header) }
+    requires most { after ≤ 1000000 }
+    ensures { Leads (Heads (header_by header)) (Some (Line.Hostile name.now after)) result }
+{
+    if header.hostile.is_some() {
+        return Headed::Bad(Some(header), 1);
+    }
+    Headed::Goes(Some(Header {
+        mode: header.mode,
+        count: header.count,
+        key: header.key,
+        hostile: attack_of(name, after),
+    }))
+}
+
+/// How a server misbehaves in the way of this name, if the name tells one.
+fn attack_of(name: &Bytes, after: u32) -> Option<Attack>
+    requires { after ≤ 1000000 }
+    ensures { result ≡ option_map (λ k. record { kind = k; after = after }) (kind_by name.now) }
+{
+    let kind = kind_named(name.as_slice())?;
+    Some(Attack { kind, after })
 }
 
 /// The key that a header names, or else that of a script that names none.
@@ -114,14 +184,34 @@ fn key_of(alloc: Global, named: Option<GroupKey>) -> Result<GroupKey, NoMemory>
     }
 }
 
-/// The world that a header opens: its clients have all come in, at one honest server.
-pub(crate) fn opened(alloc: Global, header: Header) -> Result<World<Served>, NoMemory>
-    requires { HasFew (Some header) }
-    ensures { IfOk result (λ w. ShowsScene state w (opening (group_by (header_by header)))) }
+/// How the server of a header misbehaves; where the header names no way, it doesn't.
+fn attack_or_none(named: Option<Attack>) -> Attack
+    ensures { result ≡ unwrap_or named no_attack }
 {
-    let Header { mode, count, key } = header;
+    match named {
+        Some(attack) => attack,
+        None => Attack {
+            kind: HostileKind::Honest,
+            after: 0,
+        },
+    }
+}
+
+/// The world that a header opens: its clients have all come in, at one server, which misbehaves as the header names it.
+pub(crate) fn opened(alloc: Global, header: Header) -> Result<World<Hostile>, NoMemory>
+    requires { HasFew (Some header) }
+    ensures { IfOk result (λ w. ShowsScene state w (opening_by (header_by header))) }
+{
+    let Header {
+        mode,
+        count,
+        key,
+        hostile,
+    } = header;
     let key = key_of(alloc, key)?;
-    let server = Served::gathered(alloc, mode, count)?;
+    let attack = attack_or_none(hostile);
+    let served = Served::gathered(alloc, mode, count)?;
+    let server = Hostile::new(attack.kind, attack.after, served);
     World::new(alloc, count, mode, key, server)
 }
 
@@ -131,9 +221,9 @@ pub(crate) fn without_steps(alloc: Global, header: Option<Header>) -> Result<Tra
     ensures group { IfOk result (λ t. group_of t ≡ group_in (scene_in (place_by header))) }
     ensures history { IfOk result (λ t. history_of t ≡ []) }
 {
-    let Some(Header { mode, count, key }) = header else {
+    let Some(header) = header else {
         return Ok(Transcript::new(alloc, Mode::Plain, 1, zero_key(alloc)?));
     };
-    let key = key_of(alloc, key)?;
-    Ok(Transcript::new(alloc, mode, count, key))
+    let key = key_of(alloc, header.key)?;
+    Ok(Transcript::new(alloc, header.mode, header.count, key))
 }

@@ -3,7 +3,7 @@
 ghost use Rattle.std.specs.Prelude.{◌≡◌, ◌<◌, ◌≤◌, ◌+◌, ◌++◌, ◌^◌, IfOk, length, take, None, []};
 ghost use Rattle.vic_script.specs.declared.line.Line.{Line};
 ghost use Rattle.vic_script.specs.Lines.{line_of, lines_of};
-ghost use Rattle.vic_order.specs.Serving.{by_rule};
+ghost use Rattle.vic_attacks.specs.Hostile.{by_kind};
 ghost use Rattle.vic_script.specs.Scenes.{bad_kind, done_line};
 ghost use Rattle.vic_script.specs.Run.{limit, Before, Stands, scene_in, stops, run_of, try_line, tried_by, bad_end, play as play_by};
 ghost use Rattle.vic_script.specs.Print.{print_of_script, bad_line, end_text, is_forged};
@@ -17,7 +17,7 @@ use crate::place::{first_line, place_behind};
 use crate::world::{World, WorldFault};
 use std::alloc::Global;
 use vic_dict::{Bytes, NoMemory};
-use vic_server::Served;
+use vic_hostile::Hostile;
 use vic_text::{Line, LineFault, SCRIPT_LIMIT, put_bad_line, read_line};
 use vic_view::Transcript;
 
@@ -50,7 +50,7 @@ pub struct BadLine {
 #[derive(Drop)]
 pub(crate) enum Ran {
     /// Every line was done: the world that they left, and what they printed.
-    Whole(World<Served>, Bytes),
+    Whole(World<Hostile>, Bytes),
     /// What the clients did before a bad line, what was printed before it, and the bad line.
     Stopped(Transcript, Bytes, BadLine),
 }
@@ -138,7 +138,7 @@ fn unopened(alloc: Global, header: Option<Header>, number: u32, kind: u8) -> Res
 /// Does the lines behind the header, the first of which has this number, up to the first bad one.
 fn run_on(
     alloc: Global,
-    opened: World<Served>,
+    opened: World<Hostile>,
     total: usize,
     place: usize,
     first: u32,
@@ -174,7 +174,7 @@ fn run_on(
 /// Does the line of a number, which ends so far in the script; where it is bad, it answers how.
 fn do_line(
     alloc: Global,
-    world: &mut World<Served>,
+    world: &mut World<Hostile>,
     number: u32,
     behind: usize,
     text: &[u8],
@@ -197,7 +197,7 @@ fn do_line(
 /// Does the line that a text spells, and answers the kind by which it is bad.
 fn try_text(
     alloc: Global,
-    world: &mut World<Served>,
+    world: &mut World<Hostile>,
     text: &[u8],
     out: &mut Bytes,
 ) -> Result<Option<u8>, NoMemory>
@@ -215,13 +215,13 @@ fn try_text(
 
 fn try_line_on(
     alloc: Global,
-    world: &mut World<Served>,
+    world: &mut World<Hostile>,
     line: &Line,
     out: &mut Bytes,
 ) -> Result<Option<u8>, NoMemory>
     requires shows { Shows world.old }
     requires may { MayDo world.old line.now }
-    ensures { IfOk result (λ bad. Tries (tried_by (bad_kind (scene_of world.old) line.now) (done_line by_rule (scene_of world.old) line.now)) (scene_of world.old) world.new out.old out.new bad) }
+    ensures { IfOk result (λ bad. Tries (tried_by (bad_kind (scene_of world.old) line.now) (done_line by_kind (scene_of world.old) line.now)) (scene_of world.old) world.new out.old out.new bad) }
 {
     match world.apply(alloc, line) {
         Ok(text) => {
@@ -241,7 +241,7 @@ fn whole_end(forged: bool) -> End
 }
 
 /// What was printed, and then the views of all clients.
-fn finished(alloc: Global, world: &World<Served>, out: Bytes) -> Result<Played, NoMemory>
+fn finished(alloc: Global, world: &World<Hostile>, out: Bytes) -> Result<Played, NoMemory>
     requires { Shows world.now }
     ensures { IfOk result (λ p. (p.text ≡ out ++ end_text (group_of world.now.transcript) (history_of world.now.transcript) None) × (p.end ≡ ended_by None (is_forged (group_of world.now.transcript) (history_of world.now.transcript)))) }
 {

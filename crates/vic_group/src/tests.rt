@@ -18,7 +18,7 @@ use vic_view::{
 /// A script and what it prints, each with ` / ` between its lines, and how it ends.
 type Row = (&'static str, &'static str, End);
 
-const ROWS: [Row; 41] = [
+const ROWS: [Row; 54] = [
     // A put and a get by one client, which memory suffices for.
     (
         "clients 1 / call 1 put a x / run 1 / call 1 get a / run 1",
@@ -209,6 +209,78 @@ const ROWS: [Row; 41] = [
     (
         "clients 1 / call 1 get a / run 1 / serve 1",
         "1 done none / 1 took / 1 took / line 4: nothing waiting",
+        End::Bad,
+    ),
+    // Server 1 misbehaves. Its first answer lacks its only byte.
+    (
+        "objects 1 / hostile truncate 0 / call 1 store f abc / run 1",
+        "1 halted 1 / view 1 / tags made",
+        End::Whole,
+    ),
+    // Clients 1 and 2 have each a server of their own.
+    (
+        "clients 2 / hostile fork 0 / call 1 put a x / run 1 / call 2 get a / run 2",
+        "1 done stored / 1 took / 1 took / 2 done none / 2 took / 2 took / view 1 / 1.1 put a x = done stored / view 2 / 2.1 get a = done none / agree 1 2 0 / tags made",
+        End::Whole,
+    ),
+    // The seventh request goes to the state behind the third, which is shorter than what the client knows.
+    (
+        "clients 1 / key 0b / # a key with one byte / hostile rollback 3 / call 1 put a x / run 1 / call 1 put a y / run 1 / call 1 get a / run 1",
+        "1 done stored / 1 took / 1 took / 1 done stored / 1 took / 1 took / 1 refused 5 / view 1 / 1.1 put a x = done stored / 1.2 put a y = done stored / tags made",
+        End::Whole,
+    ),
+    // The Commit gets the Reply again.
+    (
+        "clients 1 / hostile replay 1 / call 1 put a x / run 1",
+        "1 done stored / 1 halted 1 / view 1 / 1.1 put a x = done stored / tags made",
+        End::Whole,
+    ),
+    // A copy misbehaves as the server does; its count goes on from there.
+    (
+        "clients 2 / hostile truncate 1 / call 1 put a x / serve 1 / copy 1 2 / move 2 2 / take 1 / call 2 get a / run 2 / run 1",
+        "1 done stored / 2 halted 1 / 1 halted 1 / view 1 / 1.1 put a x = done stored / view 2 / agree 1 2 0 / tags made",
+        End::Whole,
+    ),
+    // It misbehaves after more requests than there are.
+    (
+        "clients 1 / hostile truncate 1000000 / call 1 put a x / run 1",
+        "1 done stored / 1 took / 1 took / view 1 / 1.1 put a x = done stored / tags made",
+        End::Whole,
+    ),
+    (
+        "clients 1 / hostile stale 9",
+        "view 1 / tags made",
+        End::Whole,
+    ),
+    // How it misbehaves is said once, last in the header.
+    (
+        "clients 1 / hostile fork 0 / hostile fork 0",
+        "line 3: not a line of this script",
+        End::Bad,
+    ),
+    (
+        "clients 1 / hostile fork 0 / key 0b",
+        "line 3: not a line of this script",
+        End::Bad,
+    ),
+    (
+        "clients 1 / key 0b / key 0b",
+        "line 3: not a line of this script",
+        End::Bad,
+    ),
+    (
+        "clients 1 / sync 1 / hostile fork 0",
+        "line 3: not a line of this script",
+        End::Bad,
+    ),
+    (
+        "hostile fork 0",
+        "line 1: not a line of this script",
+        End::Bad,
+    ),
+    (
+        "clients 1 / hostile fork 1000001",
+        "line 2: not a line of this script",
         End::Bad,
     ),
 ];

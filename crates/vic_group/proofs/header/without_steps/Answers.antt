@@ -10,7 +10,7 @@ use Rattle.vic_group.proofs.header.without_steps.Goals as goal
 pub returns : goal.returns
 returns c =
     let t = c.new-2.result in
-    let h : Header = c.in-Some.field-0 in
+    let h : Header = c.in-Some.header in
     record {
       group = subst (λ (o : Option Header). group_of t ≡ group_in (scene_in (place_by o))) (sym c.in-Some.is) (same_group t (group_by (header_by h)) c.new-2.ensures.mode c.new-2.ensures.count (c.new-2.ensures.key ∙ c.in_ok-key.ensures));
       history = ap (λ (xs : List TraceStep). reverse xs) c.new-2.ensures.steps;

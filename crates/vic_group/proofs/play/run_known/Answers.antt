@@ -7,7 +7,6 @@ use Rattle.vic_group.specs.declared.header.Headed.{Headed}
 use Rattle.vic_group.specs.declared.header.Headed.TheVariants as headed
 use Rattle.vic_group.specs.Playing.{header_by, place_by, Leads, Leaves, tried_at}
 use Rattle.vic_group.proofs.Playing.{heading_line, tried_long, tried_short, head_stops, head_goes, head_ends, opened_shows, opened_reached, lines_none, play_nil, if_ok-map}
-use Rattle.vic_script.specs.Run.{group_by}
 use Rattle.vic_group.proofs.play.run_known.Goals as goal
 
 pub returns-then-behind-gt-SCRIPT_LIMIT : goal.returns-then-behind-gt-SCRIPT_LIMIT
@@ -48,7 +47,7 @@ opened-requires c =
     leads.1.1
 
 pub run_on-requires-clause-shows : goal.run_on-requires-clause-shows
-run_on-requires-clause-shows c = opened_shows c.in_ok-world-in-Ends.world (group_by (header_by c.in-Ends.header)) c.in_ok-world-in-Ends.ensures
+run_on-requires-clause-shows c = opened_shows c.in_ok-world-in-Ends.world c.in-Ends.header c.in_ok-world-in-Ends.ensures
 
 pub run_on-requires-clause-reached : goal.run_on-requires-clause-reached
 run_on-requires-clause-reached c = opened_reached c.in_ok-world-in-Ends.world c.in-Ends.header c.loop-rest.number c.in_ok-world-in-Ends.ensures

@@ -1,7 +1,8 @@
 use Rattle.std.proofs.Common.{◌≡◌, ℕ, ◌+◌, List, length, sym, ap, ◌∙◌, arith}
 use Rattle.std.proofs.lemmas.Bool.{eqb-true}
 use Rattle.vic_script.specs.Lines.{lines_of}
-use Rattle.vic_order.specs.Scenes.{Scene}
+use Rattle.vic_attacks.specs.Hostile.{Hostile}
+use Rattle.vic_order.specs.Scenes.{SceneOf}
 use Rattle.vic_script.specs.Run.{Stands, Played as Run, printed_before, play}
 use Rattle.vic_group.specs.Playing.{scene_of, tried_at}
 use Rattle.vic_group.proofs.Playing.{run_line, goes_on, leaves_stop, leaves_end, lines_none}
@@ -11,7 +12,7 @@ pub returns-in-Some : goal.returns-in-Some
 returns-in-Some c =
     let total : ℕ = c.args.total in
     let n : ℕ = c.loop-rest.number in
-    let s : Scene = scene_of c.loop-rest.world in
+    let s : SceneOf Hostile = scene_of c.loop-rest.world in
     let behind : ℕ = c.place_behind-behind.result in
     let text : List ℕ = c.first_line.result.0.now in
     let others : List ℕ = c.first_line.result.1.now in
@@ -24,7 +25,7 @@ pub loop-rest-preserved : goal.loop-rest-preserved
 loop-rest-preserved c =
     let total : ℕ = c.args.total in
     let n : ℕ = c.loop-rest.number in
-    let s : Scene = scene_of c.loop-rest.world in
+    let s : SceneOf Hostile = scene_of c.loop-rest.world in
     let behind : ℕ = c.place_behind-behind.result in
     let text : List ℕ = c.first_line.result.0.now in
     let others : List ℕ = c.first_line.result.1.now in
@@ -42,7 +43,7 @@ loop-rest-preserved c =
 pub returns : goal.returns
 returns c =
     let n : ℕ = c.loop-rest.number in
-    let s : Scene = scene_of c.loop-rest.world in
+    let s : SceneOf Hostile = scene_of c.loop-rest.world in
     let run : Run = play c.args.total c.args.place c.args.first (Stands (scene_of c.args.opened)) (lines_of c.args.lines.now) in
     let none : length c.loop-rest.rest.now ≡ 0 = eqb-true _ 0 (sym c.is_empty.ensures ∙ c.loop-rest-test.false) in
     let end = c.loop-rest.invariant.run ∙ ap (λ (texts : List (List ℕ)). printed_before c.loop-rest.out (play c.args.total c.loop-rest.before n (Stands s) texts)) (lines_none c.loop-rest.rest.now none) in
