@@ -302,7 +302,7 @@ impl Member {
             (self.old.up ≡ oldest self.old.up ∷ drop 1 self.old.up)
             × ((self.new ≡ record self.old { up = drop 1 self.old.up; down = self.old.down ++ (S.rule v who who (oldest self.old.up)).0 ∷ [] })
             × (states S.state servers.new ≡ set_server (states S.state servers.old) self.old.server (Some (S.rule v who who (oldest self.old.up)).1)))) }
-        ensures err { OnErr result ((self.new ≡ self.old) × (states S.state servers.new ≡ states S.state servers.old)) }
+        ensures err { OnErr result ((self.new ≡ self.old) × (servers.new ≡ servers.old)) }
     {
         let Some(payload) = self.up.oldest() else {
             return Ok(false);

@@ -29,7 +29,7 @@ fn serve_by<S: Serve>(
     ensures there { IfOk result (λ o. is_some o ≡ is_some (option_map S.state server.old)) }
     ensures ok { IfOk result (λ o. IfSome o (λ b. IfSome (option_map S.state server.old) (λ v. (b ≡ (S.rule v who who payload.now).0) × (option_map S.state server.new ≡ Some (S.rule v who who payload.now).1)))) }
     ensures none { result ≡ Ok None → option_map S.state server.new ≡ option_map S.state server.old }
-    ensures err { OnErr result (option_map S.state server.new ≡ option_map S.state server.old) }
+    ensures err { OnErr result (server.new ≡ server.old) }
 {
     match server {
         None => Ok(None),
@@ -83,7 +83,7 @@ impl<S: Serve + Drop> Servers<S> {
         ensures there { IfOk result (λ o. is_some o ≡ true) }
         ensures ok { IfOk result (λ o. IfSome o (λ b. (b ≡ (S.rule (S.state self.old.first) who who payload.now).0)
             × (states S.state self.new ≡ set_server (states S.state self.old) 1 (Some (S.rule (S.state self.old.first) who who payload.now).1)))) }
-        ensures err { OnErr result (states S.state self.new ≡ states S.state self.old) }
+        ensures err { OnErr result (self.new ≡ self.old) }
     {
         let answer = self.first.serve(alloc, u32::from(who), who, payload)?;
         Ok(Some(answer))
@@ -101,7 +101,7 @@ impl<S: Serve + Drop> Servers<S> {
         ensures ok { IfOk result (λ o. IfSome o (λ b. IfSome (server_at (states S.state self.old) number) (λ v. (b ≡ (S.rule v who who payload.now).0)
             × (states S.state self.new ≡ set_server (states S.state self.old) number (Some (S.rule v who who payload.now).1))))) }
         ensures none { result ≡ Ok None → states S.state self.new ≡ states S.state self.old }
-        ensures err { OnErr result (states S.state self.new ≡ states S.state self.old) }
+        ensures err { OnErr result (self.new ≡ self.old) }
     {
         match number {
             1 => self.serve_first(alloc, who, payload),
