@@ -1,10 +1,8 @@
 -- From what was read and run to how the command ends.
-use Rattle.std.proofs.Common.{◌≡◌, ℕ, ◌<◌, ◌⊎◌, Bool, true, false, List, [], ◌++◌, length, Option, Some, None, is_some, inl, inr, refl, sym, ap, subst, ◌∙◌, arith}
+use Rattle.std.proofs.Common.{◌≡◌, ℕ, ◌<◌, ◌⊎◌, Bool, true, false, List, ◌++◌, length, Option, Some, None, inl, inr, refl, sym, ap, subst, ◌∙◌}
 use Rattle.std.specs.Prelude.{IfSome, IsSome}
-use Rattle.std.proofs.lemmas.List.{append-nil}
-use Rattle.vic_ports.specs.Causes.{LeavesBehind}
-use Rattle.vic_ports.specs.InputGives.{TakesAtMost, most_taken}
-use Rattle.vic_ports.specs.Written.{AppendedAll, AppendedFront}
+use Rattle.vic_ports.specs.Causes.{Rose, LeavesBehind}
+use Rattle.vic_ports.specs.Written.{AppendedAll}
 use Rattle.vic_script.specs.Run.{limit, Bad, Played, run_of, is_honest_script, bad_line_of, group_in, history_in, group_of, history_of}
 use Rattle.vic_script.specs.Print.{print_of, print_of_script, is_forged, all_views, all_agreements, tags_line, end_text}
 use Rattle.vic_wire.specs.Hashes.{Group}
@@ -25,7 +23,7 @@ use Rattle.vic_laws.proofs.RealTime.{views_in_order}
 use Rattle.vic_laws.proofs.SealsHeld.{seals_hold}
 use Rattle.vic_runs.proofs.Agreed.{agreements_reach}
 use Rattle.vic_script.proofs.Forged.{is_forged-Decides}
-use Rattle.vic_order.specs.Honest.{IsSame}
+use Rattle.vic_runs.specs.Reached.{GoesAs}
 use Rattle.vic_script_runs.proofs.Leading.{scripts_come}
 use Rattle.vic_script_runs.proofs.Honest.{honest_runs}
 use Rattle.vic_runs.proofs.Runs.{all_hold, holds_at, holds_anyway, none_forged}
@@ -37,10 +35,11 @@ use Rattle.vic_group.specs.Playing.{ended_by, end_of}
 use Rattle.vic_group.proofs.Spans.{run-front, long-bad}
 use Rattle.vic_text.specs.declared.status.Status.{Status}
 use Rattle.vic_text.specs.declared.status.Status.TheVariants as status
-use Rattle.vic_text.specs.Statuses.{usage_line, read_fault_line}
-use Rattle.vic_cli.specs.Output.{Taken, Given, taken_of, IsReadWhole, IsReadPast, WroteAll, Finishes}
-use Rattle.vic_cli.specs.GroupEnds.{IsOutput, IsDone, HasBad, Prints, done_status, Ends, IsComplete, IsHonest, IsAsClaimed}
-use Rattle.vic_cli.specs.GroupOutput.{Composes, ComposesRun}
+use Rattle.vic_text.specs.Statuses.{usage_line, read_fault_line, no_memory_line}
+use Rattle.vic_cli.specs.Output.{Taken, Given, IsReadWhole, IsReadPast, WroteAll}
+use Rattle.vic_cli.specs.Command.{Plans, Ends, IsComplete}
+use Rattle.vic_cli.specs.GroupEnds.{IsDone, HasBad, IsPrint, Causes, group_command, status_of, run_status, TellsRun, IsHonest, IsAsClaimed}
+use Rattle.vic_cli.proofs.Command.{known_of, complete_of}
 
 -- ---- what was read, and the script
 
@@ -49,163 +48,160 @@ pub if_past : (P : Played → Type 0) (bytes : List ℕ) (old new : Option (List
 if_past P bytes None new more left p = tt
 if_past P bytes (Some script) new more left p = subst P (sym (ap run_of left.2 ∙ run-front bytes left.0 more)) p
 
--- ---- what was composed
+-- ---- what is planned
 
 -- what is told of a source is the script
 if_told : (old : Option (List ℕ)) (script : List ℕ) (P : List ℕ → Type 0) → ((other : List ℕ) → old ≡ Some other → other ≡ script) → P script → IfSome old P
 if_told None script P same p = tt
 if_told (Some other) script P same p = subst P (sym (same other refl)) p
 
--- a script of which this holds and whose print is this line
-abbrev Prints-as : (List ℕ → Type 0) → List ℕ → List ℕ → Type 0
-Prints-as Holds line script = Holds script × (line ≡ print_of_script script)
+-- where a run ends so, its status is this
+pub tells_run : (script text : List ℕ) (e : End) (s : Status) → e ≡ end_of (run_of script) → text ≡ print_of_script script
+    → (e ≡ end.Whole → s ≡ status.Ok) → (e ≡ end.Forged → s ≡ status.TagsNotMade) → (e ≡ end.Bad → s ≡ status.BadLine) → TellsRun script s text
+tells_run script text e s is prints whole forged bad = inl (by_end (bad_line_of script) refl (is_forged (group_of script) (history_of script)) refl, prints)
+  where
+    ends_by : (b : Option Bad) (f : Bool) → bad_line_of script ≡ b → is_forged (group_of script) (history_of script) ≡ f → e ≡ ended_by b f
+    ends_by b f at test = is ∙ ap (λ (o : Option Bad). ended_by o (is_forged (group_of script) (history_of script))) at ∙ ap (ended_by b) test
 
--- a run with a bad line
-abbrev Stopped : List ℕ → Played → Type 0
-Stopped line p = IsSome p.bad × (line ≡ print_of p)
+    status_by : (b : Option Bad) (f : Bool) → bad_line_of script ≡ b → is_forged (group_of script) (history_of script) ≡ f → run_status script ≡ status_of b f
+    status_by b f at test = ap (λ (o : Option Bad). status_of o (is_forged (group_of script) (history_of script))) at ∙ ap (status_of b) test
 
-pub composes_past : (bytes line : List ℕ) (s : Status) (old new : Option (List ℕ)) (before now : ℕ) (ended : Bool) → LeavesBehind bytes old new → limit < length bytes → now ≡ before
-    → ComposesRun bytes s line → Composes true (taken_of old new before now ended) s line
-composes_past bytes line s old new before now ended left more quiet composed =
-    let t = taken_of old new before now ended in
-    elim composed [
-      | inl c ↦ let bad : false ≡ true = sym (ap is_some c.1.1.0.0) ∙ long-bad bytes more in absurd cc
-      | inr others ↦ elim others [
-        | inl c ↦ subst (λ r. Composes true t r line) (sym c.0) (refl, (inr (quiet, (bytes, (more, left))), if_past (Stopped line) bytes old new more left c.1))
-        | inr c ↦ subst (λ r. Composes true t r line) (sym c.0) (refl, (quiet, c.1))
-      ]
-    ]
+    by_end : (b : Option Bad) → bad_line_of script ≡ b → (f : Bool) → is_forged (group_of script) (history_of script) ≡ f → s ≡ run_status script
+    by_end (Some b) at f test = bad (ends_by (Some b) f at test) ∙ sym (status_by (Some b) f at test)
+    by_end None at false test = whole (ends_by None false at test) ∙ sym (status_by None false at test)
+    by_end None at true test = forged (ends_by None true at test) ∙ sym (status_by None true at test)
+
+some_bad : (o : Option Bad) (b : Bad) → o ≡ Some b → IsSome o
+some_bad o b e = subst (λ (x : Option Bad). IsSome x) (sym e) refl
+
+-- what was read past the limit is a front of the script, and all that matters of it
+pub plans_past : (t : Taken) (bytes text : List ℕ) (s : Status) → LeavesBehind bytes t.old t.new → limit < length bytes → t.now ≡ t.before → TellsRun bytes s text → Plans (group_command true t) s text
+plans_past t bytes text s left more quiet tells = by_telling tells
+  where
+    bad_there : IsSome (run_of bytes).bad
+    bad_there = long-bad bytes more
+
+    is_bad : (o : Option Bad) (f : Bool) → IsSome o → status_of o f ≡ status.BadLine
+    is_bad None f some = absurd cc
+    is_bad (Some b) f some = refl
+
+    by_telling : TellsRun bytes s text → Plans (group_command true t) s text
+    by_telling (inl c) =
+        let is : s ≡ status.BadLine = c.0 ∙ is_bad (bad_line_of bytes) (is_forged (group_of bytes) (history_of bytes)) bad_there in
+        let print : IsPrint t HasBad text = if_past (λ (p : Played). IsSome p.bad × (text ≡ print_of p)) bytes t.old t.new more left (bad_there, c.1) in
+        subst (λ (x : Status). Plans (group_command true t) x text) (sym is) (refl, (inr (quiet, (bytes, (more, left))), print))
+    by_telling (inr c) = subst (λ (x : Status). Plans (group_command true t) x text) (sym c.0) ((refl, quiet), c.1)
 
 -- a run that was read whole
-pub composes_whole : (script line : List ℕ) (s : Status) (old new : Option (List ℕ)) (before now : ℕ) (ended : Bool) → IsReadWhole (taken_of old new before now ended) → ((other : List ℕ) → old ≡ Some other → other ≡ script)
-    → ComposesRun script s line → Composes true (taken_of old new before now ended) s line
-composes_whole script line s old new before now ended whole same composed =
-    let t = taken_of old new before now ended in
-    elim composed [
-      | inl c ↦ subst (λ r. Composes true t r line) (sym c.1.0) (composes-done c.0 c.1.1)
-      | inr others ↦ elim others [
-        | inl c ↦ subst (λ r. Composes true t r line) (sym c.0) (refl, (inl whole, if_told old script (Prints-as HasBad line) same c.1))
-        | inr c ↦ subst (λ r. Composes true t r line) (sym c.0) (refl, (whole.0, c.1))
-      ]
-    ]
+pub plans_whole : (t : Taken) (script text : List ℕ) (s : Status) → IsReadWhole t → ((other : List ℕ) → t.old ≡ Some other → other ≡ script) → TellsRun script s text → Plans (group_command true t) s text
+plans_whole t script text s whole same (inr c) = subst (λ (x : Status). Plans (group_command true t) x text) (sym c.0) ((refl, whole.0), c.1)
+plans_whole t script text s whole same (inl c) = by_run (bad_line_of script) refl (is_forged (group_of script) (history_of script)) refl
   where
-    composes-done : (forged : Bool) → Prints-as (IsDone forged) line script → Composes true (taken_of old new before now ended) (done_status forged) line
-    composes-done false c = (refl, (whole, if_told old script (Prints-as (IsDone false) line) same c))
-    composes-done true c = (refl, (whole, if_told old script (Prints-as (IsDone true) line) same c))
+    is : (b : Option Bad) (f : Bool) → bad_line_of script ≡ b → is_forged (group_of script) (history_of script) ≡ f → s ≡ status_of b f
+    is b f at test = c.0 ∙ ap (λ (o : Option Bad). status_of o (is_forged (group_of script) (history_of script))) at ∙ ap (status_of b) test
 
--- nothing was taken
-pub takes_nothing : (old : Option (List ℕ)) → TakesAtMost most_taken old old
-takes_nothing None = ([], (omega arith, refl))
-takes_nothing (Some bytes) = ([], (omega arith, (bytes, refl, refl)))
+    print : (Holds : List ℕ → Type 0) → Holds script → IsPrint t Holds text
+    print Holds here = if_told t.old script (λ (l : List ℕ). Holds l × (text ≡ print_of_script l)) same (here, c.1)
 
--- ---- what was written
-
-if_some-map : (o : Option (List ℕ)) (P Q : List ℕ → Type 0) → ((script : List ℕ) → P script → Q script) → IfSome o P → IfSome o Q
-if_some-map None P Q f p = tt
-if_some-map (Some script) P Q f p = f script p
-
-all-front : (line : List ℕ) (old new : Option (List ℕ)) → AppendedAll line old new → AppendedFront line old new
-all-front line None new all = all
-all-front line (Some held) new all = (line, [], (sym (append-nil line), all))
-
--- what is printed of a script is an output
-printed : (t : Taken) (line : List ℕ) (Holds : List ℕ → Type 0) → t.now ≡ t.before → IfSome t.old (Prints-as Holds line) → IsOutput true t line
-printed t line Holds quiet c = inr (quiet, inr (if_some-map t.old (Prints-as Holds line) (λ script. line ≡ print_of_script script) (λ script p. p.1) c))
-
-quiet-read : (t : Taken) → IsReadWhole t ⊎ IsReadPast t → t.now ≡ t.before
-quiet-read t read = elim read [ inl w ↦ w.0 | inr p ↦ p.0 ]
-
-output-of : (right : Bool) (t : Taken) (planned : Status) (line : List ℕ) → Composes right t planned line → IsOutput right t line
-output-of false t status.Ok line c = absurd cc
-output-of false t status.TagsNotMade line c = absurd cc
-output-of false t status.Usage line c = c.1
-output-of false t status.ReadFault line c = absurd cc
-output-of false t status.WriteFault line c = absurd c
-output-of false t status.BadLine line c = absurd cc
-output-of false t status.NoMemory line c = absurd cc
-output-of false t status.LinkFault line c = absurd c
-output-of false t status.Halted line c = absurd c
-output-of false t status.BadFrame line c = absurd c
-output-of false t status.GreetingRefused line c = absurd c
-output-of true t status.Ok line c = printed t line (IsDone false) c.1.0.0 c.1.1
-output-of true t status.TagsNotMade line c = printed t line (IsDone true) c.1.0.0 c.1.1
-output-of true t status.Usage line c = absurd cc
-output-of true t status.ReadFault line c = inl c.1
-output-of true t status.WriteFault line c = absurd c
-output-of true t status.BadLine line c = printed t line HasBad (quiet-read t c.1.0) c.1.1
-output-of true t status.NoMemory line c = inr (c.1.0, inl c.1.1)
-output-of true t status.LinkFault line c = absurd c
-output-of true t status.Halted line c = absurd c
-output-of true t status.BadFrame line c = absurd c
-output-of true t status.GreetingRefused line c = absurd c
-
--- a written line is the text that it equals
-written-as : (line text : List ℕ) (k : Given) → WroteAll line k → line ≡ text → WroteAll text k
-written-as line text k all e = subst (λ (l : List ℕ). WroteAll l k) e all
-
--- the print of a script was written
-prints-as : (t : Taken) (line : List ℕ) (k : Given) (Holds : List ℕ → Type 0) → WroteAll line k → IfSome t.old (Prints-as Holds line) → Prints t k Holds
-prints-as t line k Holds all c =
-    (all.0, if_some-map t.old (Prints-as Holds line) (λ script. Holds script × AppendedAll (print_of_script script) k.old k.new) (λ script p. (p.0, (written-as line (print_of_script script) k all p.1).1)) c)
-
-ends-done : (right : Bool) (t : Taken) (k : Given) (planned : Status) (line : List ℕ) → Composes right t planned line → WroteAll line k → Ends right t k planned
-ends-done right t k status.Ok line c all = (c.0, (c.1.0, prints-as t line k (IsDone false) all c.1.1))
-ends-done right t k status.TagsNotMade line c all = (c.0, (c.1.0, prints-as t line k (IsDone true) all c.1.1))
-ends-done right t k status.Usage line c all = (c.0, written-as line usage_line k all c.1)
-ends-done right t k status.ReadFault line c all = (c.0, (c.1.0, written-as line read_fault_line k all c.1.1))
-ends-done right t k status.WriteFault line c all = absurd c
-ends-done right t k status.BadLine line c all = (c.0, (c.1.0, prints-as t line k HasBad all c.1.1))
-ends-done right t k status.NoMemory line c all = (line, (output-of right t status.NoMemory line c, (all.0, all-front line k.old k.new all.1)))
-ends-done right t k status.LinkFault line c all = absurd c
-ends-done right t k status.Halted line c all = absurd c
-ends-done right t k status.BadFrame line c all = absurd c
-ends-done right t k status.GreetingRefused line c all = absurd c
-
-pub ends_of : (right : Bool) (t : Taken) (k : Given) (planned : Status) (line : List ℕ) (result : Status) → Composes right t planned line → Finishes planned line k result → Ends right t k result
-ends_of right t k planned line result c finished = elim finished [
-  | inl done ↦ subst (λ r. Ends right t k r) (sym done.0) (ends-done right t k planned line c done.1)
-  | inr others ↦ elim others [
-    | inl failed ↦ subst (λ r. Ends right t k r) (sym failed.0) (line, (output-of right t planned line c, failed.1))
-    | inr short ↦ subst (λ r. Ends right t k r) (sym short.0) (line, (output-of right t planned line c, short.1))
-  ]
-]
+    by_run : (b : Option Bad) → bad_line_of script ≡ b → (f : Bool) → is_forged (group_of script) (history_of script) ≡ f → Plans (group_command true t) s text
+    by_run (Some b) at f test = subst (λ (x : Status). Plans (group_command true t) x text) (sym (is (Some b) f at test)) (refl, (inl whole, print HasBad (some_bad (bad_line_of script) b at)))
+    by_run None at false test = subst (λ (x : Status). Plans (group_command true t) x text) (sym (is None false at test)) (refl, (whole, print (IsDone false) (at, test)))
+    by_run None at true test = subst (λ (x : Status). Plans (group_command true t) x text) (sym (is None true at test)) (refl, (whole, print (IsDone true) (at, test)))
 
 -- ---- where nothing went wrong
 
--- a script whose print was written has what holds of it
-told-of : (t : Taken) (k : Given) (Holds : List ℕ → Type 0) (script : List ℕ) → t.old ≡ Some script → Prints t k Holds → Holds script
-told-of t k Holds script told p =
-    let here : Holds script × AppendedAll (print_of_script script) k.old k.new = subst (λ o. IfSome o (λ s. Holds s × AppendedAll (print_of_script s) k.old k.new)) told p.1 in
+-- a script that is told has what holds of it
+told_of : (t : Taken) (Holds : List ℕ → Type 0) (text script : List ℕ) → t.old ≡ Some script → IsPrint t Holds text → Holds script
+told_of t Holds text script told p =
+    let here : Holds script × (text ≡ print_of_script script) = subst (λ (o : Option (List ℕ)). IfSome o (λ s. Holds s × (text ≡ print_of_script s))) told p in
     here.0
 
-bad-none : (script : List ℕ) (b : Option Bad) → b ≡ None → IsSome b → ⊥
-bad-none script None e some = absurd cc
-bad-none script (Some b) e some = absurd cc
+status_done : (script : List ℕ) (forged : Bool) → IsDone forged script → run_status script ≡ status_of None forged
+status_done script forged done = ap (λ (o : Option Bad). status_of o (is_forged (group_of script) (history_of script))) done.0 ∙ ap (status_of None) done.1
 
-pub complete_of : (right : Bool) (t : Taken) (k : Given) (result : Status) → Ends right t k result → IsComplete right t k result
-complete_of right t k status.Ok ends is read written script told good = inl (ap done_status (sym (told-of t k (IsDone false) script told ends.1.1).1))
-complete_of right t k status.TagsNotMade ends is read written script told good = inl (ap done_status (sym (told-of t k (IsDone true) script told ends.1.1).1))
-complete_of right t k status.Usage ends is read written script told good = let e : true ≡ false = sym is ∙ ends.0 in absurd cc
-complete_of right t k status.ReadFault ends is read written script told good = absurd (read ends.1.0)
-complete_of right t k status.WriteFault ends is read written script told good = absurd (written ends.1.1.0)
-complete_of right t k status.BadLine ends is read written script told good = absurd (bad-none script (bad_line_of script) good (told-of t k HasBad script told ends.1.1))
-complete_of right t k status.NoMemory ends is read written script told good = inr refl
-complete_of right t k status.LinkFault ends is read written script told good = absurd ends
-complete_of right t k status.Halted ends is read written script told good = absurd ends
-complete_of right t k status.BadFrame ends is read written script told good = absurd ends
-complete_of right t k status.GreetingRefused ends is read written script told good = absurd ends
+status_bad : (o : Option Bad) (f : Bool) → IsSome o → status_of o f ≡ status.BadLine
+status_bad None f some = absurd cc
+status_bad (Some b) f some = refl
 
--- ---- how a run ends
+-- each status but that of the script's run has a cause that is ruled out
+rules_out : (right : Bool) (t : Taken) (planned s : Status) (text : List ℕ) → Causes right t planned text → right ≡ true → (group_command right t).due s → (planned ≡ s) ⊎ (planned ≡ status.NoMemory)
+rules_out right t status.Ok s text c is due = inl (sym (due.1.1.1 ∙ status_done due.1.0 false (told_of t (IsDone false) text due.1.0 due.1.1.0 c.1)))
+rules_out right t status.TagsNotMade s text c is due = inl (sym (due.1.1.1 ∙ status_done due.1.0 true (told_of t (IsDone true) text due.1.0 due.1.1.0 c.1)))
+rules_out right t status.ReadFault s text c is due = absurd (due.0 c.0)
+rules_out right t status.BadLine s text c is due = inl (sym (due.1.1.1 ∙ status_bad (bad_line_of due.1.0) (is_forged (group_of due.1.0) (history_of due.1.0)) (told_of t HasBad text due.1.0 due.1.1.0 c.1)))
+rules_out right t status.NoMemory s text c is due = inr refl
+rules_out right t status.Usage s text c is due = absurd c
+rules_out right t status.WriteFault s text c is due = absurd c
+rules_out right t status.LinkFault s text c is due = absurd c
+rules_out right t status.Halted s text c is due = absurd c
+rules_out right t status.BadFrame s text c is due = absurd c
+rules_out right t status.GreetingRefused s text c is due = absurd c
 
--- where a run ends so, its status is this
-pub run_composes : (script line : List ℕ) (e : End) (s : Status) → e ≡ end_of (run_of script) → line ≡ print_of_script script
-    → (e ≡ end.Whole → s ≡ status.Ok) → (e ≡ end.Forged → s ≡ status.TagsNotMade) → (e ≡ end.Bad → s ≡ status.BadLine) → ComposesRun script s line
-run_composes script line e s is prints whole forged bad = by_end (run_of script).bad refl (is_forged (group_of script) (history_of script)) refl
+pub group_complete : (right : Bool) (t : Taken) (k : Given) (result : Status) → Ends (group_command right t) k result → IsComplete (group_command right t) k result
+group_complete right t k result e = complete_of (group_command right t) k result e (rules_out right t)
+
+-- ---- what is known of each status
+
+-- no write failed, and of the script, where it is told, this holds and its print was written whole
+abbrev pub Prints : Taken → Given → (List ℕ → Type 0) → Type 0
+Prints t k Holds = (k.now ≡ k.before) × IfSome t.old (λ script. Holds script × AppendedAll (print_of_script script) k.old k.new)
+
+prints_so : (t : Taken) (text : List ℕ) (k : Given) (Holds : List ℕ → Type 0) → WroteAll text k → IsPrint t Holds text → Prints t k Holds
+prints_so t text k Holds all p = (all.0, by_told t.old p)
   where
-    by_end : (b : Option Bad) → (run_of script).bad ≡ b → (f : Bool) → is_forged (group_of script) (history_of script) ≡ f → ComposesRun script s line
-    by_end (Some b) at f test = inr (inl (bad (is ∙ ap (λ (o : Option Bad). ended_by o (is_forged (group_of script) (history_of script))) at), (subst (λ (o : Option Bad). IsSome o) (sym at) refl, prints)))
-    by_end None at false test = inl (false, (whole (is ∙ ap (λ (o : Option Bad). ended_by o (is_forged (group_of script) (history_of script))) at ∙ ap (ended_by None) test), ((at, test), prints)))
-    by_end None at true test = inl (true, (forged (is ∙ ap (λ (o : Option Bad). ended_by o (is_forged (group_of script) (history_of script))) at ∙ ap (ended_by None) test), ((at, test), prints)))
+    by_told : (o : Option (List ℕ)) → IfSome o (λ script. Holds script × (text ≡ print_of_script script)) → IfSome o (λ script. Holds script × AppendedAll (print_of_script script) k.old k.new)
+    by_told None p = tt
+    by_told (Some script) p = (p.0, subst (λ (l : List ℕ). AppendedAll l k.old k.new) p.1 all.1)
+
+pub ok_prints : (right : Bool) (t : Taken) (k : Given) → Ends (group_command right t) k status.Ok → (right ≡ true) × (IsReadWhole t × Prints t k (IsDone false))
+ok_prints right t k e = let x = known_of (group_command right t) k status.Ok e in (x.1.0, (x.1.1.0.0, prints_so t x.0 k (IsDone false) x.1.1.1 x.1.1.0.1))
+
+pub forged_prints : (right : Bool) (t : Taken) (k : Given) → Ends (group_command right t) k status.TagsNotMade → (right ≡ true) × (IsReadWhole t × Prints t k (IsDone true))
+forged_prints right t k e = let x = known_of (group_command right t) k status.TagsNotMade e in (x.1.0, (x.1.1.0.0, prints_so t x.0 k (IsDone true) x.1.1.1 x.1.1.0.1))
+
+pub bad_prints : (right : Bool) (t : Taken) (k : Given) → Ends (group_command right t) k status.BadLine → (right ≡ true) × ((IsReadWhole t ⊎ IsReadPast t) × Prints t k HasBad)
+bad_prints right t k e = let x = known_of (group_command right t) k status.BadLine e in (x.1.0, (x.1.1.0.0, prints_so t x.0 k HasBad x.1.1.1 x.1.1.0.1))
+
+pub failed_reads : (right : Bool) (t : Taken) (k : Given) → Ends (group_command right t) k status.ReadFault → (right ≡ true) × (Rose t.before t.now × WroteAll read_fault_line k)
+failed_reads right t k e =
+    let x = known_of (group_command right t) k status.ReadFault e in
+    (x.1.0, (x.1.1.0.0, subst (λ (l : List ℕ). WroteAll l k) x.1.1.0.1 x.1.1.1))
+
+-- a text that the command may have been about to write, where a write failed or found no memory
+abbrev pub IsOutput : Bool → Taken → List ℕ → Type 0
+IsOutput false t text = text ≡ usage_line
+IsOutput true t text = (Rose t.before t.now × (text ≡ read_fault_line)) ⊎ ((t.now ≡ t.before) × ((text ≡ no_memory_line) ⊎ IfSome t.old (λ script. text ≡ print_of_script script)))
+
+print_told : (t : Taken) (Holds : List ℕ → Type 0) (text : List ℕ) → IsPrint t Holds text → IfSome t.old (λ script. text ≡ print_of_script script)
+print_told t Holds text p = by_told t.old p
+  where
+    by_told : (o : Option (List ℕ)) → IfSome o (λ script. Holds script × (text ≡ print_of_script script)) → IfSome o (λ script. text ≡ print_of_script script)
+    by_told None p = tt
+    by_told (Some script) p = p.1
+
+pub is_output : (right : Bool) (t : Taken) (s : Status) (text : List ℕ) → Plans (group_command right t) s text → IsOutput right t text
+is_output true t status.Ok text p = inr (p.1.0.0, inr (print_told t (IsDone false) text p.1.1))
+is_output true t status.TagsNotMade text p = inr (p.1.0.0, inr (print_told t (IsDone true) text p.1.1))
+is_output true t status.Usage text p = absurd (p.0 refl)
+is_output true t status.ReadFault text p = inl p.1
+is_output true t status.WriteFault text p = absurd p
+is_output true t status.BadLine text p = inr (elim p.1.0 [ inl whole ↦ whole.0 | inr past ↦ past.0 ], inr (print_told t HasBad text p.1.1))
+is_output true t status.NoMemory text p = inr (p.0.1, inl p.1)
+is_output true t status.LinkFault text p = absurd p.1
+is_output true t status.Halted text p = absurd p.1
+is_output true t status.BadFrame text p = absurd p.1
+is_output true t status.GreetingRefused text p = absurd p.1
+is_output false t status.Usage text p = p.1.1
+is_output false t status.Ok text p = let e = p.0 in absurd cc
+is_output false t status.TagsNotMade text p = let e = p.0 in absurd cc
+is_output false t status.ReadFault text p = let e = p.0 in absurd cc
+is_output false t status.WriteFault text p = absurd p
+is_output false t status.BadLine text p = let e = p.0 in absurd cc
+is_output false t status.NoMemory text p = let e = p.0.0 in absurd cc
+is_output false t status.LinkFault text p = absurd p.1
+is_output false t status.Halted text p = absurd p.1
+is_output false t status.BadFrame text p = absurd p.1
+is_output false t status.GreetingRefused text p = absurd p.1
 
 -- ---- the claim
 
@@ -219,8 +215,8 @@ honestly script honest = record {
   comes = λ s is. (honest_runs script honest s is).0;
   lines = λ s is. (honest_runs script honest s is).1;
   tags_made = (none_forged script honest).0;
-  anyway = λ s is. holds_anyway IsSame s (honest_runs script honest s is).0;
-  holds = λ s is apart. holds_at IsSame s (honest_runs script honest s is).0 apart;
+  anyway = λ s is. holds_anyway GoesAs s (honest_runs script honest s is).0;
+  holds = λ s is apart. holds_at GoesAs s (honest_runs script honest s is).0 apart;
   none_halted = λ apart. none_for_halting script honest apart;
 }
 

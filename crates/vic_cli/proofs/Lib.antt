@@ -1,3 +1,5 @@
+pub mod Command
+pub mod Sources
 pub mod GroupEnds
 pub mod ClientEnding
 pub mod Serving

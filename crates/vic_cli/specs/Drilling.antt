@@ -1,13 +1,11 @@
 -- What the command of a drill does: it runs the drill that the words ask for, and prints its summary.
-use Rattle.std.specs.Prelude.{◌≡◌, ◌⊎◌, ℕ, List, [], ◌∷◌, Option, Some, None, IsSome, if◌then◌else◌, codes}
+use Rattle.std.specs.Prelude.{◌≡◌, ℕ, List, [], ◌∷◌, Option, Some, None, IsSome, IsSomeAnd, if◌then◌else◌, codes}
 use Rattle.std.specs.Str.{bytes_eq}
-use Rattle.vic_ports.specs.Causes.{Rose}
 use Rattle.vic_drill.specs.Drills.{print_of_drill, drill}
 use Rattle.vic_drill.specs.Laws.{IsHonestDrill}
 use Rattle.vic_text.specs.declared.status.Status.{Status}
 use Rattle.vic_text.specs.declared.status.Status.TheVariants as status
-use Rattle.vic_text.specs.Statuses.{usage_line, no_memory_line}
-use Rattle.vic_cli.specs.Output.{Given, WroteAll, WroteFront, FailedBehind}
+use Rattle.vic_cli.specs.Command.{Command}
 use Rattle.vic_cli.specs.Arguments.{whole_number, small_number, calls_number}
 use Rattle.vic_cli.specs.declared.drill.DrillWords.{DrillWords}
 
@@ -35,32 +33,18 @@ print_for a = print_of_drill a.number a.clients a.calls
 abbrev pub IsHonestFor : DrillWords → Type 0
 IsHonestFor a = IsHonestDrill (drill a.number a.clients a.calls)
 
--- a text that the command may be about to write: the usage line where the words are wrong; else the drill's summary, or that
--- memory ran out
-abbrev pub IsText : Option DrillWords → List ℕ → Type 0
-IsText None text = text ≡ usage_line
-IsText (Some a) text = (text ≡ print_for a) ⊎ (text ≡ no_memory_line)
+-- ---- the command's end
 
--- a status and its text, before the text is written
-abbrev pub Composes : Option DrillWords → Status → List ℕ → Type 0
-Composes None s text = (s ≡ status.Usage) × (text ≡ usage_line)
-Composes (Some a) s text = ((s ≡ status.Ok) × (text ≡ print_for a)) ⊎ ((s ≡ status.NoMemory) × (text ≡ no_memory_line))
+-- with status 0 it is about to write the drill's summary
+abbrev pub Causes : Option DrillWords → Status → List ℕ → Type 0
+Causes asked status.Ok text = IsSomeAnd asked (λ a. text ≡ print_for a)
+Causes asked status.NoMemory text = IsSome asked
+Causes asked s text = ⊥
 
--- ---- the command's end, by its status
-
-abbrev pub Ends : Option DrillWords → Given → Status → Type 0
-Ends asked k status.Ok = (a : DrillWords) × ((asked ≡ Some a) × WroteAll (print_for a) k)
-Ends asked k status.Usage = (asked ≡ None) × WroteAll usage_line k
-Ends asked k status.WriteFault = (text : List ℕ) × (IsText asked text × FailedBehind text k)
-Ends asked k status.NoMemory = (text : List ℕ) × (IsText asked text × WroteFront text k)
-Ends asked k status.TagsNotMade = ⊥
-Ends asked k status.ReadFault = ⊥
-Ends asked k status.BadLine = ⊥
-Ends asked k status.LinkFault = ⊥
-Ends asked k status.Halted = ⊥
-Ends asked k status.BadFrame = ⊥
-Ends asked k status.GreetingRefused = ⊥
-
--- where the words are right and no write failed, the drill was run to its end, or memory ran out
-abbrev pub IsComplete : Option DrillWords → Given → Status → Type 0
-IsComplete asked k result = IsSome asked → (Rose k.before k.now → ⊥) → (result ≡ status.Ok) ⊎ (result ≡ status.NoMemory)
+abbrev pub drill_command : Option DrillWords → Command
+drill_command asked = record {
+  right = IsSome asked;
+  untouched = Unit {0};
+  causes = Causes asked;
+  due = λ s. s ≡ status.Ok;
+}

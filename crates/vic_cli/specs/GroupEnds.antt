@@ -1,5 +1,5 @@
 -- How the command on a script ends: what was read, what was written, and why.
-use Rattle.std.specs.Prelude.{◌≡◌, ◌∷◌, ℕ, ◌⊎◌, ◌↔◌, Bool, true, false, List, ◌++◌, reverse, Some, None, IsSome, IfSome}
+use Rattle.std.specs.Prelude.{◌≡◌, ◌∷◌, ℕ, ◌⊎◌, ◌↔◌, Bool, true, false, List, ◌++◌, reverse, Option, Some, None, IsSome, IfSome}
 use Rattle.std.specs.List.{flat_map}
 use Rattle.vic_rules.specs.declared.trace.TraceStep.{TraceStep}
 use Rattle.vic_rules.specs.History.{IsLawful}
@@ -12,12 +12,13 @@ use Rattle.vic_laws.specs.Meanings.{AbortedByConflictIn, SealedAnswersStandIn}
 use Rattle.vic_laws.specs.ContentClaims.{LoadsGetTheLastIn}
 use Rattle.vic_laws.specs.AskedClaims.{CallsAreAskedIn, CallsWhatItIsAsked}
 use Rattle.vic_ports.specs.Causes.{Rose}
-use Rattle.vic_ports.specs.Written.{AppendedAll}
-use Rattle.vic_order.specs.Scenes.{Scene}
+use Rattle.vic_order.specs.Scenes.{SceneOf}
+use Rattle.vic_order.specs.Honest.{ComesHonestly}
+use Rattle.vic_attacks.specs.Hostile.{Hostile}
 use Rattle.vic_script.specs.Run.{Bad, run_of, is_honest_script, group_of, history_of, bad_line_of}
 use Rattle.vic_script.specs.Print.{print_of_script, is_forged, all_views, all_agreements, tags_line}
 use Rattle.vic_runs.specs.Agreements.{AgreementsCountIn}
-use Rattle.vic_order.specs.Honest.{ComesHonestly, IsSame}
+use Rattle.vic_runs.specs.Reached.{GoesAs}
 use Rattle.vic_runs.specs.Claims.{line_of_step}
 use Rattle.vic_honest.specs.SafeRuns.{AreApart}
 use Rattle.vic_honest.specs.Claims.{IsHonestScene, HoldsAnyway}
@@ -25,14 +26,9 @@ use Rattle.vic_script_runs.specs.Events.{script_events}
 use Rattle.vic_script_runs.specs.Claims.{ComesOf}
 use Rattle.vic_text.specs.declared.status.Status.{Status}
 use Rattle.vic_text.specs.declared.status.Status.TheVariants as status
-use Rattle.vic_text.specs.Statuses.{usage_line, read_fault_line, no_memory_line}
-use Rattle.vic_cli.specs.Output.{Taken, Given, IsReadWhole, IsReadPast, WroteAll, WroteFront, FailedBehind}
-
--- a text that the command may be about to write: the usage line where the words are wrong; else that a read failed, where one did;
--- else that memory ran out, or the print of the script's run
-abbrev pub IsOutput : Bool → Taken → List ℕ → Type 0
-IsOutput false t text = text ≡ usage_line
-IsOutput true t text = (Rose t.before t.now × (text ≡ read_fault_line)) ⊎ ((t.now ≡ t.before) × ((text ≡ no_memory_line) ⊎ IfSome t.old (λ script. text ≡ print_of_script script)))
+use Rattle.vic_text.specs.Statuses.{read_fault_line, no_memory_line}
+use Rattle.vic_cli.specs.Output.{Taken, IsUnread, IsReadWhole, IsReadPast}
+use Rattle.vic_cli.specs.Command.{Command}
 
 -- every line of a script is done, and this tells whether a tag was taken that no client had made before
 abbrev pub IsDone : Bool → List ℕ → Type 0
@@ -42,56 +38,64 @@ IsDone forged script = (bad_line_of script ≡ None) × (is_forged (group_of scr
 abbrev pub HasBad : List ℕ → Type 0
 HasBad script = IsSome (bad_line_of script)
 
--- no write failed, and of the script, where it is told, this holds and its print was written whole
-abbrev pub Prints : Taken → Given → (List ℕ → Type 0) → Type 0
-Prints t k Holds = (k.now ≡ k.before) × IfSome t.old (λ script. Holds script × AppendedAll (print_of_script script) k.old k.new)
+-- of the script, where it is told, this holds, and the text is its print
+abbrev pub IsPrint : Taken → (List ℕ → Type 0) → List ℕ → Type 0
+IsPrint t Holds text = IfSome t.old (λ script. Holds script × (text ≡ print_of_script script))
 
--- the command's end, by its status: `right` says whether the words are
-abbrev pub Ends : Bool → Taken → Given → Status → Type 0
-Ends right t k status.Ok = (right ≡ true) × (IsReadWhole t × Prints t k (IsDone false))
-Ends right t k status.TagsNotMade = (right ≡ true) × (IsReadWhole t × Prints t k (IsDone true))
-Ends right t k status.Usage = (right ≡ false) × WroteAll usage_line k
-Ends right t k status.ReadFault = (right ≡ true) × (Rose t.before t.now × WroteAll read_fault_line k)
-Ends right t k status.WriteFault = (text : List ℕ) × (IsOutput right t text × FailedBehind text k)
-Ends right t k status.BadLine = (right ≡ true) × ((IsReadWhole t ⊎ IsReadPast t) × Prints t k HasBad)
-Ends right t k status.NoMemory = (text : List ℕ) × (IsOutput right t text × WroteFront text k)
-Ends right t k status.LinkFault = ⊥
-Ends right t k status.Halted = ⊥
-Ends right t k status.BadFrame = ⊥
-Ends right t k status.GreetingRefused = ⊥
+-- with status 0 and 1 the source was read to its end, every line was done, and all tags were made or one wasn't; with 3 a read
+-- failed; with 5 a line is bad. Where memory ran out, no read had failed
+abbrev pub Causes : Bool → Taken → Status → List ℕ → Type 0
+Causes right t status.Ok text = IsReadWhole t × IsPrint t (IsDone false) text
+Causes right t status.TagsNotMade text = IsReadWhole t × IsPrint t (IsDone true) text
+Causes right t status.ReadFault text = Rose t.before t.now × (text ≡ read_fault_line)
+Causes right t status.BadLine text = (IsReadWhole t ⊎ IsReadPast t) × IsPrint t HasBad text
+Causes right t status.NoMemory text = (right ≡ true) × (t.now ≡ t.before)
+Causes right t s text = ⊥
 
--- the status of a run in which every line is done
-abbrev pub done_status : Bool → Status
-done_status false = status.Ok
-done_status true = status.TagsNotMade
+-- the status of a run: of its bad line, and of whether a tag was taken that no client had made before
+abbrev pub status_of : Option Bad → Bool → Status
+status_of (Some b) forged = status.BadLine
+status_of None false = status.Ok
+status_of None true = status.TagsNotMade
 
--- where no line is bad, no fault came and the words are right, every line was done, or memory ran out
-abbrev pub IsComplete : Bool → Taken → Given → Status → Type 0
-IsComplete right t k result =
-    right ≡ true → (Rose t.before t.now → ⊥) → (Rose k.before k.now → ⊥) → (script : List ℕ) → t.old ≡ Some script → bad_line_of script ≡ None
-    → (result ≡ done_status (is_forged (group_of script) (history_of script))) ⊎ (result ≡ status.NoMemory)
+abbrev pub run_status : List ℕ → Status
+run_status script = status_of (bad_line_of script) (is_forged (group_of script) (history_of script))
+
+abbrev pub group_command : Bool → Taken → Command
+group_command right t = record {
+  right = right ≡ true;
+  untouched = IsUnread t;
+  causes = Causes right t;
+  due = λ s. (Rose t.before t.now → ⊥) × ((script : List ℕ) × ((t.old ≡ Some script) × (s ≡ run_status script)));
+}
+
+-- a status and its text after the run of a script
+abbrev pub TellsRun : List ℕ → Status → List ℕ → Type 0
+TellsRun script s text =
+    ((s ≡ run_status script) × (text ≡ print_of_script script)) ⊎ ((s ≡ status.NoMemory) × (text ≡ no_memory_line))
 
 -- what holds of the run of a script in which no line tampers with what its one server answers
 pub record IsHonest (script : List ℕ) : Type 0 where
   -- honest events lead where it ends, with one server that follows the rule
-  pub comes : (s : Scene) → (run_of script).scene ≡ Some s → ComesHonestly IsSame s
+  pub comes : (s : SceneOf Hostile) → (run_of script).scene ≡ Some s → ComesHonestly GoesAs s
   -- these are the events of its lines, one line after the other
-  pub lines : (s : Scene) (is : (run_of script).scene ≡ Some s) → (comes s is).events ≡ script_events script
+  pub lines : (s : SceneOf Hostile) (is : (run_of script).scene ≡ Some s) → (comes s is).events ≡ script_events script
   -- every tag that a client took was made by a client before
   pub tags_made : is_forged (group_of script) (history_of script) ≡ false
   -- each client's path is the oldest entries of the server's log, up to some position
-  pub anyway : (s : Scene) (is : (run_of script).scene ≡ Some s) → HoldsAnyway s.group s.history (comes s is).server
+  pub anyway : (s : SceneOf Hostile) (is : (run_of script).scene ≡ Some s) → HoldsAnyway s.group s.history (comes s is).server
   -- and where contents are apart (in a group with objects no two different ones that clients sent have one hash; in a plain group none is
   -- sent), what holds of honest runs holds there: each completed call returned what becomes of it in the server's log, no step
   -- returned that a check failed, each load that returned a content returned the one that was stored last, and more
-  pub holds : (s : Scene) (is : (run_of script).scene ≡ Some s) → AreApart s.group s.history → IsHonestScene s (comes s is).events (comes s is).server
+  pub holds : (s : SceneOf Hostile) (is : (run_of script).scene ≡ Some s) → AreApart s.group s.history → IsHonestScene s (comes s is).events (comes s is).server
   -- and then no line is bad for that its client has halted
   pub none_halted : AreApart (group_of script) (history_of script) → (b : Bad) → bad_line_of script ≡ Some b → b.kind ≡ 3 → ⊥
 
 -- what holds of the run of a script, whatever its lines give, change, repeat or send again, and whatever servers they copy and join
 pub record IsAsClaimed (script : List ℕ) : Type 0 where
-  -- the events of its lines, one line after the other, may happen, and lead where it ends
-  pub comes : (s : Scene) → (run_of script).scene ≡ Some s → ComesOf s (script_events script)
+  -- the events of its lines, one line after the other, may happen, and lead where it ends, from an opening whose server misbehaves as a
+  -- line of the script names it, or doesn't
+  pub comes : (s : SceneOf Hostile) → (run_of script).scene ≡ Some s → ComesOf script s (script_events script)
   -- its clients step by the rules
   pub lawful : IsLawful (group_of script) (history_of script)
   -- two fronts of its clients' paths that have one hash are equal, or two listed texts collide

@@ -1,7 +1,7 @@
 pub mod Output
+pub mod Command
 pub mod Words
 pub mod GroupEnds
-pub mod GroupOutput
 pub mod Telling
 pub mod ClientWords
 pub mod ClientEnds

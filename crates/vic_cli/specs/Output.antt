@@ -19,6 +19,14 @@ pub record Taken : Type 0 where
 abbrev pub taken_of : Option (List ℕ) → Option (List ℕ) → ℕ → ℕ → Bool → Taken
 taken_of old new before now ended = record { old = old; new = new; before = before; now = now; ended = ended }
 
+-- by the words in which a source tells it
+abbrev pub taken_by : {A : Type 0} → (A → Option (List ℕ)) → (A → ℕ) → (A → Bool) → A → A → Taken
+taken_by left faults ended old new = taken_of (left old) (left new) (faults old) (faults new) (ended new)
+
+-- nothing was taken from it, and no read failed
+abbrev pub IsUnread : Taken → Type 0
+IsUnread t = (t.new ≡ t.old) × (t.now ≡ t.before)
+
 -- it was read to its end, and no read failed
 abbrev pub IsReadWhole : Taken → Type 0
 IsReadWhole t = (t.now ≡ t.before) × ((t.ended ≡ true) × IsSpent t.new)
@@ -36,6 +44,10 @@ pub record Given : Type 0 where
 
 abbrev pub given_of : Option (List ℕ) → Option (List ℕ) → ℕ → ℕ → Given
 given_of old new before now = record { old = old; new = new; before = before; now = now }
+
+-- by the words in which a sink tells it
+abbrev pub given_by : {A : Type 0} → (A → Option (List ℕ)) → (A → ℕ) → A → A → Given
+given_by held faults old new = given_of (held old) (held new) (faults old) (faults new)
 
 -- the bytes of a text
 abbrev pub text_bytes : Text → List ℕ

@@ -1,5 +1,5 @@
 -- What the command of a server does: lines come, are served and go back, and seven lines are printed of it.
-use Rattle.std.specs.Prelude.{◌≡◌, ◌⊎◌, ℕ, ◌&&◌, Bool, true, false, List, [], ◌∷◌, ◌++◌, length, Option, Some, None, IsSome, count_by, if◌then◌else◌, codes}
+use Rattle.std.specs.Prelude.{◌≡◌, ◌⊎◌, ℕ, ◌&&◌, Bool, true, false, List, [], ◌∷◌, ◌++◌, length, Option, Some, None, IsSome, IsSomeAnd, IfSome, count_by, if◌then◌else◌, codes}
 use Rattle.std.specs.Str.{bytes_eq}
 use Rattle.std.specs.Fmt.{decimal}
 use Rattle.vic_dict.specs.declared.op.Mode.{Mode}
@@ -14,8 +14,8 @@ use Rattle.vic_hall.specs.Runs.{IsRun}
 use Rattle.vic_script.specs.Words.{newline}
 use Rattle.vic_text.specs.declared.status.Status.{Status}
 use Rattle.vic_text.specs.declared.status.Status.TheVariants as status
-use Rattle.vic_text.specs.Statuses.{usage_line, no_memory_line, link_fault_line}
-use Rattle.vic_cli.specs.Output.{Given, WroteAll, WroteFront, FailedBehind}
+use Rattle.vic_text.specs.Statuses.{link_fault_line}
+use Rattle.vic_cli.specs.Command.{Command}
 use Rattle.vic_cli.specs.Arguments.{is_address, small_number, mode_of}
 use Rattle.vic_cli.specs.declared.serve.Asked.{Asked}
 
@@ -82,12 +82,16 @@ pub record Opened : Type 0 where
 abbrev pub opened_of : Option Lines → Option Lines → ℕ → ℕ → Opened
 opened_of old new before now = record { old = old; new = new; before = before; now = now }
 
--- so many lines came, were served by one server of the kind and the clients that were asked for, and went back, in order; and the
--- text tells of it
+-- by the words in which doors tell it
+abbrev pub opened_by : {A : Type 0} → (A → Option Lines) → (A → ℕ) → A → A → Opened
+opened_by lines faults old new = opened_of (lines old) (lines new) (faults old) (faults new)
+
+-- so many lines came, were served by one server of the kind and the clients that were asked for, and went back, in order, and no
+-- accept failed; and the text tells of it
 abbrev pub IsServed : Asked → Opened → Kept → List ℕ → Type 0
 IsServed a d k text =
-    (l : Lines) × ((worked : List WorkEnd) × (Visited l d.old d.new
-    × (IsRun a.connections (opening a.kind a.clients false) l worked k × (text ≡ serve_text a.connections k worked))))
+    (d.now ≡ d.before) × ((l : Lines) × ((worked : List WorkEnd) × (Visited l d.old d.new
+    × (IsRun a.connections (opening a.kind a.clients false) l worked k × (text ≡ serve_text a.connections k worked)))))
 
 -- each line that came went back as it came
 abbrev pub IsUnserved : Opened → Type 0
@@ -98,62 +102,24 @@ abbrev pub IsUntouched : Opened → Type 0
 IsUntouched d = (d.new ≡ d.old) × (d.now ≡ d.before)
 
 -- what was asked for was done, though nothing tells of it
-abbrev pub WasServed : Option Asked → Opened → Type 0
-WasServed asked d =
-    (a : Asked) × ((asked ≡ Some a) × ((k : Kept) × ((text : List ℕ) × (IsServed a d k text × (d.now ≡ d.before)))))
+abbrev pub WasServed : Asked → Opened → Type 0
+WasServed a d = (k : Kept) × ((text : List ℕ) × IsServed a d k text)
 
--- a status, its text and the server that was kept, before the text is written
-abbrev pub Plans : Option Asked → Opened → Status → List ℕ → Option Kept → Type 0
-Plans asked d status.Ok text kept =
-    (a : Asked) × ((asked ≡ Some a) × ((k : Kept) × ((kept ≡ Some k) × (IsServed a d k text × (d.now ≡ d.before)))))
-Plans asked d status.Usage text kept = (asked ≡ None) × ((text ≡ usage_line) × IsUntouched d)
-Plans asked d status.LinkFault text kept = IsSome asked × ((text ≡ link_fault_line) × (Rose d.before d.now × IsUnserved d))
-Plans asked d status.NoMemory text kept = IsSome asked × ((text ≡ no_memory_line) × (IsUntouched d ⊎ WasServed asked d))
-Plans asked d status.TagsNotMade text kept = ⊥
-Plans asked d status.ReadFault text kept = ⊥
-Plans asked d status.WriteFault text kept = ⊥
-Plans asked d status.BadLine text kept = ⊥
-Plans asked d status.Halted text kept = ⊥
-Plans asked d status.BadFrame text kept = ⊥
-Plans asked d status.GreetingRefused text kept = ⊥
+-- ---- the command's end
 
--- a text that the command may be about to write
-abbrev pub IsText : Option Asked → Opened → List ℕ → Type 0
-IsText asked d text = (s : Status) × ((kept : Option Kept) × Plans asked d s text kept)
+-- with status 0 all was served, and where a server is kept, it is the one that the text tells of; with 7 an accept failed. Memory
+-- runs out before the first accept, or after all was served
+abbrev pub Causes : Option Asked → Opened → Option Kept → Status → List ℕ → Type 0
+Causes asked d kept status.Ok text =
+    IsSomeAnd asked (λ a. (k : Kept) × (IsServed a d k text × IfSome kept (λ x. x ≡ k)))
+Causes asked d kept status.LinkFault text = Rose d.before d.now × (IsUnserved d × (text ≡ link_fault_line))
+Causes asked d kept status.NoMemory text = IsSomeAnd asked (λ a. IsUntouched d ⊎ WasServed a d)
+Causes asked d kept s text = ⊥
 
--- ---- the command's end, by its status
-
-abbrev pub Ends : Option Asked → Opened → Given → Option Kept → Status → Type 0
-Ends asked d w kept status.Ok =
-    (a : Asked) × ((asked ≡ Some a) × ((d.now ≡ d.before) × ((k : Kept) × ((kept ≡ Some k)
-    × ((text : List ℕ) × (IsServed a d k text × WroteAll text w))))))
-Ends asked d w kept status.Usage = (asked ≡ None) × (IsUntouched d × WroteAll usage_line w)
-Ends asked d w kept status.WriteFault = (text : List ℕ) × (IsText asked d text × FailedBehind text w)
-Ends asked d w kept status.NoMemory = (text : List ℕ) × (IsText asked d text × WroteFront text w)
-Ends asked d w kept status.LinkFault =
-    IsSome asked × (Rose d.before d.now × (IsUnserved d × WroteAll link_fault_line w))
-Ends asked d w kept status.TagsNotMade = ⊥
-Ends asked d w kept status.ReadFault = ⊥
-Ends asked d w kept status.BadLine = ⊥
-Ends asked d w kept status.Halted = ⊥
-Ends asked d w kept status.BadFrame = ⊥
-Ends asked d w kept status.GreetingRefused = ⊥
-
--- the server is kept at status 0 alone
-abbrev pub kept_at : Status → Option Kept → Option Kept
-kept_at status.Ok made = made
-kept_at status.TagsNotMade made = None
-kept_at status.Usage made = None
-kept_at status.ReadFault made = None
-kept_at status.WriteFault made = None
-kept_at status.BadLine made = None
-kept_at status.NoMemory made = None
-kept_at status.LinkFault made = None
-kept_at status.Halted made = None
-kept_at status.BadFrame made = None
-kept_at status.GreetingRefused made = None
-
--- where the words are right and no fault came, all was done, or memory ran out
-abbrev pub IsComplete : Option Asked → Opened → Given → Status → Type 0
-IsComplete asked d w result =
-    IsSome asked → (Rose d.before d.now → ⊥) → (Rose w.before w.now → ⊥) → (result ≡ status.Ok) ⊎ (result ≡ status.NoMemory)
+abbrev pub serve_command : Option Asked → Opened → Option Kept → Command
+serve_command asked d kept = record {
+  right = IsSome asked;
+  untouched = IsUntouched d;
+  causes = Causes asked d kept;
+  due = λ s. (Rose d.before d.now → ⊥) × (s ≡ status.Ok);
+}

@@ -4,9 +4,10 @@ ghost use Rattle.std.specs.Prelude.{◌≡◌, Some, None, map, string_bytes};
 ghost use Rattle.vic_ports.specs.InputGives.{TakesAtMost, most_taken};
 ghost use Rattle.vic_rules.specs.Client.{at_start};
 ghost use Rattle.vic_client.specs.Kept.{StandsFor, group_of};
-ghost use Rattle.vic_cli.specs.Output.{taken_of, given_of, text_bytes};
+ghost use Rattle.vic_cli.specs.Output.{taken_by, given_by, text_bytes};
 ghost use Rattle.vic_cli.specs.ClientWords.{ClientWords, client_words, IsClientOf};
-ghost use Rattle.vic_cli.specs.ClientEnds.{Composes, ClientEnds, IsClientComplete};
+ghost use Rattle.vic_cli.specs.Command.{Plans, Ends, IsComplete};
+ghost use Rattle.vic_cli.specs.ClientEnds.{client_command};
 
 use crate::client_words::client_of;
 use crate::output::{Composed, finish};
@@ -25,7 +26,9 @@ fn compose_client<S: Source, L: Link>(
     link: &mut L,
 ) -> Composed
     requires { StandsFor client.old at_start }
-    ensures given { (w : ClientWords) → IsClientOf (Some w) (Some client.old) → Composes (Some w) (taken_of (S.left source.old) (S.left source.new) (S.faults source.old) (S.faults source.new) (S.ended source.new)) (L.told link.old) (L.told link.new) result.status (text_bytes result.text) }
+    ensures plans { (w : ClientWords) → IsClientOf (Some w) (Some client.old)
+        → Plans (client_command (Some w) (taken_by S.left S.faults S.ended source.old source.new) (L.told link.old) (L.told link.new))
+        result.status (text_bytes result.text) }
     ensures taken { TakesAtMost most_taken (S.left source.old) (S.left source.new) }
 {
     match read_input(alloc, source) {
@@ -43,7 +46,9 @@ fn compose<S: Source, L: Link>(
     source: &mut S,
     link: &mut L,
 ) -> Composed
-    ensures given { Composes (client_words (map string_bytes words.now)) (taken_of (S.left source.old) (S.left source.new) (S.faults source.old) (S.faults source.new) (S.ended source.new)) (L.told link.old) (L.told link.new) result.status (text_bytes result.text) }
+    ensures plans { Plans (client_command (client_words (map string_bytes words.now))
+        (taken_by S.left S.faults S.ended source.old source.new) (L.told link.old) (L.told link.new))
+        result.status (text_bytes result.text) }
     ensures unread { client_words (map string_bytes words.now) ≡ None → source.new ≡ source.old }
     ensures taken { TakesAtMost most_taken (S.left source.old) (S.left source.new) }
 {
@@ -64,8 +69,12 @@ pub fn run_client<S: Source, K: Sink, L: Link>(
     link: &mut L,
     sink: &mut K,
 ) -> Status
-    ensures ends { ClientEnds (client_words (map string_bytes words.now)) (taken_of (S.left source.old) (S.left source.new) (S.faults source.old) (S.faults source.new) (S.ended source.new)) (L.told link.old) (L.told link.new) (given_of (K.held sink.old) (K.held sink.new) (K.faults sink.old) (K.faults sink.new)) result }
-    ensures complete { IsClientComplete (client_words (map string_bytes words.now)) (taken_of (S.left source.old) (S.left source.new) (S.faults source.old) (S.faults source.new) (S.ended source.new)) (L.told link.old) (L.told link.new) (given_of (K.held sink.old) (K.held sink.new) (K.faults sink.old) (K.faults sink.new)) result }
+    ensures ends { Ends (client_command (client_words (map string_bytes words.now))
+        (taken_by S.left S.faults S.ended source.old source.new) (L.told link.old) (L.told link.new))
+        (given_by K.held K.faults sink.old sink.new) result }
+    ensures complete { IsComplete (client_command (client_words (map string_bytes words.now))
+        (taken_by S.left S.faults S.ended source.old source.new) (L.told link.old) (L.told link.new))
+        (given_by K.held K.faults sink.old sink.new) result }
     ensures unread { client_words (map string_bytes words.now) ≡ None → source.new ≡ source.old }
     ensures taken { TakesAtMost most_taken (S.left source.old) (S.left source.new) }
 {

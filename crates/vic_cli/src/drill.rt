@@ -1,8 +1,9 @@
 //! The command of a drill: it runs the drill that the words ask for, and prints its summary.
 
 ghost use Rattle.std.specs.Prelude.{◌≡◌, ◌<◌, ◌≤◌, IfSome, map, string_bytes};
-ghost use Rattle.vic_cli.specs.Output.{given_of, text_bytes};
-ghost use Rattle.vic_cli.specs.Drilling.{drill_words, IsHonestFor, Composes, Ends, IsComplete};
+ghost use Rattle.vic_cli.specs.Output.{given_by, text_bytes};
+ghost use Rattle.vic_cli.specs.Command.{Plans, Ends, IsComplete};
+ghost use Rattle.vic_cli.specs.Drilling.{drill_words, drill_command, IsHonestFor};
 
 use crate::arguments::{calls_number, small_number};
 use crate::output::{Composed, Text, finish};
@@ -41,7 +42,8 @@ fn read_words(words: &[String]) -> Option<DrillWords>
 
 // Runs the drill that was asked for, and composes its summary.
 fn compose(alloc: Global, words: &[String]) -> Composed
-    ensures composes { Composes (drill_words (map string_bytes words.now)) result.status (text_bytes result.text) }
+    ensures plans { Plans (drill_command (drill_words (map string_bytes words.now)))
+        result.status (text_bytes result.text) }
     ensures honest { IfSome (drill_words (map string_bytes words.now)) IsHonestFor }
 {
     let Some(asked) = read_words(words) else {
@@ -60,9 +62,11 @@ fn compose(alloc: Global, words: &[String]) -> Composed
 ///
 /// It takes memory for what the drill's clients and its server keep, and for the summary.
 pub fn run_drill<K: Sink>(alloc: Global, words: &[String], sink: &mut K) -> Status
-    ensures ends { Ends (drill_words (map string_bytes words.now)) (given_of (K.held sink.old) (K.held sink.new) (K.faults sink.old) (K.faults sink.new)) result }
+    ensures ends { Ends (drill_command (drill_words (map string_bytes words.now)))
+        (given_by K.held K.faults sink.old sink.new) result }
     ensures claim { IfSome (drill_words (map string_bytes words.now)) IsHonestFor }
-    ensures complete { IsComplete (drill_words (map string_bytes words.now)) (given_of (K.held sink.old) (K.held sink.new) (K.faults sink.old) (K.faults sink.new)) result }
+    ensures complete { IsComplete (drill_command (drill_words (map string_bytes words.now)))
+        (given_by K.held K.faults sink.old sink.new) result }
 {
     let composed = compose(alloc, words);
     finish(sink, composed.status, composed.text.as_slice())

@@ -1,13 +1,11 @@
 //! The command on a script: it reads the script, runs it and writes what it prints.
 
-ghost use Rattle.std.specs.Prelude.{◌≡◌, ◌≢◌, ◌⊎◌, ℕ, List, Some, None, true, false, drop, map, string_bytes};
+ghost use Rattle.std.specs.Prelude.{◌≡◌, ◌≢◌, ◌⊎◌, ℕ, List, Some, true, false, drop, map, string_bytes};
 ghost use Rattle.vic_ports.specs.InputGives.{TakesAtMost, most_taken};
-ghost use Rattle.vic_script.specs.Run.{bad_line_of, group_of, history_of};
-ghost use Rattle.vic_script.specs.Print.{is_forged};
 ghost use Rattle.vic_cli.specs.Words.{is_group};
-ghost use Rattle.vic_cli.specs.Output.{taken_of, given_of, text_bytes};
-ghost use Rattle.vic_cli.specs.GroupEnds.{Ends, IsComplete, IsAsClaimed, done_status};
-ghost use Rattle.vic_cli.specs.GroupOutput.{Composes, ComposesRun};
+ghost use Rattle.vic_cli.specs.Output.{taken_of, taken_by, given_of, given_by, text_bytes};
+ghost use Rattle.vic_cli.specs.Command.{Plans, Ends, IsComplete};
+ghost use Rattle.vic_cli.specs.GroupEnds.{group_command, IsAsClaimed, TellsRun, run_status};
 
 use crate::output::{Composed, Text, finish};
 use std::alloc::Global;
@@ -28,7 +26,7 @@ fn is_right(words: &[String]) -> bool
 
 /// Runs a script, and answers what it prints.
 fn compose_run(alloc: Global, script: &[u8]) -> Composed
-    ensures { ComposesRun script.now result.status (text_bytes result.text) }
+    ensures { TellsRun script.now result.status (text_bytes result.text) }
 {
     match play(alloc, script) {
         Ok(played) => Composed {
@@ -45,7 +43,8 @@ fn compose_run(alloc: Global, script: &[u8]) -> Composed
 
 /// Reads a script and runs it, where the words are right; else nothing is read.
 fn compose<S: Source>(alloc: Global, right: bool, source: &mut S) -> Composed
-    ensures given { Composes right (taken_of (S.left source.old) (S.left source.new) (S.faults source.old) (S.faults source.new) (S.ended source.new)) result.status (text_bytes result.text) }
+    ensures plans { Plans (group_command right (taken_by S.left S.faults S.ended source.old source.new))
+        result.status (text_bytes result.text) }
     ensures unread { right ≡ false → source.new ≡ source.old }
     ensures taken { TakesAtMost most_taken (S.left source.old) (S.left source.new) }
 {
@@ -70,9 +69,13 @@ pub fn run_group<S: Source, K: Sink>(
     source: &mut S,
     sink: &mut K,
 ) -> Status
-    ensures ends { Ends (is_group (map string_bytes words.now)) (taken_of (S.left source.old) (S.left source.new) (S.faults source.old) (S.faults source.new) (S.ended source.new)) (given_of (K.held sink.old) (K.held sink.new) (K.faults sink.old) (K.faults sink.new)) result }
+    ensures ends { Ends (group_command (is_group (map string_bytes words.now))
+        (taken_by S.left S.faults S.ended source.old source.new))
+        (given_by K.held K.faults sink.old sink.new) result }
     ensures claim { (script : List ℕ) → IsAsClaimed script }
-    ensures complete { IsComplete (is_group (map string_bytes words.now)) (taken_of (S.left source.old) (S.left source.new) (S.faults source.old) (S.faults source.new) (S.ended source.new)) (given_of (K.held sink.old) (K.held sink.new) (K.faults sink.old) (K.faults sink.new)) result }
+    ensures complete { IsComplete (group_command (is_group (map string_bytes words.now))
+        (taken_by S.left S.faults S.ended source.old source.new))
+        (given_by K.held K.faults sink.old sink.new) result }
     ensures unread { is_group (map string_bytes words.now) ≡ false → source.new ≡ source.old }
     ensures taken { TakesAtMost most_taken (S.left source.old) (S.left source.new) }
 {
@@ -87,9 +90,14 @@ pub fn run_in_memory(
     source: &mut NeverFails<MemorySource>,
     sink: &mut NeverFails<MemorySink>,
 ) -> Status
-    ensures ends { Ends (is_group (map string_bytes words.now)) (taken_of (Some (drop source.old.inner.taken source.old.inner.bytes)) (Some (drop source.new.inner.taken source.new.inner.bytes)) 0 0 source.new.inner.ended) (given_of (Some sink.old.inner.bytes) (Some sink.new.inner.bytes) 0 0) result }
+    ensures ends { Ends (group_command (is_group (map string_bytes words.now))
+        (taken_of (Some (drop source.old.inner.taken source.old.inner.bytes))
+        (Some (drop source.new.inner.taken source.new.inner.bytes)) 0 0 source.new.inner.ended))
+        (given_of (Some sink.old.inner.bytes) (Some sink.new.inner.bytes) 0 0) result }
     ensures claim { IsAsClaimed (drop source.old.inner.taken source.old.inner.bytes) }
-    ensures complete { is_group (map string_bytes words.now) ≡ true → bad_line_of (drop source.old.inner.taken source.old.inner.bytes) ≡ None → (result ≡ done_status (is_forged (group_of (drop source.old.inner.taken source.old.inner.bytes)) (history_of (drop source.old.inner.taken source.old.inner.bytes)))) ⊎ (result ≡ Status.NoMemory) }
+    ensures complete { is_group (map string_bytes words.now) ≡ true
+        → (result ≡ run_status (drop source.old.inner.taken source.old.inner.bytes))
+        ⊎ (result ≡ Status.NoMemory) }
     ensures reads { result ≢ Status.ReadFault }
     ensures writes { result ≢ Status.WriteFault }
 {

@@ -1,9 +1,10 @@
 //! The commands: what each reads, does, prints, and how it ends.
 //!
-//! Each composes what it prints in memory, and writes it at the end by [`finish`]. The contract of [`run_group`] carries `Ends`,
-//! `IsAsClaimed` and `IsComplete` of `specs/GroupEnds.antt`; that of [`run_client`] carries `ClientEnds` and
-//! `IsClientComplete` of `specs/ClientEnds.antt`; that of [`run_serve`] carries `Ends` and `IsComplete` of `specs/Serving.antt`, and that
-//! of [`run_drill`] those of `specs/Drilling.antt`. A program ends with [`code_of`] its command's status.
+//! Each composes what it prints in memory, and writes it at the end by [`finish`]. The contracts of [`run_group`], [`run_drill`],
+//! [`run_client`] and [`run_serve`] carry `Ends` and `IsComplete` of `specs/Command.antt`, each for a command of its own:
+//! `group_command` of `specs/GroupEnds.antt`, `drill_command` of `specs/Drilling.antt`, `client_command` of
+//! `specs/ClientEnds.antt` and `serve_command` of `specs/Serving.antt`. These say of each status what causes it. That of
+//! [`run_group`] carries `IsAsClaimed` besides. A program ends with [`code_of`] its command's status.
 #![tactic(auto)]
 
 mod arguments;

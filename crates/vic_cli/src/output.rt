@@ -2,7 +2,7 @@
 
 ghost use Rattle.std.specs.Prelude.{◌≡◌};
 ghost use Rattle.vic_text.specs.Statuses.{fixed_line};
-ghost use Rattle.vic_cli.specs.Output.{text_bytes, Finishes, given_of};
+ghost use Rattle.vic_cli.specs.Output.{text_bytes, Finishes, given_by};
 
 use vic_dict::Bytes;
 use vic_ports::{Sink, Written, write_output};
@@ -49,7 +49,7 @@ impl Composed {
 
 /// Writes a text and answers the command's status; where the write fails, that replaces it.
 pub fn finish<K: Sink>(sink: &mut K, status: Status, text: &[u8]) -> Status
-    ensures { Finishes status text.now (given_of (K.held sink.old) (K.held sink.new) (K.faults sink.old) (K.faults sink.new)) result }
+    ensures { Finishes status text.now (given_by K.held K.faults sink.old sink.new) result }
 {
     match write_output(sink, text) {
         Written::All => status,

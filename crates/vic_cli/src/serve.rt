@@ -1,9 +1,10 @@
 //! The command of a server: lines come, are served and go back, and what it prints tells of it.
 
-ghost use Rattle.std.specs.Prelude.{◌≡◌, ◌≢◌, ◌<◌, ◌≤◌, ◌++◌, None, IfOk, IfSome, OnOk, map, string_bytes};
-ghost use Rattle.vic_cli.specs.Output.{given_of, text_bytes};
+ghost use Rattle.std.specs.Prelude.{◌≡◌, ◌≢◌, ◌<◌, ◌≤◌, ◌++◌, None, IfOk, IfSome, IsSome, OnOk, map, string_bytes};
+ghost use Rattle.vic_cli.specs.Output.{given_by, text_bytes};
+ghost use Rattle.vic_cli.specs.Command.{Plans, Ends, IsComplete};
 ghost use Rattle.vic_text.specs.Statuses.{fixed_line};
-ghost use Rattle.vic_cli.specs.Serving.{serve_words, told_line, serve_text, is_link_fault as link_fault_test, is_bad_frame as bad_frame_test, is_no_memory as no_memory_test, opened_of, kept_at, Plans, Ends, IsComplete};
+ghost use Rattle.vic_cli.specs.Serving.{serve_words, told_line, serve_text, is_link_fault as link_fault_test, is_bad_frame as bad_frame_test, is_no_memory as no_memory_test, opened_by, serve_command};
 
 use crate::arguments::{is_address, mode_of, small_number};
 use crate::output::{Composed, Text, finish};
@@ -125,7 +126,10 @@ fn plan<D: Doors, G: Gate + Sync, R: Threads + Wait + Sync>(
 ) -> Planned
 where
     D::Line: Send + Drop,
-    ensures { Plans (serve_words (map string_bytes words.now)) (opened_of (D.lines doors.old) (D.lines doors.new) (D.faults doors.old) (D.faults doors.new)) result.composed.status (text_bytes result.composed.text) result.served }
+    ensures plans { Plans (serve_command (serve_words (map string_bytes words.now))
+        (opened_by D.lines D.faults doors.old doors.new) result.served)
+        result.composed.status (text_bytes result.composed.text) }
+    ensures served { result.composed.status ≡ Status.Ok → IsSome result.served }
 {
     let Some(a) = read_words(words) else {
         return without(Status::Usage);
@@ -151,7 +155,8 @@ where
 
 // The server is kept at status 0 alone.
 fn keep(status: Status, served: Option<Served>) -> Option<Served>
-    ensures { result ≡ kept_at status served }
+    ensures ok { status ≡ Status.Ok → result ≡ served }
+    ensures none { status ≢ Status.Ok → result ≡ None }
 {
     match status {
         Status::Ok => served,
@@ -176,9 +181,14 @@ pub fn run_serve<D: Doors, K: Sink, G: Gate + Sync, R: Threads + Wait + Sync>(
 ) -> Status
 where
     D::Line: Send + Drop,
-    ensures ends { Ends (serve_words (map string_bytes words.now)) (opened_of (D.lines doors.old) (D.lines doors.new) (D.faults doors.old) (D.faults doors.new)) (given_of (K.held sink.old) (K.held sink.new) (K.faults sink.old) (K.faults sink.new)) kept.new result }
+    ensures ends { Ends (serve_command (serve_words (map string_bytes words.now))
+        (opened_by D.lines D.faults doors.old doors.new) kept.new)
+        (given_by K.held K.faults sink.old sink.new) result }
+    ensures kept { result ≡ Status.Ok → IsSome kept.new }
     ensures none { result ≢ Status.Ok → kept.new ≡ None }
-    ensures complete { IsComplete (serve_words (map string_bytes words.now)) (opened_of (D.lines doors.old) (D.lines doors.new) (D.faults doors.old) (D.faults doors.new)) (given_of (K.held sink.old) (K.held sink.new) (K.faults sink.old) (K.faults sink.new)) result }
+    ensures complete { IsComplete (serve_command (serve_words (map string_bytes words.now))
+        (opened_by D.lines D.faults doors.old doors.new) kept.new)
+        (given_by K.held K.faults sink.old sink.new) result }
 {
     let Planned { composed, served } = plan(rt, alloc, words, doors, gate);
     let status = finish(sink, composed.status, composed.text.as_slice());

@@ -9,6 +9,8 @@ mod memory;
 #[cfg(test)]
 mod narrow;
 #[cfg(test)]
+mod output;
+#[cfg(test)]
 mod serve;
 #[cfg(test)]
 mod tests;

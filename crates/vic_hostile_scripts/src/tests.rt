@@ -8,7 +8,7 @@ use vic_group::play::{End, play};
 /// A script and what it prints, each with ` / ` between its lines, and how it ends.
 type Row = (&'static str, &'static str, End);
 
-const ROWS: [Row; 67] = [
+const ROWS: [Row; 73] = [
     // Client 1 puts, with the requests 1 to 3, and client 2 gets, with the requests 4 to 6. All is as with an honest server.
     (
         "clients 2 / hostile rollback 0 / call 1 put a x / run 1 / call 2 get a / run 2",
@@ -382,6 +382,41 @@ const ROWS: [Row; 67] = [
         "clients 1 / hostile truncate 0 / call 1 put a x / run 1 / call 1 get a",
         "1 halted 1 / line 5: client has halted",
         End::Bad,
+    ),
+    // What a Sync is told isn't swapped: three entries, in their order.
+    (
+        "clients 2 / hostile swap 0 / call 1 put a x / run 1 / call 1 put b y / run 1 / call 1 put c z / run 1 / sync 2 / run 2",
+        "1 done stored / 1 took / 1 took / 1 done stored / 1 took / 1 took / 1 done stored / 1 took / 1 took / 2 took / view 1 / 1.1 put a x = done stored / 1.2 put b y = done stored / 1.3 put c z = done stored / view 2 / agree 1 2 0 / tags made",
+        End::Whole,
+    ),
+    // The other entries of a Reply are told from the last to the first: what was third is first, and what was first is third.
+    (
+        "clients 4 / hostile swap 0 / call 1 put a x / call 2 put b y / call 3 put c z / call 4 get c / serve 1 / serve 2 / serve 3 / serve 4 / take 4",
+        "4 aborted 1 / view 1 / view 2 / view 3 / view 4 / 4.1 get c = aborted 1 / agree 1 2 0 / agree 1 3 0 / agree 1 4 0 / agree 2 3 0 / agree 2 4 0 / agree 3 4 0 / tags made",
+        End::Whole,
+    ),
+    (
+        "clients 4 / hostile swap 0 / call 1 put a x / call 2 put b y / call 3 put c z / call 4 get a / serve 1 / serve 2 / serve 3 / serve 4 / take 4",
+        "4 aborted 3 / view 1 / view 2 / view 3 / view 4 / 4.1 get a = aborted 3 / agree 1 2 0 / agree 1 3 0 / agree 1 4 0 / agree 2 3 0 / agree 2 4 0 / agree 3 4 0 / tags made",
+        End::Whole,
+    ),
+    // Clients with odd numbers share a side of a fork.
+    (
+        "clients 3 / hostile fork 0 / call 1 put a x / run 1 / call 3 get a / run 3",
+        "1 done stored / 1 took / 1 took / 3 done value x / 3 took / 3 took / view 1 / 1.1 put a x = done stored / view 2 / view 3 / 1.1 put a x = done stored / 3.1 get a = done value x / agree 1 2 0 / agree 1 3 1 / agree 2 3 0 / tags made",
+        End::Whole,
+    ),
+    // An answer that is given again serves nothing: the second put isn't ordered.
+    (
+        "clients 2 / hostile replay 3 / call 1 put a x / run 1 / call 1 put a y / run 1 / call 2 get a / run 2",
+        "1 done stored / 1 took / 1 took / 1 halted 1 / 2 done value x / 2 took / 2 took / view 1 / 1.1 put a x = done stored / view 2 / 1.1 put a x = done stored / 2.1 get a = done value x / agree 1 2 1 / tags made",
+        End::Whole,
+    ),
+    // An Update whose next call changes nothing has the bare part of the past dictionary.
+    (
+        "clients 2 / hostile stale 0 / call 1 put a x / call 2 get b / serve 1 / serve 2 / take 1 / take 2 / run 1 / run 2",
+        "1 done stored / 2 done none / 1 took / 1 took / 2 halted 7 / view 1 / 1.1 put a x = done stored / view 2 / 1.1 put a x = done stored / 2.1 get b = done none / agree 1 2 1 / tags made",
+        End::Whole,
     ),
 ];
 
