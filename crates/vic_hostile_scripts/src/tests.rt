@@ -8,7 +8,8 @@ use vic_group::play::{End, play};
 /// A script and what it prints, each with ` / ` between its lines, and how it ends.
 type Row = (&'static str, &'static str, End);
 
-const ROWS: [Row; 73] = [
+/// The same course for each kind, with 0, 1 and 5 requests.
+const KINDS: [Row; 21] = [
     // Client 1 puts, with the requests 1 to 3, and client 2 gets, with the requests 4 to 6. All is as with an honest server.
     (
         "clients 2 / hostile rollback 0 / call 1 put a x / run 1 / call 2 get a / run 2",
@@ -128,6 +129,10 @@ const ROWS: [Row; 73] = [
         "1 done stored / 1 took / 1 took / 2 done value x / 2 took / 2 halted 1 / view 1 / 1.1 put a x = done stored / view 2 / 1.1 put a x = done stored / 2.1 get a = done value x / agree 1 2 1 / tags made",
         End::Whole,
     ),
+];
+
+/// Other courses of a dictionary, and copies of servers.
+const COURSES: [Row; 26] = [
     // The seventh request goes to the state behind the third, which has one entry.
     (
         "clients 1 / hostile rollback 3 / call 1 put a x / run 1 / call 1 put a y / run 1 / call 1 get a / run 1",
@@ -243,6 +248,45 @@ const ROWS: [Row; 73] = [
         "1 done stored / 1 took / 1 took / 1 halted 1 / view 1 / 1.1 put a x = done stored / tags made",
         End::Whole,
     ),
+    // What a Sync is told isn't swapped: three entries, in their order.
+    (
+        "clients 2 / hostile swap 0 / call 1 put a x / run 1 / call 1 put b y / run 1 / call 1 put c z / run 1 / sync 2 / run 2",
+        "1 done stored / 1 took / 1 took / 1 done stored / 1 took / 1 took / 1 done stored / 1 took / 1 took / 2 took / view 1 / 1.1 put a x = done stored / 1.2 put b y = done stored / 1.3 put c z = done stored / view 2 / agree 1 2 0 / tags made",
+        End::Whole,
+    ),
+    // The other entries of a Reply are told from the last to the first: what was third is first, and what was first is third.
+    (
+        "clients 4 / hostile swap 0 / call 1 put a x / call 2 put b y / call 3 put c z / call 4 get c / serve 1 / serve 2 / serve 3 / serve 4 / take 4",
+        "4 aborted 1 / view 1 / view 2 / view 3 / view 4 / 4.1 get c = aborted 1 / agree 1 2 0 / agree 1 3 0 / agree 1 4 0 / agree 2 3 0 / agree 2 4 0 / agree 3 4 0 / tags made",
+        End::Whole,
+    ),
+    (
+        "clients 4 / hostile swap 0 / call 1 put a x / call 2 put b y / call 3 put c z / call 4 get a / serve 1 / serve 2 / serve 3 / serve 4 / take 4",
+        "4 aborted 3 / view 1 / view 2 / view 3 / view 4 / 4.1 get a = aborted 3 / agree 1 2 0 / agree 1 3 0 / agree 1 4 0 / agree 2 3 0 / agree 2 4 0 / agree 3 4 0 / tags made",
+        End::Whole,
+    ),
+    // Clients with odd numbers share a side of a fork.
+    (
+        "clients 3 / hostile fork 0 / call 1 put a x / run 1 / call 3 get a / run 3",
+        "1 done stored / 1 took / 1 took / 3 done value x / 3 took / 3 took / view 1 / 1.1 put a x = done stored / view 2 / view 3 / 1.1 put a x = done stored / 3.1 get a = done value x / agree 1 2 0 / agree 1 3 1 / agree 2 3 0 / tags made",
+        End::Whole,
+    ),
+    // An answer that is given again serves nothing: the second put isn't ordered.
+    (
+        "clients 2 / hostile replay 3 / call 1 put a x / run 1 / call 1 put a y / run 1 / call 2 get a / run 2",
+        "1 done stored / 1 took / 1 took / 1 halted 1 / 2 done value x / 2 took / 2 took / view 1 / 1.1 put a x = done stored / view 2 / 1.1 put a x = done stored / 2.1 get a = done value x / agree 1 2 1 / tags made",
+        End::Whole,
+    ),
+    // An Update whose next call changes nothing has the bare part of the past dictionary.
+    (
+        "clients 2 / hostile stale 0 / call 1 put a x / call 2 get b / serve 1 / serve 2 / take 1 / take 2 / run 1 / run 2",
+        "1 done stored / 2 done none / 1 took / 1 took / 2 halted 7 / view 1 / 1.1 put a x = done stored / view 2 / 1.1 put a x = done stored / 2.1 get b = done none / agree 1 2 1 / tags made",
+        End::Whole,
+    ),
+];
+
+/// Groups with objects.
+const OBJECTS: [Row; 8] = [
     // Groups with objects. A store is a Keep and three requests more, and a load three and a Fetch.
     (
         "objects 1 / hostile truncate 0 / call 1 store f abc / run 1",
@@ -289,6 +333,10 @@ const ROWS: [Row; 73] = [
         "1 took / 1 done stored / 1 object stored / 1 took / 1 took / 1 took / 1 done stored / 1 object stored / 1 took / 1 took / 1 halted 7 / view 1 / 1.1 put f %df85cc6b91940ee75600a9622c9e77c6fe347af5ec29780ad5a66253a16c4eac00000003 = done stored / 1.2 put f %883f609e9e44f439001de35a4c18a039bbf7e4cf7f0316735b5257e56147a6a400000003 = done stored / tags made",
         End::Whole,
     ),
+];
+
+/// Headers.
+const HEADERS: [Row; 18] = [
     // A header with its key, with lines that are skipped, and one behind which nothing comes.
     (
         "clients 2 / # the key /  / key 0b / # the server /  / hostile fork 0 / #  / call 1 put a x / run 1 / call 2 get a / run 2",
@@ -383,41 +431,6 @@ const ROWS: [Row; 73] = [
         "1 halted 1 / line 5: client has halted",
         End::Bad,
     ),
-    // What a Sync is told isn't swapped: three entries, in their order.
-    (
-        "clients 2 / hostile swap 0 / call 1 put a x / run 1 / call 1 put b y / run 1 / call 1 put c z / run 1 / sync 2 / run 2",
-        "1 done stored / 1 took / 1 took / 1 done stored / 1 took / 1 took / 1 done stored / 1 took / 1 took / 2 took / view 1 / 1.1 put a x = done stored / 1.2 put b y = done stored / 1.3 put c z = done stored / view 2 / agree 1 2 0 / tags made",
-        End::Whole,
-    ),
-    // The other entries of a Reply are told from the last to the first: what was third is first, and what was first is third.
-    (
-        "clients 4 / hostile swap 0 / call 1 put a x / call 2 put b y / call 3 put c z / call 4 get c / serve 1 / serve 2 / serve 3 / serve 4 / take 4",
-        "4 aborted 1 / view 1 / view 2 / view 3 / view 4 / 4.1 get c = aborted 1 / agree 1 2 0 / agree 1 3 0 / agree 1 4 0 / agree 2 3 0 / agree 2 4 0 / agree 3 4 0 / tags made",
-        End::Whole,
-    ),
-    (
-        "clients 4 / hostile swap 0 / call 1 put a x / call 2 put b y / call 3 put c z / call 4 get a / serve 1 / serve 2 / serve 3 / serve 4 / take 4",
-        "4 aborted 3 / view 1 / view 2 / view 3 / view 4 / 4.1 get a = aborted 3 / agree 1 2 0 / agree 1 3 0 / agree 1 4 0 / agree 2 3 0 / agree 2 4 0 / agree 3 4 0 / tags made",
-        End::Whole,
-    ),
-    // Clients with odd numbers share a side of a fork.
-    (
-        "clients 3 / hostile fork 0 / call 1 put a x / run 1 / call 3 get a / run 3",
-        "1 done stored / 1 took / 1 took / 3 done value x / 3 took / 3 took / view 1 / 1.1 put a x = done stored / view 2 / view 3 / 1.1 put a x = done stored / 3.1 get a = done value x / agree 1 2 0 / agree 1 3 1 / agree 2 3 0 / tags made",
-        End::Whole,
-    ),
-    // An answer that is given again serves nothing: the second put isn't ordered.
-    (
-        "clients 2 / hostile replay 3 / call 1 put a x / run 1 / call 1 put a y / run 1 / call 2 get a / run 2",
-        "1 done stored / 1 took / 1 took / 1 halted 1 / 2 done value x / 2 took / 2 took / view 1 / 1.1 put a x = done stored / view 2 / 1.1 put a x = done stored / 2.1 get a = done value x / agree 1 2 1 / tags made",
-        End::Whole,
-    ),
-    // An Update whose next call changes nothing has the bare part of the past dictionary.
-    (
-        "clients 2 / hostile stale 0 / call 1 put a x / call 2 get b / serve 1 / serve 2 / take 1 / take 2 / run 1 / run 2",
-        "1 done stored / 2 done none / 1 took / 1 took / 2 halted 7 / view 1 / 1.1 put a x = done stored / view 2 / 1.1 put a x = done stored / 2.1 get b = done none / agree 1 2 1 / tags made",
-        End::Whole,
-    ),
 ];
 
 /// The lines that a text with ` / ` between them stands for.
@@ -438,8 +451,32 @@ fn prints(alloc: Global, row: &Row) -> Result<bool, NoMemory> {
 }
 
 #[test]
-fn rows(rt: HostRuntime) -> Result<(), Fail> {
-    for row in ROWS.iter() {
+fn kinds(rt: HostRuntime) -> Result<(), Fail> {
+    for row in KINDS.iter() {
+        assert!(rt; prints(rt.alloc(), row)?, "{}", row.0);
+    }
+    Ok(())
+}
+
+#[test]
+fn courses(rt: HostRuntime) -> Result<(), Fail> {
+    for row in COURSES.iter() {
+        assert!(rt; prints(rt.alloc(), row)?, "{}", row.0);
+    }
+    Ok(())
+}
+
+#[test]
+fn objects(rt: HostRuntime) -> Result<(), Fail> {
+    for row in OBJECTS.iter() {
+        assert!(rt; prints(rt.alloc(), row)?, "{}", row.0);
+    }
+    Ok(())
+}
+
+#[test]
+fn headers(rt: HostRuntime) -> Result<(), Fail> {
+    for row in HEADERS.iter() {
         assert!(rt; prints(rt.alloc(), row)?, "{}", row.0);
     }
     Ok(())
