@@ -121,6 +121,16 @@ fn held_in<R: Threads + Wait + Sync>(
     Ok((status, sink.inner.held().copy(alloc)?))
 }
 
+/// Whether it ended as writing a text does whose output finds memory for so many bytes: with status 6 behind them, where there are
+/// more.
+fn is_held(ends: &Ends, status: Status, text: &[u8], room: usize) -> bool {
+    if room < text.len() {
+        is(ends, Status::NoMemory, &text[..room])
+    } else {
+        is(ends, status, text)
+    }
+}
+
 // A write that fails, which is the first, the second, the last, or one behind that.
 #[test]
 fn writes_fail(rt: HostRuntime) -> Result<(), Fail> {
@@ -144,12 +154,7 @@ fn no_memory_is_found(rt: HostRuntime) -> Result<(), Fail> {
         let (_, words, status, text) = *row;
         for room in [0, 1, text.len() - 1, text.len()] {
             let ends = held_in(&rt, rt.alloc(), row, room)?;
-            let right = if room < text.len() {
-                is(&ends, Status::NoMemory, &text[..room])
-            } else {
-                is(&ends, status, text)
-            };
-            assert!(rt; right, "{words}, {room} bytes");
+            assert!(rt; is_held(&ends, status, text, room), "{words}, {room} bytes");
         }
     }
     Ok(())
