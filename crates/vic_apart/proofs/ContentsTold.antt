@@ -8,7 +8,7 @@ use Rattle.vic_spellings.proofs.SpelledRequests.{request_again}
 use Rattle.vic_rules.specs.declared.trace.TraceStep.{TraceStep}
 use Rattle.vic_rules.specs.Client.{Standing, Sending, Invokes, Commits, Polls, Seals, Syncs, Keeps, Fetches, Move, request_of, payload_of}
 use Rattle.vic_rules.specs.History.{move_of, AreSteps}
-use Rattle.vic_rules.specs.Trust.{content_sent, content_in, contents_known, took}
+use Rattle.vic_rules.specs.Trust.{content_sent, content_in, contents_known, answer_taken}
 use Rattle.vic_laws.specs.Meanings.{texts_of_contents}
 use Rattle.vic_made.proofs.Spelled.{IsSpelled, step_spelled}
 use Rattle.vic_view.specs.Replay.{read_by}
@@ -49,7 +49,7 @@ told_is g (x ∷ past) steps =
     append_assoc (kept_in (request_in x.sent)) (content_in (read_by x.input x.returned)) (contents_told past)
     ∙ ap (λ (cs : List (List ℕ)). cs ++ (content_in (read_by x.input x.returned) ++ contents_told past)) (sym (sent_told g past x steps))
     ∙ ap (λ (o : Option ToClient). content_sent (move_of g past x).sends ++ (content_in o ++ contents_told past)) (sym (took_told g past x steps.1))
-    ∙ ap (λ (cs : List (List ℕ)). content_sent (move_of g past x).sends ++ (content_in (took g past x) ++ cs)) (told_is g past steps.0)
+    ∙ ap (λ (cs : List (List ℕ)). content_sent (move_of g past x).sends ++ (content_in (answer_taken g past x) ++ cs)) (told_is g past steps.0)
 
 told_behind : (later : List TraceStep) (x : TraceStep) → contents_told (later ++ x ∷ []) ≡ contents_told later ++ contents_at x
 unfolding contents_told

@@ -15,15 +15,15 @@ use Rattle.vic_wire.specs.Trees.{Empty, tree_of, node_texts}
 use Rattle.vic_rules.specs.declared.trace.TraceStep.{TraceStep}
 use Rattle.vic_rules.specs.declared.trace.Shown.{Shown}
 use Rattle.vic_rules.specs.History.{standing, path, IsLawful, completions}
-use Rattle.vic_rules.specs.Trust.{applied}
+use Rattle.vic_rules.specs.Trust.{node_texts_left}
 use Rattle.vic_rules.specs.Views.{confirmed_calls, left_by}
-use Rattle.vic_laws.specs.Meanings.{gathered, zero_to}
+use Rattle.vic_laws.specs.Meanings.{texts_of_each, zero_to}
 use Rattle.vic_laws.proofs.Growth.{front_grows, front_whole, stands_within}
 use Rattle.vic_tree.proofs.Stands.{entries_of}
 use Rattle.vic_trie.specs.Weights.{pair_weight, weight_of}
 use Rattle.vic_trie.proofs.Kept.{empty_is}
 use Rattle.vic_view.specs.Plain.{prefix_of}
-use Rattle.vic_view.specs.Replay.{common, outcome_of, outcome_there, shown_by, shown_place, shown_below, replayed}
+use Rattle.vic_view.specs.Replay.{common_length, outcome_of, outcome_there, shown_by, shown_place, shown_below, replayed_path}
 use Rattle.vic_view.specs.Making.{IsPlaceEntry}
 use Rattle.vic_view.proofs.Forging.{replayed_spelled}
 use Rattle.vic_made.proofs.Spelled.{path_few}
@@ -38,16 +38,16 @@ use Rattle.vic_apart.proofs.Gathered.{gathered_same, position_next}
 
 -- ---- which calls were done
 
-none_with_nothing : (mine : List Place) → common mine [] ≡ 0
+none_with_nothing : (mine : List Place) → common_length mine [] ≡ 0
 none_with_nothing [] = refl
 none_with_nothing (p ∷ mine) = refl
 
-length_at : (mine : List Place) (all : List Stand) (k : ℕ) → get_or (lengths_with mine all) k 0 ≡ common mine (get_or all k no_stand).path
+length_at : (mine : List Place) (all : List Stand) (k : ℕ) → get_or (lengths_with mine all) k 0 ≡ common_length mine (get_or all k no_stand).path
 length_at mine [] k = sym (none_with_nothing mine)
 length_at mine (s ∷ all) zero = refl
 length_at mine (s ∷ all) (suc k) = length_at mine all k
 
-length_is : (mine : List Place) (all : List Stand) (owner : ℕ) (b : Bool) → (if b then 0 else get_or (lengths_with mine all) (owner - 1) 0) ≡ common mine (if b then [] else (get_or all (owner - 1) no_stand).path)
+length_is : (mine : List Place) (all : List Stand) (owner : ℕ) (b : Bool) → (if b then 0 else get_or (lengths_with mine all) (owner - 1) 0) ≡ common_length mine (if b then [] else (get_or all (owner - 1) no_stand).path)
 length_is mine all owner true = sym (none_with_nothing mine)
 length_is mine all owner false = length_at mine all (owner - 1)
 
@@ -60,7 +60,7 @@ done_if false s = refl
 done_among : (mine : List Place) (all : List Stand) (owner n : ℕ) → is_done_among (lengths_with mine all) all owner n ≡ is_done_with (outcome_there mine (paths_in all owner) n)
 done_among mine all owner n =
     ap (λ (k : ℕ). if nat_lt n k then is_done_at (slice_get (paths_in all owner) n) else false) (length_is mine all owner (nat_eq owner 0))
-    ∙ done_if (nat_lt n (common mine (paths_in all owner))) (slice_get (paths_in all owner) n)
+    ∙ done_if (nat_lt n (common_length mine (paths_in all owner))) (slice_get (paths_in all owner) n)
 
 -- ---- what is left
 
@@ -89,7 +89,7 @@ get_there (q ∷ ps) (suc i) p lt is = get_there ps i p (omega arith) is
 pub record Leaves (all : List Stand) (mine : List Place) (first ts : List (List ℕ)) (d : Dictionary) (n : ℕ) : Type 0 where
   pub dict : d ≡ left_by (shown_below (paths_in all) mine n)
   pub light : weight_of d ≤ 335 * n
-  pub texts : ts ≡ first ++ gathered (left_texts (paths_in all) mine) (zero_to n)
+  pub texts : ts ≡ first ++ texts_of_each (left_texts (paths_in all) mine) (zero_to n)
 
 no_weight : weight_of nothing ≤ 0
 no_weight =
@@ -139,14 +139,14 @@ is_within : (n u : ℕ) → (u < n) ⊎ (n ≤ u)
 is_within n u = grind arith
 
 -- the paths of all clients, a number that is no client's having none
-paths_are : (g : Group) (h : List TraceStep) → IsLawful g h → (all : List Stand) → AreStands g.count g h all → (j : ℕ) → paths_in all j ≡ (replayed j h).places
+paths_are : (g : Group) (h : List TraceStep) → IsLawful g h → (all : List Stand) → AreStands g.count g h all → (j : ℕ) → paths_in all j ≡ (replayed_path j h).places
 paths_are g h lawful all r j =
     elim (cases_eq j 0) [
       | inl e ↦ ap (λ (b : Bool). if b then [] else (get_or all (j - 1) no_stand).path) (eq-eqb j 0 e)
           ∙ sym (ap (λ p. p.places) (stranger g h lawful.steps j (λ i pos le same. omega (arith, e, same, pos))))
       | inr differ ↦ ap (λ (b : Bool). if b then [] else (get_or all (j - 1) no_stand).path) (ne_eqb j 0 differ) ∙
           elim (is_within g.count (j - 1)) [
-            | inl lt ↦ let same : j - 1 + 1 ≡ j = omega arith in (r.each (j - 1) lt).path ∙ ap (λ (k : ℕ). (replayed k h).places) same
+            | inl lt ↦ let same : j - 1 + 1 ≡ j = omega arith in (r.each (j - 1) lt).path ∙ ap (λ (k : ℕ). (replayed_path k h).places) same
             | inr ge ↦ let size : length all ≡ g.count = r.size in
                 ap (λ (s : Stand). s.path) (get_or_past all (j - 1) no_stand (omega arith))
                 ∙ sym (ap (λ p. p.places) (stranger g h lawful.steps j (λ i pos le same. omega (arith, same, pos, le))))
@@ -173,13 +173,13 @@ sealed_within g h lawful me s st =
 
 -- the texts that are put for a client are those of its sealed dictionaries
 pub left_is : (g : Group) (h : List TraceStep) → IsLawful g h → (all every : List Stand) → every ≡ all → AreStands g.count g h all → (me : ℕ) (s : Stand) → StandsAs g me h s
-    → gathered (left_texts (paths_in every) s.path) (zero_to s.sealed) ≡ gathered (λ n. applied g h (front n (path g me h))) (zero_to (standing g me h).sealed)
+    → texts_of_each (left_texts (paths_in every) s.path) (zero_to s.sealed) ≡ texts_of_each (λ n. node_texts_left g h (front n (path g me h))) (zero_to (standing g me h).sealed)
 left_is g h lawful all every same r me s st =
-    ap (λ (x : List Stand). gathered (left_texts (paths_in x) s.path) (zero_to s.sealed)) same
-    ∙ gathered_same (left_texts (paths_in all) s.path) (λ n. applied g h (front n (path g me h))) s.sealed at_each
-    ∙ ap (λ (n : ℕ). gathered (λ k. applied g h (front k (path g me h))) (zero_to n)) st.sealed
+    ap (λ (x : List Stand). texts_of_each (left_texts (paths_in x) s.path) (zero_to s.sealed)) same
+    ∙ gathered_same (left_texts (paths_in all) s.path) (λ n. node_texts_left g h (front n (path g me h))) s.sealed at_each
+    ∙ ap (λ (n : ℕ). texts_of_each (λ k. node_texts_left g h (front k (path g me h))) (zero_to n)) st.sealed
   where
-    at_each : (n : ℕ) → n ≤ s.sealed → left_texts (paths_in all) s.path n ≡ applied g h (front n (path g me h))
+    at_each : (n : ℕ) → n ≤ s.sealed → left_texts (paths_in all) s.path n ≡ node_texts_left g h (front n (path g me h))
     at_each n le =
         let within : s.sealed ≤ length s.path = sealed_within g h lawful me s st in
         let es : List Entry = map (λ (p : Place). p.entry) s.path in

@@ -11,12 +11,12 @@ use Rattle.vic_rules.specs.declared.trace.Input.{Input}
 use Rattle.vic_rules.specs.declared.trace.TraceStep.{TraceStep}
 use Rattle.vic_rules.specs.Client.{Standing, Move, entries_of, seal_of}
 use Rattle.vic_rules.specs.History.{standing, move_of, IsStep, AreSteps}
-use Rattle.vic_rules.specs.Trust.{took, taken_by, parts_in}
+use Rattle.vic_rules.specs.Trust.{answer_taken, answer_unless_halted, parts_in}
 use Rattle.vic_laws.specs.Meanings.{parts_of}
 use Rattle.vic_laws.proofs.Steps.{Kind, is_quiet, is_called, is_replied, is_updated, is_listed}
 use Rattle.vic_laws.proofs.StepKinds.{step_kind}
 use Rattle.vic_laws.proofs.Standings.{standing_moved, standing_kept, earlier_steps}
-use Rattle.vic_view.specs.Replay.{read_by, replayed}
+use Rattle.vic_view.specs.Replay.{read_by, replayed_path}
 use Rattle.vic_view.proofs.Loops.{newest_step}
 use Rattle.vic_view.proofs.Replays.{taken_told}
 use Rattle.vic_view.proofs.Forging.{steps_then}
@@ -62,27 +62,27 @@ sealed_quiet None n h = refl
 sealed_quiet (Some m) n h = sym (no_seal m n (h m refl).0)
 
 -- the answer that was taken tells the highest seal
-sealed_taken : (g : Group) (me : ℕ) (s : Standing) (i : Input) (v : Move) → Kind g me s i v → v.next.sealed ≡ sealed_by (taken_by v.next i) s.sealed
-sealed_taken g me s i v (is_quiet q) = q.sealed ∙ sealed_quiet (taken_by v.next i) s.sealed q.seals_nothing
+sealed_taken : (g : Group) (me : ℕ) (s : Standing) (i : Input) (v : Move) → Kind g me s i v → v.next.sealed ≡ sealed_by (answer_unless_halted v.next i) s.sealed
+sealed_taken g me s i v (is_quiet q) = q.sealed ∙ sealed_quiet (answer_unless_halted v.next i) s.sealed q.seals_nothing
 sealed_taken g me s i v (is_called c) =
     ap (λ (m : Move). m.next.sealed) c.moved
-    ∙ sealed_quiet (taken_by v.next i) s.sealed (λ m e. (ap seal_of (c.takes m e), ap entries_of (c.takes m e)))
+    ∙ sealed_quiet (answer_unless_halted v.next i) s.sealed (λ m e. (ap seal_of (c.takes m e), ap entries_of (c.takes m e)))
 sealed_taken g me s i v (is_replied r) = ap (λ (m : Move). m.next.sealed) r.moved ∙ ap (λ (o : Option ToClient). sealed_by o s.sealed) (sym r.takes)
 sealed_taken g me s i v (is_updated u) = ap (λ (m : Move). m.next.sealed) u.moved ∙ ap (λ (o : Option ToClient). sealed_by o s.sealed) (sym u.takes)
 sealed_taken g me s i v (is_listed l) = ap (λ (m : Move). m.next.sealed) l.moved ∙ ap (λ (o : Option ToClient). sealed_by o s.sealed) (sym l.takes)
 
 -- what a lawful step took is what its input and outcome tell
-pub took_told : (g : Group) (past : List TraceStep) (x : TraceStep) → IsStep g past x → took g past x ≡ read_by x.input x.returned
-unfolding took
+pub took_told : (g : Group) (past : List TraceStep) (x : TraceStep) → IsStep g past x → answer_taken g past x ≡ read_by x.input x.returned
+unfolding answer_taken
 took_told g past x is = taken_told g x.client (standing g x.client past) x.input ∙ ap (λ (o : Option Outcome). read_by x.input o) (sym is.returned)
 
-parts_own : (g : Group) (me : ℕ) (x : TraceStep) (past : List TraceStep) → x.client ≡ me → parts_of g me (x ∷ past) ≡ parts_of g me past ++ parts_in (took g past x)
+parts_own : (g : Group) (me : ℕ) (x : TraceStep) (past : List TraceStep) → x.client ≡ me → parts_of g me (x ∷ past) ≡ parts_of g me past ++ parts_in (answer_taken g past x)
 unfolding parts_of
-parts_own g me x past e = ap (λ (b : Bool). parts_of g me past ++ (if b then parts_in (took g past x) else [])) (eq-eqb x.client me e)
+parts_own g me x past e = ap (λ (b : Bool). parts_of g me past ++ (if b then parts_in (answer_taken g past x) else [])) (eq-eqb x.client me e)
 
 parts_other : (g : Group) (me : ℕ) (x : TraceStep) (past : List TraceStep) → (x.client ≡ me → ⊥) → parts_of g me (x ∷ past) ≡ parts_of g me past
 unfolding parts_of
-parts_other g me x past e = ap (λ (b : Bool). parts_of g me past ++ (if b then parts_in (took g past x) else [])) (ne_eqb x.client me e) ∙ append-nil (parts_of g me past)
+parts_other g me x past e = ap (λ (b : Bool). parts_of g me past ++ (if b then parts_in (answer_taken g past x) else [])) (ne_eqb x.client me e) ∙ append-nil (parts_of g me past)
 
 -- ---- a step more
 
@@ -99,7 +99,7 @@ taken_joined g past x is me mine s before =
           ∙ sym (parts_own g me x past mine ∙ ap (λ (a : Option ToClient). parts_of g me past ++ parts_in a) (took_told g past x is));
     }
   where
-    taken_is : IsStep g past x → taken_by (move_of g past x).next x.input ≡ read_by x.input x.returned
+    taken_is : IsStep g past x → answer_unless_halted (move_of g past x).next x.input ≡ read_by x.input x.returned
     taken_is j = taken_told g x.client (standing g x.client past) x.input ∙ ap (λ (a : Option Outcome). read_by x.input a) (sym j.returned)
 
 taken_kept : (g : Group) (past : List TraceStep) (x : TraceStep) (me : ℕ) → (x.client ≡ me → ⊥) → (s : Stand) → HasTaken g me past s → HasTaken g me (x ∷ past) s
@@ -112,9 +112,9 @@ taken_kept g past x me other s before = record {
 
 -- the path is there from the start, and so much was taken
 abbrev pub StandsSoFar : Group → ℕ → List TraceStep → List TraceStep → Stand → Type 0
-StandsSoFar g me h past s = (s.path ≡ (replayed me h).places) × HasTaken g me past s
+StandsSoFar g me h past s = (s.path ≡ (replayed_path me h).places) × HasTaken g me past s
 
-pub stands_start : (g : Group) (me : ℕ) (h : List TraceStep) (s : Stand) → s.path ≡ (replayed me h).places → s.sealed ≡ 0 → s.parts ≡ [] → StandsSoFar g me h [] s
+pub stands_start : (g : Group) (me : ℕ) (h : List TraceStep) (s : Stand) → s.path ≡ (replayed_path me h).places → s.sealed ≡ 0 → s.parts ≡ [] → StandsSoFar g me h [] s
 unfolding standing parts_of
 stands_start g me h s path sealed parts = (path, record { sealed = sealed; parts = parts })
 

@@ -5,7 +5,7 @@ use Rattle.vic_wire.specs.declared.message.ToServer.TheVariants as ask
 use Rattle.vic_wire.specs.Texts.{content_text}
 use Rattle.vic_rules.specs.declared.trace.TraceStep.{TraceStep}
 use Rattle.vic_rules.specs.Trust.{content_in}
-use Rattle.vic_laws.specs.Meanings.{gathered}
+use Rattle.vic_laws.specs.Meanings.{texts_of_each}
 use Rattle.vic_view.specs.Replay.{read_by}
 use Rattle.vic_view.specs.Making.{request_in}
 
@@ -33,4 +33,4 @@ contents_told (x ∷ past) = contents_at x ++ contents_told past
 
 -- the texts of contents
 abbrev pub content_texts : List (List ℕ) → List (List ℕ)
-content_texts contents = gathered (λ content. content_text content ∷ []) contents
+content_texts contents = texts_of_each (λ content. content_text content ∷ []) contents

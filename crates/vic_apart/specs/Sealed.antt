@@ -2,7 +2,7 @@
 use Rattle.std.specs.Prelude.{ℕ, ◌-◌, Bool, false, List, [], map, nat_eq, nat_lt, if◌then◌else◌, slice_index_or, slice_get}
 use Rattle.vic_wire.specs.Trees.{tree_of, node_texts}
 use Rattle.vic_rules.specs.Views.{left_by}
-use Rattle.vic_view.specs.Replay.{common, length_among, shown_below}
+use Rattle.vic_view.specs.Replay.{common_length, length_among, shown_below}
 use Rattle.vic_apart.specs.declared.stand.Stand.{Stand}
 use Rattle.vic_view.specs.declared.replay.Place.{Place}
 use Rattle.vic_apart.specs.Places.{is_done_at}
@@ -14,7 +14,7 @@ paths_in all owner = if nat_eq owner 0 then [] else (slice_index_or all (owner -
 
 -- the lengths that a path has in common with those of all clients
 abbrev pub lengths_with : List Place → List Stand → List ℕ
-lengths_with mine all = map (λ (s : Stand). common mine s.path) all
+lengths_with mine all = map (λ (s : Stand). common_length mine s.path) all
 
 -- the owner of the place's entry completed the call there as done, where so much of its path is the same
 abbrev pub is_done_among : List ℕ → List Stand → ℕ → ℕ → Bool

@@ -6,7 +6,7 @@ use Rattle.vic_wire.specs.Hashes.{Group}
 use Rattle.vic_rules.specs.declared.trace.TraceStep.{TraceStep}
 use Rattle.vic_rules.specs.History.{standing}
 use Rattle.vic_laws.specs.Meanings.{parts_of}
-use Rattle.vic_view.specs.Replay.{replayed}
+use Rattle.vic_view.specs.Replay.{replayed_path}
 use Rattle.vic_apart.specs.declared.stand.Stand.{Stand}
 
 abbrev pub no_stand : Stand
@@ -33,7 +33,7 @@ pub record HasTaken (g : Group) (me : ℕ) (h : List TraceStep) (s : Stand) : Ty
 
 -- the client stands so after the history
 pub record StandsAs (g : Group) (me : ℕ) (h : List TraceStep) (s : Stand) : Type 0 where
-  pub path : s.path ≡ (replayed me h).places
+  pub path : s.path ≡ (replayed_path me h).places
   pub sealed : s.sealed ≡ (standing g me h).sealed
   pub parts : s.parts ≡ parts_of g me h
 

@@ -5,7 +5,7 @@ ghost use Rattle.std.specs.List.{AllByRecursion};
 ghost use Rattle.vic_dict.specs.Dictionary.{Fits};
 ghost use Rattle.vic_wire.specs.Texts.{genesis_text, chain_text, mode_byte};
 ghost use Rattle.vic_laws.specs.Meanings.{chain_texts_up};
-ghost use Rattle.vic_view.specs.Transcripts.{group_of};
+ghost use Rattle.vic_view.specs.Transcripts.{transcript_group};
 ghost use Rattle.vic_view.specs.Making.{IsPlaceEntry};
 ghost use Rattle.vic_view.specs.Plain.{prefix_of};
 
@@ -57,7 +57,7 @@ pub(crate) fn put_chain_texts(
     texts: &mut Names,
 ) -> Result<(), NoMemory>
     requires { AllByRecursion IsPlaceEntry path.now }
-    ensures { OnOk result (texts.new ≡ texts.old ++ chain_texts_up (group_of t.now) (prefix_of path.now)) }
+    ensures { OnOk result (texts.new ≡ texts.old ++ chain_texts_up (transcript_group t.now) (prefix_of path.now)) }
 {
     let mut last = hash_of(genesis_text_of(alloc, t.mode, t.count)?.as_slice());
     for place in path {

@@ -5,7 +5,7 @@ ghost use Rattle.vic_wire.specs.Texts.{content_text};
 ghost use Rattle.vic_rules.specs.History.{IsLawful};
 ghost use Rattle.vic_rules.specs.Trust.{content_in};
 ghost use Rattle.vic_laws.specs.Meanings.{texts_of_contents};
-ghost use Rattle.vic_view.specs.Transcripts.{group_of, history_of};
+ghost use Rattle.vic_view.specs.Transcripts.{transcript_group, transcript_history};
 ghost use Rattle.vic_view.specs.Replay.{read_by};
 ghost use Rattle.vic_view.specs.Making.{request_in};
 ghost use Rattle.vic_apart.specs.Contents.{kept_in, contents_at, content_texts};
@@ -65,8 +65,8 @@ pub(crate) fn put_contents_at(
 
 /// Puts the texts of all contents last that were sent to be kept or taken, from the last step to the first. It costs the transcript.
 pub(crate) fn put_contents(alloc: Global, t: &Transcript, texts: &mut Names) -> Result<(), NoMemory>
-    requires { IsLawful (group_of t.now) (history_of t.now) }
-    ensures { OnOk result (texts.new ≡ texts.old ++ texts_of_contents (group_of t.now) (history_of t.now)) }
+    requires { IsLawful (transcript_group t.now) (transcript_history t.now) }
+    ensures { OnOk result (texts.new ≡ texts.old ++ texts_of_contents (transcript_group t.now) (transcript_history t.now)) }
 {
     let steps = t.as_slice();
     let mut left = steps.len();

@@ -1,7 +1,7 @@
 //! Whether two different texts of a run have one SHA-256 value.
 //!
 //! What is claimed of a group's views stands unless a tag was forged or two different listed texts have one hash. The texts are
-//! `listed`, and the test `are_apart`, of `vic_laws` (`specs/Meanings.antt`). `listed_texts` works out the one and `are_texts_apart` does
+//! `listed_texts`, and the test `are_apart`, of `vic_laws` (`specs/Meanings.antt`). `listed_texts` works out the one and `are_texts_apart` does
 //! the other; `are_apart` does both for a transcript, and its contract says that it finds exactly the collisions that the claim excepts.
 #![tactic(auto)]
 

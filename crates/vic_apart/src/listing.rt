@@ -3,9 +3,9 @@
 ghost use Rattle.std.specs.Prelude.{◌≡◌, ◌↔◌, ◌++◌, true, false, IfOk, OnOk};
 ghost use Rattle.vic_rules.specs.History.{IsLawful};
 ghost use Rattle.vic_rules.specs.Trust.{Collides};
-ghost use Rattle.vic_laws.specs.Meanings.{are_apart as are_apart_in, gathered, nodes_of, listed, texts_of_paths, texts_of_parts, texts_of_sealed};
+ghost use Rattle.vic_laws.specs.Meanings.{are_apart as are_apart_in, texts_of_each, nodes_of, listed_texts, texts_of_paths, texts_of_parts, texts_of_sealed};
 ghost use Rattle.vic_wire.specs.Parts.{read_part};
-ghost use Rattle.vic_view.specs.Transcripts.{group_of, history_of};
+ghost use Rattle.vic_view.specs.Transcripts.{transcript_group, transcript_history};
 ghost use Rattle.vic_apart.specs.Stands.{AreStands};
 
 use crate::by_hash::are_texts_apart;
@@ -25,9 +25,9 @@ fn put_paths(
     all: &[Stand],
     texts: &mut Names,
 ) -> Result<(), NoMemory>
-    requires lawful { IsLawful (group_of t.now) (history_of t.now) }
-    requires stands { AreStands t.now.count (group_of t.now) (history_of t.now) all.now }
-    ensures { OnOk result (texts.new ≡ texts.old ++ texts_of_paths (group_of t.now) (history_of t.now)) }
+    requires lawful { IsLawful (transcript_group t.now) (transcript_history t.now) }
+    requires stands { AreStands t.now.count (transcript_group t.now) (transcript_history t.now) all.now }
+    ensures { OnOk result (texts.new ≡ texts.old ++ texts_of_paths (transcript_group t.now) (transcript_history t.now)) }
 {
     for stand in all {
         put_chain_texts(alloc, t, stand.path.as_slice(), texts)?;
@@ -37,7 +37,7 @@ fn put_paths(
 
 /// Puts the texts of these parts last.
 fn put_parts_of(alloc: Global, parts: &[Bytes], texts: &mut Names) -> Result<(), NoMemory>
-    ensures { OnOk result (texts.new ≡ texts.old ++ gathered (λ bytes. nodes_of (read_part bytes)) parts.now) }
+    ensures { OnOk result (texts.new ≡ texts.old ++ texts_of_each (λ bytes. nodes_of (read_part bytes)) parts.now) }
 {
     for part in parts {
         put_part_texts(alloc, part.as_slice(), texts)?;
@@ -52,8 +52,8 @@ fn put_parts(
     all: &[Stand],
     texts: &mut Names,
 ) -> Result<(), NoMemory>
-    requires stands { AreStands t.now.count (group_of t.now) (history_of t.now) all.now }
-    ensures { OnOk result (texts.new ≡ texts.old ++ texts_of_parts (group_of t.now) (history_of t.now)) }
+    requires stands { AreStands t.now.count (transcript_group t.now) (transcript_history t.now) all.now }
+    ensures { OnOk result (texts.new ≡ texts.old ++ texts_of_parts (transcript_group t.now) (transcript_history t.now)) }
 {
     for stand in all {
         put_parts_of(alloc, stand.parts.as_slice(), texts)?;
@@ -68,9 +68,9 @@ fn put_sealed(
     all: &[Stand],
     texts: &mut Names,
 ) -> Result<(), NoMemory>
-    requires lawful { IsLawful (group_of t.now) (history_of t.now) }
-    requires stands { AreStands t.now.count (group_of t.now) (history_of t.now) all.now }
-    ensures { OnOk result (texts.new ≡ texts.old ++ texts_of_sealed (group_of t.now) (history_of t.now)) }
+    requires lawful { IsLawful (transcript_group t.now) (transcript_history t.now) }
+    requires stands { AreStands t.now.count (transcript_group t.now) (transcript_history t.now) all.now }
+    ensures { OnOk result (texts.new ≡ texts.old ++ texts_of_sealed (transcript_group t.now) (transcript_history t.now)) }
 {
     for stand in all {
         put_left_texts(alloc, stand, all, texts)?;
@@ -82,8 +82,8 @@ fn put_sealed(
 /// dictionary up to a client's highest seal, and of each content that was sent to be kept or taken. It costs the transcript, for each
 /// client a look at each step and a comparison with each path, and all the texts. Each sealed dictionary is there whole, so it is meant for small ones.
 pub fn listed_texts(alloc: Global, t: &Transcript) -> Result<Names, NoMemory>
-    requires { IsLawful (group_of t.now) (history_of t.now) }
-    ensures { IfOk result (λ texts. texts ≡ listed (group_of t.now) (history_of t.now)) }
+    requires { IsLawful (transcript_group t.now) (transcript_history t.now) }
+    ensures { IfOk result (λ texts. texts ≡ listed_texts (transcript_group t.now) (transcript_history t.now)) }
 {
     let all = all_stands(alloc, t)?;
     let mut texts = Names::new(alloc);
@@ -101,10 +101,10 @@ pub fn listed_texts(alloc: Global, t: &Transcript) -> Result<Names, NoMemory>
 /// True says that the claim on the group's views stands for this transcript unless a tag was forged, which `forged` of `vic_view`
 /// tells.
 pub fn are_apart(alloc: Global, t: &Transcript) -> Result<bool, NoMemory>
-    requires { IsLawful (group_of t.now) (history_of t.now) }
-    ensures is { IfOk result (λ b. b ≡ are_apart_in (listed (group_of t.now) (history_of t.now))) }
-    ensures apart { IfOk result (λ b. b ≡ true → Collides (group_of t.now) (history_of t.now) → ⊥) }
-    ensures means { IfOk result (λ b. (b ≡ false) ↔ Collides (group_of t.now) (history_of t.now)) }
+    requires { IsLawful (transcript_group t.now) (transcript_history t.now) }
+    ensures is { IfOk result (λ b. b ≡ are_apart_in (listed_texts (transcript_group t.now) (transcript_history t.now))) }
+    ensures apart { IfOk result (λ b. b ≡ true → Collides (transcript_group t.now) (transcript_history t.now) → ⊥) }
+    ensures means { IfOk result (λ b. (b ≡ false) ↔ Collides (transcript_group t.now) (transcript_history t.now)) }
 {
     let texts = listed_texts(alloc, t)?;
     are_texts_apart(alloc, texts.as_slice())

@@ -3,7 +3,7 @@
 ghost use Rattle.std.specs.Prelude.{◌≡◌, ◌≤◌, ◌+◌, ◌++◌, length, IfOk, OnOk, slice_get, if◌then◌else◌};
 ghost use Rattle.std.specs.List.{AllByRecursion};
 ghost use Rattle.vic_dict.specs.Dictionary.{Fits, after};
-ghost use Rattle.vic_laws.specs.Meanings.{gathered, zero_to};
+ghost use Rattle.vic_laws.specs.Meanings.{texts_of_each, zero_to};
 ghost use Rattle.vic_trie.specs.Weights.{weight_of};
 ghost use Rattle.vic_view.specs.Making.{IsPlaceEntry};
 ghost use Rattle.vic_apart.specs.Places.{is_done_with, is_done_at};
@@ -82,7 +82,7 @@ pub(crate) fn put_left_texts(
     requires entries { AllByRecursion IsPlaceEntry mine.now.path }
     requires few { length mine.now.path ≤ 1048576 }
     requires within { mine.now.sealed ≤ length mine.now.path }
-    ensures { OnOk result (texts.new ≡ texts.old ++ gathered (left_texts (paths_in all.now) mine.now.path) (zero_to mine.now.sealed)) }
+    ensures { OnOk result (texts.new ≡ texts.old ++ texts_of_each (left_texts (paths_in all.now) mine.now.path) (zero_to mine.now.sealed)) }
 {
     let path = mine.path.as_slice();
     let lengths = common_lengths(alloc, path, all)?;

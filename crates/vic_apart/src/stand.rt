@@ -3,7 +3,7 @@
 
 ghost use Rattle.std.specs.Prelude.{◌≡◌, ◌++◌, [], ◌∷◌, IfOk, OnOk, OnErr};
 ghost use Rattle.vic_rules.specs.History.{IsLawful};
-ghost use Rattle.vic_view.specs.Transcripts.{group_of, history_of};
+ghost use Rattle.vic_view.specs.Transcripts.{transcript_group, transcript_history};
 ghost use Rattle.vic_apart.specs.Stands.{stand_with, StandsAs, AreStands};
 
 use std::alloc::Global;
@@ -84,8 +84,8 @@ impl Stand {
 
 /// Where a client stands at the end of a transcript. It costs the client's steps, and a look at each of the others.
 fn stand_of(alloc: Global, t: &Transcript, client: u8) -> Result<Stand, NoMemory>
-    requires { IsLawful (group_of t.now) (history_of t.now) }
-    ensures { IfOk result (StandsAs (group_of t.now) client (history_of t.now)) }
+    requires { IsLawful (transcript_group t.now) (transcript_history t.now) }
+    ensures { IfOk result (StandsAs (transcript_group t.now) client (transcript_history t.now)) }
 {
     let path = path_of(alloc, t, client)?;
     let mut stand = Stand {
@@ -104,8 +104,8 @@ fn stand_of(alloc: Global, t: &Transcript, client: u8) -> Result<Stand, NoMemory
 
 /// Where all clients stand.
 pub(crate) fn all_stands(alloc: Global, t: &Transcript) -> Result<Stands, NoMemory>
-    requires { IsLawful (group_of t.now) (history_of t.now) }
-    ensures { IfOk result (AreStands t.now.count (group_of t.now) (history_of t.now)) }
+    requires { IsLawful (transcript_group t.now) (transcript_history t.now) }
+    ensures { IfOk result (AreStands t.now.count (transcript_group t.now) (transcript_history t.now)) }
 {
     let mut all = Stands::new(alloc);
     for k in 0..t.count {

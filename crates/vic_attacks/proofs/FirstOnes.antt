@@ -1,7 +1,7 @@
 -- The first so many requests are served by the rule.
 use Rattle.std.proofs.Common.{◌≡◌, ℕ, ◌+◌, ◌≤◌, Bool, true, false, if◌then◌else◌, List, [], ◌∷◌, length, refl, sym, ap, subst, ◌∙◌, arith}
 use Rattle.vic_order.specs.Serving.{Request, answers_to, by_rule}
-use Rattle.vic_attacks.specs.Hostile.{Hostile, by_kind, number, is_late, early, late, by_going, same, is_replay, with_told}
+use Rattle.vic_attacks.specs.Hostile.{Hostile, by_kind, number, is_late, by_early_request, by_late_request, by_going, answer_as_is, is_replay, with_told}
 
 -- it answers as the server that goes on in it, which then is as it would be by itself; and one request more is counted
 record IsEarly (h : Hostile) (who : ℕ) (payload : List ℕ) (r : List ℕ × Hostile) : Type 0 where
@@ -13,9 +13,9 @@ record IsEarly (h : Hostile) (who : ℕ) (payload : List ℕ) (r : List ℕ × H
 number_below : (h : Hostile) → number h ≤ h.count + 1
 number_below h = omega arith
 
-early_serves : (h : Hostile) (who : ℕ) (payload : List ℕ) → IsEarly h who payload (early h who payload)
+early_serves : (h : Hostile) (who : ℕ) (payload : List ℕ) → IsEarly h who payload (by_early_request h who payload)
 early_serves h who payload =
-    let r = by_going same h who payload in
+    let r = by_going answer_as_is h who payload in
     elim (is_replay h.kind) as (λ b. IsEarly h who payload (r.0, if b then record r.1 { told = with_told h.told who r.0 } else r.1)) [
       | true ↦ record { answer = refl; going = refl; after = refl; count = number_below h }
       | false ↦ record { answer = refl; going = refl; after = refl; count = number_below h }
@@ -26,7 +26,7 @@ not_late h few = grind (arith, number_below h)
 
 serves : (h : Hostile) → h.count + 1 ≤ h.after → (seat who : ℕ) (payload : List ℕ) → IsEarly h who payload (by_kind h seat who payload)
 serves h few seat who payload =
-    let P : Bool → Type 0 = λ b. IsEarly h who payload (if b then late h.kind h who payload else early h who payload) in
+    let P : Bool → Type 0 = λ b. IsEarly h who payload (if b then by_late_request h.kind h who payload else by_early_request h who payload) in
     subst P (sym (not_late h few)) (early_serves h who payload)
 
 pub early_answers : (requests : List Request) (h : Hostile) → h.count + length requests ≤ h.after → answers_to by_kind h requests ≡ answers_to by_rule h.going requests

@@ -3,7 +3,7 @@ use Rattle.std.proofs.Common.{◌≡◌, ℕ, true, false, if◌then◌else◌, 
 use Rattle.vic_order.specs.Serving.{Request, answers_to, by_rule}
 use Rattle.vic_attacks.specs.declared.HostileKind.{HostileKind}
 use Rattle.vic_attacks.specs.declared.HostileKind.TheVariants as kind
-use Rattle.vic_attacks.specs.Hostile.{Hostile, by_kind, is_late, early, late, by_going, same, is_replay, with_told}
+use Rattle.vic_attacks.specs.Hostile.{Hostile, by_kind, is_late, by_early_request, by_late_request, by_going, answer_as_is, is_replay, with_told}
 
 -- it answers as the server that goes on in it, which then is as it would be by itself; and it stays of its kind
 pub record IsServedByRule (h : Hostile) (who : ℕ) (payload : List ℕ) (r : List ℕ × Hostile) : Type 0 where
@@ -11,23 +11,23 @@ pub record IsServedByRule (h : Hostile) (who : ℕ) (payload : List ℕ) (r : Li
   pub going : r.1.going ≡ (by_rule h.going 0 who payload).1
   pub kind : r.1.kind ≡ kind.Honest
 
-by_going_serves : (h : Hostile) → h.kind ≡ kind.Honest → (who : ℕ) (payload : List ℕ) → IsServedByRule h who payload (by_going same h who payload)
+by_going_serves : (h : Hostile) → h.kind ≡ kind.Honest → (who : ℕ) (payload : List ℕ) → IsServedByRule h who payload (by_going answer_as_is h who payload)
 by_going_serves h e who payload = record { answer = refl; going = refl; kind = e }
 
-late_serves : (h : Hostile) → h.kind ≡ kind.Honest → (who : ℕ) (payload : List ℕ) → IsServedByRule h who payload (late h.kind h who payload)
+late_serves : (h : Hostile) → h.kind ≡ kind.Honest → (who : ℕ) (payload : List ℕ) → IsServedByRule h who payload (by_late_request h.kind h who payload)
 late_serves h e who payload =
-    let P : HostileKind → Type 0 = λ k. IsServedByRule h who payload (late k h who payload) in
+    let P : HostileKind → Type 0 = λ k. IsServedByRule h who payload (by_late_request k h who payload) in
     subst P (sym e) (by_going_serves h e who payload)
 
-early_serves : (h : Hostile) → h.kind ≡ kind.Honest → (who : ℕ) (payload : List ℕ) → IsServedByRule h who payload (early h who payload)
+early_serves : (h : Hostile) → h.kind ≡ kind.Honest → (who : ℕ) (payload : List ℕ) → IsServedByRule h who payload (by_early_request h who payload)
 early_serves h e who payload =
-    let r = by_going same h who payload in
+    let r = by_going answer_as_is h who payload in
     let P : HostileKind → Type 0 = λ k. IsServedByRule h who payload (r.0, if is_replay k then record r.1 { told = with_told h.told who r.0 } else r.1) in
     subst P (sym e) (by_going_serves h e who payload)
 
 serves : (h : Hostile) → h.kind ≡ kind.Honest → (seat who : ℕ) (payload : List ℕ) → IsServedByRule h who payload (by_kind h seat who payload)
 serves h e seat who payload =
-    elim (is_late h) as (λ b. IsServedByRule h who payload (if b then late h.kind h who payload else early h who payload)) [
+    elim (is_late h) as (λ b. IsServedByRule h who payload (if b then by_late_request h.kind h who payload else by_early_request h who payload)) [
       | true ↦ late_serves h e who payload
       | false ↦ early_serves h e who payload
     ]

@@ -37,8 +37,8 @@ hostile_from k n s = record { kind = k; after = n; count = 0; going = s; kept = 
 abbrev pub number : Hostile → ℕ
 number h = min (h.count + 1) 2000001
 
-abbrev pub counted : Hostile → Hostile
-counted h = record h { count = number h }
+abbrev pub with_count : Hostile → Hostile
+with_count h = record h { count = number h }
 
 -- a request above the first so many is a late one
 abbrev pub is_late : Hostile → Bool
@@ -76,15 +76,15 @@ with_told told who bytes = if nat_eq who 0 then told else slice_set told (who - 
 
 -- ---- answers that are changed
 
-abbrev pub same : ToClient → ToClient
-same a = a
+abbrev pub answer_as_is : ToClient → ToClient
+answer_as_is a = a
 
 -- all entries but the last, in reverse order, and the last
-abbrev pub swapped : List Tagged → List Tagged
-swapped entries = reverse (take (length entries - 1) entries) ++ drop (length entries - 1) entries
+abbrev pub entries_with_swap : List Tagged → List Tagged
+entries_with_swap entries = reverse (take (length entries - 1) entries) ++ drop (length entries - 1) entries
 
 abbrev pub with_swap : ToClient → ToClient
-with_swap (say.Reply seal entries part) = say.Reply seal (swapped entries) part
+with_swap (say.Reply seal entries part) = say.Reply seal (entries_with_swap entries) part
 with_swap a = a
 
 -- the part of the empty dictionary
@@ -130,36 +130,36 @@ without_last bytes = take (length bytes - 1) bytes
 
 -- the server that goes on, and its answer is changed
 abbrev pub by_going : (ToClient → ToClient) → Hostile → ℕ → List ℕ → List ℕ × Hostile
-by_going change h who payload = let a = serve h.going who payload in (answer_text (change a.answer), record (counted h) { going = a.next })
+by_going change h who payload = let a = serve h.going who payload in (answer_text (change a.answer), record (with_count h) { going = a.next })
 
 -- the same, and the kept server is kept
 abbrev pub by_going_beside_kept : Hostile → ℕ → List ℕ → List ℕ × Hostile
-by_going_beside_kept h who payload = by_going same (record h { kept = Some (kept_server h) }) who payload
+by_going_beside_kept h who payload = by_going answer_as_is (record h { kept = Some (kept_server h) }) who payload
 
 -- the kept server
 abbrev pub by_kept : Hostile → ℕ → List ℕ → List ℕ × Hostile
-by_kept h who payload = let a = serve (kept_server h) who payload in (answer_text a.answer, record (counted h) { kept = Some a.next })
+by_kept h who payload = let a = serve (kept_server h) who payload in (answer_text a.answer, record (with_count h) { kept = Some a.next })
 
 -- neither, where the client has an answer already
-abbrev pub again : Option (List ℕ) → Hostile → ℕ → List ℕ → List ℕ × Hostile
-again (Some bytes) h who payload = (bytes, counted h)
-again None h who payload = by_going same h who payload
+abbrev pub by_last_answer : Option (List ℕ) → Hostile → ℕ → List ℕ → List ℕ × Hostile
+by_last_answer (Some bytes) h who payload = (bytes, with_count h)
+by_last_answer None h who payload = by_going answer_as_is h who payload
 
 -- ---- the kinds
 
 -- a late request
-abbrev pub late : HostileKind → Hostile → ℕ → List ℕ → List ℕ × Hostile
-late kind.Honest h who payload = by_going same h who payload
-late kind.Rollback h who payload =
+abbrev pub by_late_request : HostileKind → Hostile → ℕ → List ℕ → List ℕ × Hostile
+by_late_request kind.Honest h who payload = by_going answer_as_is h who payload
+by_late_request kind.Rollback h who payload =
     if nat_le (number h) (2 * h.after) then by_going_beside_kept h who payload else by_kept h who payload
-late kind.Fork h who payload = if is_odd who then by_going_beside_kept h who payload else by_kept h who payload
-late kind.Replay h who payload = again (told_to h.told who) h who payload
-late kind.Swap h who payload = by_going with_swap h who payload
-late kind.BadProof h who payload = by_going with_empty_part h who payload
-late kind.Stale h who payload =
+by_late_request kind.Fork h who payload = if is_odd who then by_going_beside_kept h who payload else by_kept h who payload
+by_late_request kind.Replay h who payload = by_last_answer (told_to h.told who) h who payload
+by_late_request kind.Swap h who payload = by_going with_swap h who payload
+by_late_request kind.BadProof h who payload = by_going with_empty_part h who payload
+by_late_request kind.Stale h who payload =
     let d = past_dictionary h in
     by_going (with_part_of d (next_op (serve h.going who payload).next)) (record h { past = Some d }) who payload
-late kind.Truncate h who payload = let r = by_going same h who payload in (without_last r.0, r.1)
+by_late_request kind.Truncate h who payload = let r = by_going answer_as_is h who payload in (without_last r.0, r.1)
 
 abbrev pub is_replay : HostileKind → Bool
 is_replay kind.Honest = false
@@ -172,11 +172,11 @@ is_replay kind.Stale = false
 is_replay kind.Truncate = false
 
 -- an early request
-abbrev pub early : Hostile → ℕ → List ℕ → List ℕ × Hostile
-early h who payload =
-    let r = by_going same h who payload in
+abbrev pub by_early_request : Hostile → ℕ → List ℕ → List ℕ × Hostile
+by_early_request h who payload =
+    let r = by_going answer_as_is h who payload in
     (r.0, if is_replay h.kind then record r.1 { told = with_told h.told who r.0 } else r.1)
 
 -- how it serves; the seat doesn't matter
 abbrev pub by_kind : Serving Hostile
-by_kind h seat who payload = if is_late h then late h.kind h who payload else early h who payload
+by_kind h seat who payload = if is_late h then by_late_request h.kind h who payload else by_early_request h who payload

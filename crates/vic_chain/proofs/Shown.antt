@@ -8,60 +8,60 @@ use Rattle.vic_dict.specs.Lists.{front, newest}
 use Rattle.vic_wire.specs.declared.message.Digest32.{Digest32}
 use Rattle.vic_wire.specs.Hashes.{Group, chain, hash, empty_root}
 use Rattle.vic_wire.specs.Texts.{genesis_text, chain_text}
-use Rattle.vic_chain.specs.declared.window.Link.{Link}
-use Rattle.vic_chain.specs.Held.{Held, held_length, held_hash, last_hash, extended, cut_to, advanced, path_on, AreChained, ShowsPath}
+use Rattle.vic_chain.specs.declared.window.ChainedEntry.{ChainedEntry}
+use Rattle.vic_chain.specs.Held.{Held, held_length, held_hash, last_hash, held_with_entry, held_cut_to, held_sealed_at, path_on, AreChained, ShowsPath}
 
 -- ---- links on a path
 
-length-path_on : (below : List Entry) (links : List Link) → length (path_on below links) ≡ length below + length links
+length-path_on : (below : List Entry) (links : List ChainedEntry) → length (path_on below links) ≡ length below + length links
 length-path_on below [] = omega arith
 length-path_on below (x ∷ links) = let e = length-path_on below links in omega (arith, e)
 
-path_on-drop : (below : List Entry) (k : ℕ) (links : List Link) → k ≤ length links
+path_on-drop : (below : List Entry) (k : ℕ) (links : List ChainedEntry) → k ≤ length links
     → path_on below (drop k links) ≡ drop k (path_on below links)
 path_on-drop below zero links h = refl
 path_on-drop below (suc k) [] h = absurd (omega arith)
 path_on-drop below (suc k) (x ∷ links) h = path_on-drop below k links (omega arith)
 
-path_on-take : (below : List Entry) (k : ℕ) (links : List Link)
+path_on-take : (below : List Entry) (k : ℕ) (links : List ChainedEntry)
     → path_on (path_on below (drop k links)) (take k links) ≡ path_on below links
 path_on-take below zero links = refl
 path_on-take below (suc k) [] = refl
 path_on-take below (suc k) (x ∷ links) = ap (λ (p : List Entry). x.entry ∷ p) (path_on-take below k links)
 
-AreChained-drop : (g : Group) (below : List Entry) (k : ℕ) (links : List Link)
+AreChained-drop : (g : Group) (below : List Entry) (k : ℕ) (links : List ChainedEntry)
     → AreChained g below links → AreChained g below (drop k links)
 AreChained-drop g below zero links h = h
 AreChained-drop g below (suc k) [] h = h
 AreChained-drop g below (suc k) (x ∷ links) h = AreChained-drop g below k links h.0
 
-AreChained-take : (g : Group) (below : List Entry) (k : ℕ) (links : List Link)
+AreChained-take : (g : Group) (below : List Entry) (k : ℕ) (links : List ChainedEntry)
     → AreChained g below links → AreChained g (path_on below (drop k links)) (take k links)
 AreChained-take g below zero links h = tt
 AreChained-take g below (suc k) [] h = tt
 AreChained-take g below (suc k) (x ∷ links) h =
     (AreChained-take g below k links h.0, h.1 ∙ ap (λ (p : List Entry). chain g (x.entry ∷ p)) (sym (path_on-take below k links)))
 
-last_hash_is : (g : Group) (below : List Entry) (base : Digest32) (links : List Link)
+last_hash_is : (g : Group) (below : List Entry) (base : Digest32) (links : List ChainedEntry)
     → base.bytes ≡ chain g below → AreChained g below links → (last_hash base links).bytes ≡ chain g (path_on below links)
 last_hash_is g below base [] b h = b
 last_hash_is g below base (x ∷ links) b h = h.1
 
-newest-path_on : (below : List Entry) (k : ℕ) (links : List Link) (e : Entry)
-    → option_map (λ (x : Link). x.entry) (slice_get links k) ≡ Some e → newest (drop k (path_on below links)) ≡ Some e
+newest-path_on : (below : List Entry) (k : ℕ) (links : List ChainedEntry) (e : Entry)
+    → option_map (λ (x : ChainedEntry). x.entry) (slice_get links k) ≡ Some e → newest (drop k (path_on below links)) ≡ Some e
 newest-path_on below k [] e h = cc h
 newest-path_on below zero (x ∷ links) e h = h
 newest-path_on below (suc k) (x ∷ links) e h = newest-path_on below k links e h
 
 -- the entry of the link at a place
-pub link_at : (links : List Link) (k n : ℕ) (x : Link) → k ≡ n → n < length links → x ≡ get_or links n x
-    → option_map (λ (y : Link). y.entry) (slice_get links k) ≡ Some x.entry
-link_at links k n x e lt h = ap (λ (i : ℕ). option_map (λ (y : Link). y.entry) (slice_get links i)) e ∙ stands links n x lt h
+pub link_at : (links : List ChainedEntry) (k n : ℕ) (x : ChainedEntry) → k ≡ n → n < length links → x ≡ get_or links n x
+    → option_map (λ (y : ChainedEntry). y.entry) (slice_get links k) ≡ Some x.entry
+link_at links k n x e lt h = ap (λ (i : ℕ). option_map (λ (y : ChainedEntry). y.entry) (slice_get links i)) e ∙ stands links n x lt h
   where
-    stands : (links : List Link) (n : ℕ) (x : Link) → n < length links → x ≡ get_or links n x
-        → option_map (λ (y : Link). y.entry) (slice_get links n) ≡ Some x.entry
+    stands : (links : List ChainedEntry) (n : ℕ) (x : ChainedEntry) → n < length links → x ≡ get_or links n x
+        → option_map (λ (y : ChainedEntry). y.entry) (slice_get links n) ≡ Some x.entry
     stands [] n x lt h = absurd (omega arith)
-    stands (y ∷ links) zero x lt h = ap (λ (z : Link). Some z.entry) (sym h)
+    stands (y ∷ links) zero x lt h = ap (λ (z : ChainedEntry). Some z.entry) (sym h)
     stands (y ∷ links) (suc n) x lt h = stands links n x (omega arith) h
 
 -- ---- windows
@@ -88,7 +88,7 @@ shows_hash g p w n le s =
     ∙ ap (chain g) (front_is g p w n le s)
 
 pub shows_entry : (g : Group) (p : List Entry) (w : Held) (n : ℕ) (e : Entry)
-    → option_map (λ (x : Link). x.entry) (slice_get w.links (held_length w - n)) ≡ Some e → ShowsPath g p w
+    → option_map (λ (x : ChainedEntry). x.entry) (slice_get w.links (held_length w - n)) ≡ Some e → ShowsPath g p w
     → newest (front n p) ≡ Some e
 shows_entry g p w n e h s =
     ap (λ (k : ℕ). newest (drop k p)) (sym (above g p w n s))
@@ -111,7 +111,7 @@ chain-cons : (g : Group) (e : Entry) (p : List Entry) → chain g (e ∷ p) ≡ 
 unfolding chain
 chain-cons g e p = refl
 
-pub shows_extended : (g : Group) (p : List Entry) (w : Held) (e : Entry) → ShowsPath g p w → ShowsPath g (e ∷ p) (extended w e)
+pub shows_extended : (g : Group) (p : List Entry) (w : Held) (e : Entry) → ShowsPath g p w → ShowsPath g (e ∷ p) (held_with_entry w e)
 shows_extended g p w e s = record {
   below = s.below;
   is = ap (λ (q : List Entry). e ∷ q) s.is;
@@ -124,7 +124,7 @@ shows_extended g p w e s = record {
   );
 }
 
-pub shows_cut : (g : Group) (p : List Entry) (w : Held) (n : ℕ) → w.sealed ≤ n → ShowsPath g p w → ShowsPath g (front n p) (cut_to w n)
+pub shows_cut : (g : Group) (p : List Entry) (w : Held) (n : ℕ) → w.sealed ≤ n → ShowsPath g p w → ShowsPath g (front n p) (held_cut_to w n)
 shows_cut g p w n le s = record {
   below = s.below;
   is = sym (front_is g p w n le s);
@@ -134,7 +134,7 @@ shows_cut g p w n le s = record {
 }
 
 pub shows_advanced : (g : Group) (p : List Entry) (w : Held) (n : ℕ) (root : List ℕ) → w.sealed ≤ n → n ≤ held_length w
-    → ShowsPath g p w → ShowsPath g p (advanced w n root)
+    → ShowsPath g p w → ShowsPath g p (held_sealed_at w n root)
 shows_advanced g p w n root le within s =
     let k = held_length w - n in
     let kept : length (path_on s.below (drop k w.links)) ≡ n =

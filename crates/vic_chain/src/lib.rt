@@ -8,7 +8,7 @@ pub mod text;
 pub mod window;
 
 pub use text::{chain_step, feed_entry, genesis};
-pub use window::{Link, Window};
+pub use window::{ChainedEntry, Window};
 
 #[cfg(test)]
 mod tests;

@@ -7,7 +7,7 @@ ghost use Rattle.vic_dict.specs.Lists.{front, newest};
 ghost use Rattle.vic_wire.specs.Hashes.{Group, chain, empty_root, hash};
 ghost use Rattle.vic_wire.specs.Texts.{genesis_text};
 ghost use Rattle.vic_wire.specs.Messages.{IsEntry};
-ghost use Rattle.vic_chain.specs.Held.{Held, held_length, held_hash, last_hash, extended, cut_to, advanced, ShowsPath};
+ghost use Rattle.vic_chain.specs.Held.{Held, held_length, held_hash, last_hash, held_with_entry, held_cut_to, held_sealed_at, ShowsPath};
 
 use crate::text::{chain_step, genesis};
 use std::alloc::Global;
@@ -18,7 +18,7 @@ use vic_wire::Digest32;
 
 /// An entry above the seal, and the hash of the path that ends with it.
 #[derive(Debug, Drop)]
-pub struct Link {
+pub struct ChainedEntry {
     pub entry: Entry,
     pub hash: Digest32,
 }
@@ -31,7 +31,7 @@ pub struct Window {
     root: Digest32,
     base: Digest32,
     // The newest first.
-    links: VecDeque<Link>,
+    links: VecDeque<ChainedEntry>,
 }
 
 impl Model for Window {
@@ -46,7 +46,7 @@ impl Model for Window {
 }
 
 // Drops the newest links; the cost is their number.
-fn drop_newest(links: &mut VecDeque<Link>, count: usize)
+fn drop_newest(links: &mut VecDeque<ChainedEntry>, count: usize)
     requires { count ≤ length links.old.items }
     ensures { links.new.items ≡ drop count links.old.items }
 {
@@ -121,21 +121,21 @@ impl Window {
     pub fn extend(&mut self, entry: &Entry) -> Result<(), NoMemory>
         requires spelled { IsEntry entry.now }
         requires room { held_length self.old < 1048576 }
-        ensures ok { OnOk result (self.new ≡ extended self.old entry.now) }
+        ensures ok { OnOk result (self.new ≡ held_with_entry self.old entry.now) }
         ensures err { OnErr result (self.new ≡ self.old) }
         ensures shows { (g : Group) (p : List AnEntry) → ShowsPath g p self.old → OnOk result (ShowsPath g (entry.now ∷ p) self.new) }
     {
         let alloc = *self.links.allocator();
         let hash = chain_step(&self.hash_at(self.length()), entry);
         let entry = entry.copy(alloc)?;
-        self.links.push_front(Link { entry, hash })?;
+        self.links.push_front(ChainedEntry { entry, hash })?;
         Ok(())
     }
 
     /// Takes the newest entries off again, down to a length; the cost is their number.
     pub fn cut_back(&mut self, length: u32)
         requires { self.old.sealed ≤ length }
-        ensures value { self.new ≡ cut_to self.old length }
+        ensures value { self.new ≡ held_cut_to self.old length }
         ensures shows { (g : Group) (p : List AnEntry) → ShowsPath g p self.old → ShowsPath g (front length p) self.new }
     {
         let count = self.length().saturating_sub(length) as usize;
@@ -146,7 +146,7 @@ impl Window {
     pub fn advance(&mut self, position: u32, root: &Digest32)
         requires above { self.old.sealed ≤ position }
         requires within { position ≤ held_length self.old }
-        ensures value { self.new ≡ advanced self.old position root.now.bytes }
+        ensures value { self.new ≡ held_sealed_at self.old position root.now.bytes }
         ensures shows { (g : Group) (p : List AnEntry) → ShowsPath g p self.old → ShowsPath g p self.new }
     {
         let base = self.hash_at(position);

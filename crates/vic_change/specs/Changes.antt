@@ -6,9 +6,9 @@ abbrev pub change : ℕ → ℕ → List ℕ → Change
 change seat who payload = record { seat = seat; who = who; payload = payload }
 
 -- what is added by a step of this seat: nothing, or one change, by who and payload
-abbrev pub added : ℕ → Option (ℕ × List ℕ) → List Change
-added seat None = []
-added seat (Some c) = change seat c.0 c.1 ∷ []
+abbrev pub change_added : ℕ → Option (ℕ × List ℕ) → List Change
+change_added seat None = []
+change_added seat (Some c) = change seat c.0 c.1 ∷ []
 
 -- the changes of one seat, in order
 abbrev pub of_seat : ℕ → List Change → List Change

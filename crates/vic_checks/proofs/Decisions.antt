@@ -11,7 +11,7 @@ use Rattle.vic_dict.specs.declared.op.Answer.{Answer}
 use Rattle.vic_dict.specs.declared.op.Outcome.TheVariants as outcome
 use Rattle.vic_wire.specs.Parts.{Part, walked}
 use Rattle.vic_rules.specs.declared.state.Own.{Own}
-use Rattle.vic_rules.specs.Client.{Standing, least_above, or_this, in_the_way, laid, done_op, decided, decision}
+use Rattle.vic_rules.specs.Client.{Standing, least_above, or_this, in_the_way, own_calls_over, done_op, decided_outcome, decision}
 use Rattle.vic_checks.proofs.Walks.{drop-at}
 
 -- ---- fronts
@@ -93,11 +93,11 @@ front_under n (x ∷ q) h = ap (λ (k : ℕ). drop k (x ∷ q)) (one_more (lengt
 
 -- the first of those that are left is done again where it stands above base
 pub laid_more : (own : List Own) (i base : ℕ) (d d2 : Dictionary) (x : Own) → slice_get own i ≡ Some x
-    → d2 ≡ (if nat_lt base x.position then done_op d x else d) → laid (drop (i + 1) own) base d2 ≡ laid (drop i own) base d
+    → d2 ≡ (if nat_lt base x.position then done_op d x else d) → own_calls_over (drop (i + 1) own) base d2 ≡ own_calls_over (drop i own) base d
 laid_more own i base d d2 x at is =
-    ap (λ (k : ℕ). laid (drop k own) base d2) (next i)
-    ∙ ap (λ (y : Dictionary). laid (drop (suc i) own) base y) is
-    ∙ sym (ap (λ (l : List Own). laid l base d) (drop-at own i x at) ∙ by_test (nat_lt base x.position) (filter (λ (o : Own). nat_lt base o.position) (drop (suc i) own)))
+    ap (λ (k : ℕ). own_calls_over (drop k own) base d2) (next i)
+    ∙ ap (λ (y : Dictionary). own_calls_over (drop (suc i) own) base y) is
+    ∙ sym (ap (λ (l : List Own). own_calls_over l base d) (drop-at own i x at) ∙ by_test (nat_lt base x.position) (filter (λ (o : Own). nat_lt base o.position) (drop (suc i) own)))
   where
     next : (i : ℕ) → i + 1 ≡ suc i
     next i = omega arith
@@ -107,7 +107,7 @@ laid_more own i base d d2 x at is =
     by_test false others = refl
 
 -- nothing is left past the end
-pub laid_end : (own : List Own) (i base : ℕ) (d : Dictionary) → length own ≤ i → laid (drop i own) base d ≡ d
+pub laid_end : (own : List Own) (i base : ℕ) (d : Dictionary) → length own ≤ i → own_calls_over (drop i own) base d ≡ d
 laid_end [] zero base d h = refl
 laid_end [] (suc i) base d h = refl
 laid_end (x ∷ own) zero base d h = absurd (omega arith)
@@ -118,11 +118,11 @@ laid_end (x ∷ own) (suc i) base d h = laid_end own i base d (omega arith)
 pub aborts : (me : ℕ) (s : Standing) (below : List Entry) (base : ℕ) (part : Part) (o : Op) (u : ℕ) → Some u ≡ in_the_way me o base below
     → outcome.Aborted u ≡ decision me s below base part o
 unfolding decision
-aborts me s below base part o u e = ap (λ (x : Option ℕ). decided x (laid s.own base (walked part o)) o) e
+aborts me s below base part o u e = ap (λ (x : Option ℕ). decided_outcome x (own_calls_over s.own base (walked part o)) o) e
 
 pub ends_done : (me : ℕ) (s : Standing) (below : List Entry) (base : ℕ) (part : Part) (o : Op) (own : List Own) (d : Dictionary) (a : Answer)
-    → None ≡ in_the_way me o base below → s.own ≡ own → d ≡ laid own base (walked part o) → a ≡ reply d o → outcome.Done a ≡ decision me s below base part o
+    → None ≡ in_the_way me o base below → s.own ≡ own → d ≡ own_calls_over own base (walked part o) → a ≡ reply d o → outcome.Done a ≡ decision me s below base part o
 unfolding decision
 ends_done me s below base part o own d a e same is h =
-    ap outcome.Done (h ∙ ap (λ (x : Dictionary). reply x o) (is ∙ ap (λ (l : List Own). laid l base (walked part o)) (sym same)))
-    ∙ ap (λ (x : Option ℕ). decided x (laid s.own base (walked part o)) o) e
+    ap outcome.Done (h ∙ ap (λ (x : Dictionary). reply x o) (is ∙ ap (λ (l : List Own). own_calls_over l base (walked part o)) (sym same)))
+    ∙ ap (λ (x : Option ℕ). decided_outcome x (own_calls_over s.own base (walked part o)) o) e

@@ -7,7 +7,7 @@ use Rattle.std.proofs.lemmas.Map.Text.{is_eq-slice_cmp}
 use Rattle.vic_dict.specs.declared.op.Op.{Op}
 use Rattle.vic_dict.specs.declared.op.Op.TheVariants as op
 use Rattle.vic_dict.specs.declared.op.Outcome.TheVariants as outcome
-use Rattle.vic_dict.specs.Dictionary.{Dictionary, after, reply, found, gone}
+use Rattle.vic_dict.specs.Dictionary.{Dictionary, after, reply, answer_of_get, answer_of_del}
 use Rattle.vic_rules.specs.declared.state.Own.{Own}
 use Rattle.vic_dict.specs.declared.op.Entry.{Entry}
 use Rattle.vic_wire.specs.declared.message.Seal.{Seal}
@@ -15,7 +15,7 @@ use Rattle.vic_wire.specs.declared.message.Tagged.{Tagged}
 use Rattle.vic_wire.specs.Parts.{Part, walked}
 use Rattle.vic_rules.specs.declared.state.Awaiting.{Awaiting}
 use Rattle.vic_rules.specs.declared.state.Awaiting.TheVariants as awaits
-use Rattle.vic_rules.specs.Client.{Standing, onto, laid, in_the_way, decision, loads_reference, done_op, decided, finds_reference}
+use Rattle.vic_rules.specs.Client.{Standing, onto, own_calls_over, in_the_way, decision, loads_reference, done_op, decided_outcome, finds_reference}
 use Rattle.vic_checks.specs.Finding.{leaves_at, left_at}
 
 get_after : (o : Op) (d : Dictionary) (q : List ℕ) → map.get (after d o) q ≡ leaves_at o q (map.get d q)
@@ -34,43 +34,43 @@ left_is base o q d = now (nat_lt base o.position) o.done
     now false b = refl
 
 -- only a get finds a value
-pub only_gets_find : (u : Option ℕ) (d : Dictionary) (o : Op) → ((k : List ℕ) → o ≡ op.Get k → ⊥) → finds_reference (decided u d o) ≡ true
+pub only_gets_find : (u : Option ℕ) (d : Dictionary) (o : Op) → ((k : List ℕ) → o ≡ op.Get k → ⊥) → finds_reference (decided_outcome u d o) ≡ true
 only_gets_find (Some u) d o other = refl
 only_gets_find None d (op.Put k v) other = refl
 only_gets_find None d (op.Get k) other = absurd (other k refl)
 only_gets_find None d (op.Del k) other = gone_finds (map.get d k)
   where
-    gone_finds : (x : Option (List ℕ)) → finds_reference (outcome.Done (gone x)) ≡ true
+    gone_finds : (x : Option (List ℕ)) → finds_reference (outcome.Done (answer_of_del x)) ≡ true
     gone_finds None = refl
     gone_finds (Some v) = refl
 only_gets_find None d (op.List p) other = refl
 
 -- ---- what a decision finds
 
-decided_some : (u : Option ℕ) (d : Dictionary) (o : Op) → is_some u ≡ true → finds_reference (decided u d o) ≡ true
+decided_some : (u : Option ℕ) (d : Dictionary) (o : Op) → is_some u ≡ true → finds_reference (decided_outcome u d o) ≡ true
 decided_some (Some u) d o e = refl
 decided_some None d o e = absurd (true≢false (sym e))
 
 -- an aborted call finds nothing
 pub aborted_finds : (me : ℕ) (s : Standing) (below : List Entry) (base : ℕ) (part : Part) (o : Op) → is_some (in_the_way me o base below) ≡ true → finds_reference (decision me s below base part o) ≡ true
 unfolding decision
-aborted_finds me s below base part o e = decided_some (in_the_way me o base below) (laid s.own base (walked part o)) o e
+aborted_finds me s below base part o e = decided_some (in_the_way me o base below) (own_calls_over s.own base (walked part o)) o e
 
-decided_get : (u : Option ℕ) (d : Dictionary) (o : Op) (k : List ℕ) (x : Option (List ℕ)) → is_some u ≡ false → o ≡ op.Get k → map.get d k ≡ x → finds_reference (decided u d o) ≡ finds_reference (outcome.Done (found x))
+decided_get : (u : Option ℕ) (d : Dictionary) (o : Op) (k : List ℕ) (x : Option (List ℕ)) → is_some u ≡ false → o ≡ op.Get k → map.get d k ≡ x → finds_reference (decided_outcome u d o) ≡ finds_reference (outcome.Done (answer_of_get x))
 decided_get (Some u) d o k x e is gets = absurd (true≢false e)
-decided_get None d o k x e is gets = ap (λ q. finds_reference (outcome.Done (reply d q))) is ∙ ap (λ y. finds_reference (outcome.Done (found y))) gets
+decided_get None d o k x e is gets = ap (λ q. finds_reference (outcome.Done (reply d q))) is ∙ ap (λ y. finds_reference (outcome.Done (answer_of_get y))) gets
 
 -- a get that nothing stands in the way of finds what the own calls leave
 pub get_finds : (me : ℕ) (s : Standing) (below : List Entry) (base : ℕ) (part : Part) (o : Op) (k : List ℕ) (own : List Own) (x : Option (List ℕ)) → is_some (in_the_way me o base below) ≡ false → o ≡ op.Get k
-    → s.own ≡ own → map.get (laid own base (walked part (op.Get k))) k ≡ x → finds_reference (decision me s below base part o) ≡ finds_reference (outcome.Done (found x))
+    → s.own ≡ own → map.get (own_calls_over own base (walked part (op.Get k))) k ≡ x → finds_reference (decision me s below base part o) ≡ finds_reference (outcome.Done (answer_of_get x))
 unfolding decision
 get_finds me s below base part o k own x e is same gets =
-    decided_get (in_the_way me o base below) (laid s.own base (walked part o)) o k x e is (ap (λ q. map.get (laid s.own base (walked part q)) k) is ∙ (ap (λ w. map.get (laid w base (walked part (op.Get k))) k) same ∙ gets))
+    decided_get (in_the_way me o base below) (own_calls_over s.own base (walked part o)) o k x e is (ap (λ q. map.get (own_calls_over s.own base (walked part q)) k) is ∙ (ap (λ w. map.get (own_calls_over w base (walked part (op.Get k))) k) same ∙ gets))
 
 -- any other call finds no value
 pub others_find : (me : ℕ) (s : Standing) (below : List Entry) (base : ℕ) (part : Part) (o : Op) → ((k : List ℕ) → o ≡ op.Get k → ⊥) → finds_reference (decision me s below base part o) ≡ true
 unfolding decision
-others_find me s below base part o other = only_gets_find (in_the_way me o base below) (laid s.own base (walked part o)) o other
+others_find me s below base part o other = only_gets_find (in_the_way me o base below) (own_calls_over s.own base (walked part o)) o other
 
 -- a Reply to a load: its last entry is left out
 pub load_finds : (me : ℕ) (s : Standing) (seal : Seal) (path : List Entry) (found : Option Part) (part : Part) (a : Awaiting) (n : ℕ) (o : Op) → 0 < length path → found ≡ Some part → a ≡ awaits.Reply n o true

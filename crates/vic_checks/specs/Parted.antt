@@ -18,9 +18,9 @@ part_in None = None
 part_in (Some m) = part_of m
 
 -- what a part in memory stands for, if there is one
-abbrev pub seen : Option Pruned → Option Part
-seen None = None
-seen (Some p) = Some (part p)
+abbrev pub part_seen : Option Pruned → Option Part
+part_seen None = None
+part_seen (Some p) = Some (part p)
 
 abbrev pub IsGrammar : Pruned → Type 0
 IsGrammar p = IsPart (part p)

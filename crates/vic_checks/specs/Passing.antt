@@ -7,7 +7,7 @@ use Rattle.vic_rules.specs.declared.state.Awaiting.{Awaiting}
 use Rattle.vic_rules.specs.declared.state.Awaiting.TheVariants as awaits
 use Rattle.vic_dict.specs.Dictionary.{Fits}
 use Rattle.vic_wire.specs.Parts.{Part}
-use Rattle.vic_rules.specs.Client.{is_next, shows_open, shows_own}
+use Rattle.vic_rules.specs.Client.{is_next, has_open_op, has_own_op}
 use Rattle.vic_checks.specs.declared.state.State.{State}
 
 -- a Reply is awaited
@@ -42,8 +42,8 @@ IsFormed n a is_part m = Unit {0}
 
 -- the part shows what is walked over: in a Reply by the open call, in an Update by the call that is sealed next
 abbrev pub IsShown : Option Part → Awaiting → List Own → ToClient → Type 0
-IsShown found a own (say.Reply seal entries part) = shows_open found a ≡ true
-IsShown found a own (say.Update seal part) = shows_own found own ≡ true
+IsShown found a own (say.Reply seal entries part) = has_open_op found a ≡ true
+IsShown found a own (say.Update seal part) = has_own_op found own ≡ true
 IsShown found a own m = Unit {0}
 
 abbrev pub IsShownTo : Option Part → State → ToClient → Type 0

@@ -8,9 +8,9 @@ ghost use Rattle.vic_wire.specs.Parts.{IsPart, walked};
 ghost use Rattle.vic_prune.specs.Parts.{part as shown};
 ghost use Rattle.vic_wire.specs.Messages.{HasSpelling};
 ghost use Rattle.vic_chain.specs.Held.{held_length};
-ghost use Rattle.vic_rules.specs.Client.{Standing, laid, done_op, decision, finds_reference, is_wanted as wanted, has_content as content_holds};
+ghost use Rattle.vic_rules.specs.Client.{Standing, own_calls_over, done_op, decision, finds_reference, is_wanted as wanted, has_content as content_holds};
 ghost use Rattle.vic_checks.specs.State.{StandsForState, below_last};
-ghost use Rattle.vic_checks.specs.Parted.{part_of, seen, IsGrammar, IsAbove};
+ghost use Rattle.vic_checks.specs.Parted.{part_of, part_seen, IsGrammar, IsAbove};
 ghost use Rattle.vic_checks.specs.Passing.{IsFormed, AwaitsFit};
 ghost use Rattle.vic_checks.specs.Finding.{left_at};
 
@@ -55,7 +55,7 @@ pub fn found_above<'a>(
 ) -> Option<&'a Bytes>
     requires grammar { IsPart (shown part.now) }
     requires fits { IsKey key.now }
-    ensures { option_copied result ≡ map.get (laid own.now base (walked (shown part.now) (Op.Get key.now))) key.now }
+    ensures { option_copied result ≡ map.get (own_calls_over own.now base (walked (shown part.now) (Op.Get key.now))) key.now }
 {
     let mut value = part.get(key);
     for i in 0..own.len() {
@@ -100,7 +100,7 @@ fn finds_one(state: &State, entries: &TaggedList, base: u32, part: &Pruned, op: 
 /// the own calls cost, and of a content its hash.
 pub fn has_content(state: &State, message: &ToClient, part: Option<&Pruned>) -> bool
     requires spelled { HasSpelling message.now }
-    requires part { seen (option_copied part) ≡ part_of message.now }
+    requires part { part_seen (option_copied part) ≡ part_of message.now }
     requires grammar { IfSome (option_copied part) IsGrammar }
     requires fits { AwaitsFit state.now.awaiting }
     requires formed { IsFormed (held_length state.now.window) state.now.awaiting (is_some part) message.now }

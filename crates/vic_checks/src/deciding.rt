@@ -8,9 +8,9 @@ ghost use Rattle.vic_wire.specs.Hashes.{Group};
 ghost use Rattle.vic_wire.specs.Parts.{IsPart, reaches, walked};
 ghost use Rattle.vic_prune.specs.Parts.{part as shown};
 ghost use Rattle.vic_chain.specs.Held.{held_length, ShowsPath};
-ghost use Rattle.vic_rules.specs.Client.{Standing, onto, in_the_way, is_in_the_way as in_way, laid, decision, done_op};
+ghost use Rattle.vic_rules.specs.Client.{Standing, onto, in_the_way, is_in_the_way as in_way, own_calls_over, decision, done_op};
 ghost use Rattle.vic_checks.specs.Owns.{IsOwn};
-ghost use Rattle.vic_checks.specs.State.{group_of, StandsForState, below_last};
+ghost use Rattle.vic_checks.specs.State.{state_group, StandsForState, below_last};
 
 use crate::state::{OwnList, State};
 use std::alloc::Global;
@@ -85,7 +85,7 @@ fn lay(alloc: Global, dict: &mut PlainDict, call: &Own, base: u32) -> Result<(),
 
 // Does the own calls above a position again, in order.
 fn lay_all(alloc: Global, dict: &mut PlainDict, own: &OwnList, base: u32) -> Result<(), NoMemory>
-    ensures { OnOk result (dict.new ≡ laid own.now base dict.old) }
+    ensures { OnOk result (dict.new ≡ own_calls_over own.now base dict.old) }
 {
     for i in 0..own.len() {
         lay(alloc, dict, own.at(i), base)?;
@@ -102,7 +102,7 @@ fn is_laid(call: &Own, base: u32) -> bool
 
 // Whether none of the own calls is.
 fn are_below(own: &OwnList, base: u32) -> bool
-    ensures { IsTrue result → (d : Dictionary) → laid own.now base d ≡ d }
+    ensures { IsTrue result → (d : Dictionary) → own_calls_over own.now base d ≡ d }
 {
     for i in 0..own.len() {
         if is_laid(own.at(i), base) {

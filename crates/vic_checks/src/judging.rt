@@ -2,10 +2,10 @@
 
 ghost use Rattle.std.specs.Prelude.{◌≡◌, ◌+◌, IfSome, IsTrue, is_some, option_copied, Some};
 ghost use Rattle.vic_wire.specs.Messages.{HasSpelling};
-ghost use Rattle.vic_rules.specs.Client.{Standing, verdict_on, goes_on as base_holds, keeps_own as own_kept, has_turn as turn, is_next as next, seal_of};
-ghost use Rattle.vic_checks.specs.State.{group_of, StandsForState, failed_at};
+ghost use Rattle.vic_rules.specs.Client.{Standing, verdict_on, is_not_older, keeps_own as own_kept, has_turn as turn, is_next as next, seal_of};
+ghost use Rattle.vic_checks.specs.State.{state_group, StandsForState, failed_at};
 ghost use Rattle.vic_chain.specs.Held.{held_length};
-ghost use Rattle.vic_checks.specs.Parted.{part_of, part_in, seen, IsGrammar, IsAbove, IsLow};
+ghost use Rattle.vic_checks.specs.Parted.{part_of, part_in, part_seen, IsGrammar, IsAbove, IsLow};
 ghost use Rattle.vic_checks.specs.Passing.{IsFormed, HasTurn, IsTurn, IsShownTo, AwaitsFit};
 
 use crate::contents::has_content;
@@ -17,8 +17,8 @@ use vic_prune::Pruned;
 use vic_wire::ToClient;
 
 // Whether the seal isn't older than the highest one.
-fn goes_on(sealed: u32, message: &ToClient) -> bool
-    ensures exact { (s : Standing) → s.sealed ≡ sealed → result ≡ base_holds s (seal_of message.now) }
+fn is_not_older(sealed: u32, message: &ToClient) -> bool
+    ensures exact { (s : Standing) → s.sealed ≡ sealed → result ≡ is_not_older s (seal_of message.now) }
     ensures above { IsTrue result → IsAbove sealed message.now }
 {
     match message {
@@ -66,14 +66,14 @@ fn has_turn(own: &OwnList, message: &ToClient) -> bool
 // The verdict on an answer that could be read.
 fn judge_message(state: &State, message: &ToClient, part: Option<&Pruned>) -> Verdict
     requires spelled { HasSpelling message.now }
-    requires part { seen (option_copied part) ≡ part_of message.now }
+    requires part { part_seen (option_copied part) ≡ part_of message.now }
     requires grammar { IfSome (option_copied part) IsGrammar }
     requires fits { AwaitsFit state.now.awaiting }
-    ensures exact { (s : Standing) → StandsForState state.now s → failed_at result ≡ verdict_on (group_of state.now) state.now.id s (Some message.now) }
+    ensures exact { (s : Standing) → StandsForState state.now s → failed_at result ≡ verdict_on (state_group state.now) state.now.id s (Some message.now) }
     ensures formed { result ≡ Verdict.Pass → IsFormed (held_length state.now.window) state.now.awaiting (is_some part.entry) message.now }
     ensures above { result ≡ Verdict.Pass → IsAbove state.now.window.sealed message.now }
     ensures turn { result ≡ Verdict.Pass → IsTurn state.now message.now }
-    ensures shown { result ≡ Verdict.Pass → IsShownTo (seen (option_copied part.entry)) state.now message.now }
+    ensures shown { result ≡ Verdict.Pass → IsShownTo (part_seen (option_copied part.entry)) state.now message.now }
 {
     let length = state.window.length();
     let is_part = part.is_some();
@@ -86,7 +86,7 @@ fn judge_message(state: &State, message: &ToClient, part: Option<&Pruned>) -> Ve
     if !has_tags(&state.key, message) {
         return Verdict::Halt(3);
     }
-    if !goes_on(state.window.sealed(), message) {
+    if !is_not_older(state.window.sealed(), message) {
         return Verdict::Halt(4);
     }
     if !is_sealed(&state.key, &state.window, message) {
@@ -112,15 +112,15 @@ fn judge_message(state: &State, message: &ToClient, part: Option<&Pruned>) -> Ve
 /// aren't sealed cost, and of a content its hash.
 pub fn judge(state: &State, message: Option<&ToClient>, part: Option<&Pruned>) -> Verdict
     requires spelled { IfSome (option_copied message) HasSpelling }
-    requires part { seen (option_copied part) ≡ part_in (option_copied message) }
+    requires part { part_seen (option_copied part) ≡ part_in (option_copied message) }
     requires grammar { IfSome (option_copied part) IsGrammar }
     requires fits { AwaitsFit state.now.awaiting }
-    ensures exact { (s : Standing) → StandsForState state.now s → failed_at result ≡ verdict_on (group_of state.now) state.now.id s (option_copied message.entry) }
+    ensures exact { (s : Standing) → StandsForState state.now s → failed_at result ≡ verdict_on (state_group state.now) state.now.id s (option_copied message.entry) }
     // What is known of an answer that passes, by what is kept alone.
     ensures formed { result ≡ Verdict.Pass → IfSome (option_copied message.entry) (IsFormed (held_length state.now.window) state.now.awaiting (is_some part.entry)) }
     ensures above { result ≡ Verdict.Pass → IfSome (option_copied message.entry) (IsAbove state.now.window.sealed) }
     ensures turn { result ≡ Verdict.Pass → IfSome (option_copied message.entry) (IsTurn state.now) }
-    ensures shown { result ≡ Verdict.Pass → IfSome (option_copied message.entry) (IsShownTo (seen (option_copied part.entry)) state.now) }
+    ensures shown { result ≡ Verdict.Pass → IfSome (option_copied message.entry) (IsShownTo (part_seen (option_copied part.entry)) state.now) }
 {
     match message {
         Some(message) => judge_message(state, message, part),

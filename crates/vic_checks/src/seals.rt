@@ -9,9 +9,9 @@ ghost use Rattle.vic_wire.specs.Hashes.{Group, chain, tag_of};
 ghost use Rattle.vic_wire.specs.Texts.{seal_text};
 ghost use Rattle.vic_wire.specs.Messages.{HasSpelling, IsTagged};
 ghost use Rattle.vic_chain.specs.Held.{held_length, ShowsPath};
-ghost use Rattle.vic_rules.specs.Client.{Standing, onto, seal_of, entries_of, is_sealed as sealed, is_proved as proved, shows, shows_walk as walk_shown, shows_open as open_shown, shows_own as own_shown, is_write as writes};
+ghost use Rattle.vic_rules.specs.Client.{Standing, onto, seal_of, entries_of, is_sealed as sealed, is_proved as proved, has_root, has_walk, has_open_op, has_own_op, is_write as writes};
 ghost use Rattle.vic_dict.specs.Dictionary.{Fits};
-ghost use Rattle.vic_checks.specs.Parted.{part_of, seen, IsGrammar, IsWithin, IsAbove};
+ghost use Rattle.vic_checks.specs.Parted.{part_of, part_seen, IsGrammar, IsWithin, IsAbove};
 ghost use Rattle.vic_checks.specs.Owns.{IsOwn};
 ghost use Rattle.vic_checks.specs.Passing.{AwaitsFit, IsShown};
 
@@ -104,7 +104,7 @@ pub fn is_sealed(key: &GroupKey, window: &Window, message: &ToClient) -> bool
 // Whether the part has this root.
 fn has_root(found: Option<&Pruned>, root: &Digest32) -> bool
     requires { IfSome (option_copied found) IsGrammar }
-    ensures { result ≡ shows (seen (option_copied found.entry)) root.now.bytes }
+    ensures { result ≡ has_root (part_seen (option_copied found.entry)) root.now.bytes }
 {
     match found {
         Some(part) => same_digest(&part.root(), root),
@@ -113,10 +113,10 @@ fn has_root(found: Option<&Pruned>, root: &Digest32) -> bool
 }
 
 // Whether the part shows what the operation walks over.
-fn shows_walk(found: Option<&Pruned>, op: &Op) -> bool
+fn has_walk(found: Option<&Pruned>, op: &Op) -> bool
     requires grammar { IfSome (option_copied found) IsGrammar }
     requires fits { Fits op.now }
-    ensures { result ≡ walk_shown (seen (option_copied found.entry)) op.now }
+    ensures { result ≡ has_walk (part_seen (option_copied found.entry)) op.now }
 {
     match found {
         Some(part) => part.reaches(op),
@@ -125,13 +125,13 @@ fn shows_walk(found: Option<&Pruned>, op: &Op) -> bool
 }
 
 // Whether it shows what the open call walks over.
-fn shows_open(found: Option<&Pruned>, awaiting: &Awaiting) -> bool
+fn has_open_op(found: Option<&Pruned>, awaiting: &Awaiting) -> bool
     requires grammar { IfSome (option_copied found) IsGrammar }
     requires fits { AwaitsFit awaiting.now }
-    ensures { result ≡ open_shown (seen (option_copied found.entry)) awaiting.now }
+    ensures { result ≡ has_open_op (part_seen (option_copied found.entry)) awaiting.now }
 {
     match awaiting {
-        Awaiting::Reply(_, op, _) => shows_walk(found, op),
+        Awaiting::Reply(_, op, _) => has_walk(found, op),
         _ => true,
     }
 }
@@ -147,15 +147,15 @@ pub fn is_write(op: &Op) -> bool
 fn shows_call(found: Option<&Pruned>, call: &Own) -> bool
     requires grammar { IfSome (option_copied found) IsGrammar }
     requires fits { IsOwn call.now }
-    ensures { result ≡ (not (call.now.done && writes call.now.op) || walk_shown (seen (option_copied found.entry)) call.now.op) }
+    ensures { result ≡ (not (call.now.done && writes call.now.op) || has_walk (part_seen (option_copied found.entry)) call.now.op) }
 {
-    !(call.done && is_write(&call.op)) || shows_walk(found, &call.op)
+    !(call.done && is_write(&call.op)) || has_walk(found, &call.op)
 }
 
 // The same of the oldest own call that isn't sealed.
-fn shows_own(found: Option<&Pruned>, own: &OwnList) -> bool
+fn has_own_op(found: Option<&Pruned>, own: &OwnList) -> bool
     requires { IfSome (option_copied found) IsGrammar }
-    ensures { result ≡ own_shown (seen (option_copied found.entry)) own.now }
+    ensures { result ≡ has_own_op (part_seen (option_copied found.entry)) own.now }
 {
     match own.first() {
         Some(call) => shows_call(found, call),
@@ -172,15 +172,15 @@ pub fn is_proved(
     own: &OwnList,
     message: &ToClient,
 ) -> bool
-    requires part { seen (option_copied found) ≡ part_of message.now }
+    requires part { part_seen (option_copied found) ≡ part_of message.now }
     requires grammar { IfSome (option_copied found) IsGrammar }
     requires fits { AwaitsFit awaiting.now }
     ensures exact { (s : Standing) → s.own ≡ own.now → s.awaiting ≡ awaiting.now → result ≡ proved s message.now }
-    ensures shown { IsTrue result → IsShown (seen (option_copied found.entry)) awaiting.now own.now message.now }
+    ensures shown { IsTrue result → IsShown (part_seen (option_copied found.entry)) awaiting.now own.now message.now }
 {
     match message {
-        ToClient::Reply { seal, .. } => has_root(found, &seal.root) && shows_open(found, awaiting),
-        ToClient::Update { seal, .. } => has_root(found, &seal.root) && shows_own(found, own),
+        ToClient::Reply { seal, .. } => has_root(found, &seal.root) && has_open_op(found, awaiting),
+        ToClient::Update { seal, .. } => has_root(found, &seal.root) && has_own_op(found, own),
         _ => true,
     }
 }

@@ -4,15 +4,15 @@ use Rattle.std.specs.Prelude.{codes, IsSome, IsSomeAnd}
 use Rattle.std.specs.Str.{bytes_eq}
 use Rattle.vic_dict.specs.declared.bytes.NoMemory.{NoMemory}
 use Rattle.vic_rules.specs.Client.{at_start}
-use Rattle.vic_client.specs.Kept.{Kept, StandsFor, group_of}
+use Rattle.vic_client.specs.Kept.{KeptClient, StandsFor, kept_group}
 use Rattle.vic_wire.specs.Hashes.{Group}
 use Rattle.vic_wire.specs.declared.message.Digest32.{Digest32}
 use Rattle.vic_conn.specs.Frames.{frames_of}
 use Rattle.vic_ports.specs.Causes.{Rose, LeavesBehind}
 use Rattle.vic_ports.specs.InputGives.{InputGives}
-use Rattle.vic_ports.specs.declared.reading.Input.TheVariants as input
+use Rattle.vic_ports.specs.declared.reading.InputRead.TheVariants as input
 use Rattle.vic_ports.specs.Links.{Told}
-use Rattle.vic_script.specs.Run.{limit}
+use Rattle.vic_script.specs.Run.{script_limit}
 use Rattle.vic_session.specs.declared.end.SessionEnd.{SessionEnd}
 use Rattle.vic_session.specs.declared.end.SessionEnd.TheVariants as ends
 use Rattle.vic_session.specs.Sessions.{IsSession}
@@ -24,7 +24,7 @@ use Rattle.vic_text.specs.declared.status.Status.TheVariants as status
 use Rattle.vic_text.specs.Statuses.{usage_line, read_fault_line}
 use Rattle.vic_cli.specs.Output.{Taken, Given, IsReadWhole, WroteAll}
 use Rattle.vic_cli.specs.Command.{Plans, Ends, IsComplete}
-use Rattle.vic_cli.specs.ClientWords.{ClientWords, client_words, counted, joined, key_in, IsClientOf}
+use Rattle.vic_cli.specs.ClientWords.{ClientWords, client_words, words_with_count, words_of_parts, key_in, IsClientOf}
 use Rattle.vic_cli.specs.Arguments.{is_address, mode_of, number_in}
 use Rattle.vic_cli.specs.Telling.{status_by, text_by, TellsEnd, TellsSession}
 use Rattle.vic_cli.specs.ClientEnds.{IsScript, HasSession, Did, Causes, CanBeDone, client_command}
@@ -57,33 +57,33 @@ not_six (x0 ∷ x1 ∷ x2 ∷ x3 ∷ x4 ∷ x5 ∷ []) other = absurd (other ref
 not_six (x0 ∷ x1 ∷ x2 ∷ x3 ∷ x4 ∷ x5 ∷ x6 ∷ xs) other = tt
 
 -- six words of which the first two are right, and the count
-pub six_right : (name address id count key kind : List ℕ) (n : ℕ) (r : Result (Option Kept) NoMemory) → (bytes_eq name (codes "client") && is_address address) ≡ true → number_in 64 count ≡ Some n
-    → IfOk r (λ c. IsClientOf (joined address n (number_in n id) (key_in key) (mode_of kind)) c) → IfOk r (λ c. IsClientOf (client_words (name ∷ address ∷ id ∷ count ∷ key ∷ kind ∷ [])) c)
+pub six_right : (name address id count key kind : List ℕ) (n : ℕ) (r : Result (Option KeptClient) NoMemory) → (bytes_eq name (codes "client") && is_address address) ≡ true → number_in 64 count ≡ Some n
+    → IfOk r (λ c. IsClientOf (words_of_parts address n (number_in n id) (key_in key) (mode_of kind)) c) → IfOk r (λ c. IsClientOf (client_words (name ∷ address ∷ id ∷ count ∷ key ∷ kind ∷ [])) c)
 six_right name address id count key kind n r right many h =
-    subst (λ (b : Bool). IfOk r (λ c. IsClientOf (if b then counted address id key kind (number_in 64 count) else None) c)) (sym right)
-    (subst (λ (o : Option ℕ). IfOk r (λ c. IsClientOf (counted address id key kind o) c)) (sym many) h)
+    subst (λ (b : Bool). IfOk r (λ c. IsClientOf (if b then words_with_count address id key kind (number_in 64 count) else None) c)) (sym right)
+    (subst (λ (o : Option ℕ). IfOk r (λ c. IsClientOf (words_with_count address id key kind o) c)) (sym many) h)
 
 -- words that are wrong are no client's
-pub none_known : (o : Option ClientWords) (c : Kept) → IsClientOf o (Some c) → o ≡ None → ⊥
+pub none_known : (o : Option ClientWords) (c : KeptClient) → IsClientOf o (Some c) → o ≡ None → ⊥
 none_known None c is e = is
 none_known (Some w) c is e = cc
 
 -- ---- what is planned
 
-pub stands_known : (o : Option ClientWords) (c : Kept) → IsClientOf o (Some c) → StandsFor c at_start
+pub stands_known : (o : Option ClientWords) (c : KeptClient) → IsClientOf o (Some c) → StandsFor c at_start
 stands_known None c is = absurd is
 stands_known (Some w) c is = is.1.1.0
 
 -- what the words say is known
-pub plans_known : (o : Option ClientWords) (c : Kept) (t : Taken) (old new : Told) (s : Status) (text : List ℕ) → IsClientOf o (Some c)
+pub plans_known : (o : Option ClientWords) (c : KeptClient) (t : Taken) (old new : Told) (s : Status) (text : List ℕ) → IsClientOf o (Some c)
     → ((w : ClientWords) → IsClientOf (Some w) (Some c) → Plans (client_command (Some w) t old new) s text) → Plans (client_command o t old new) s text
 plans_known None c t old new s text is f = absurd is
 plans_known (Some w) c t old new s text is f = f w is
 
-session_of : (w : ClientWords) (c : Kept) (script : List ℕ) (old new : Told) (end : SessionEnd) (printed : List ℕ) → c.id ≡ w.me → group_of c ≡ w.group
-    → IsSession (group_of c) c.id script old [] end new printed → IsSession w.group w.me script old [] end new printed
+session_of : (w : ClientWords) (c : KeptClient) (script : List ℕ) (old new : Told) (end : SessionEnd) (printed : List ℕ) → c.id ≡ w.me → kept_group c ≡ w.group
+    → IsSession (kept_group c) c.id script old [] end new printed → IsSession w.group w.me script old [] end new printed
 session_of w c script old new end printed id group s =
-    subst (λ (g : Group). IsSession g w.me script old [] end new printed) group (subst (λ (n : ℕ). IsSession (group_of c) n script old [] end new printed) id s)
+    subst (λ (g : Group). IsSession g w.me script old [] end new printed) group (subst (λ (n : ℕ). IsSession (kept_group c) n script old [] end new printed) id s)
 
 quiet_script : (t : Taken) (script : List ℕ) → IsScript t script → t.now ≡ t.before
 quiet_script t script is = elim is.1 [ inl whole ↦ whole.0 | inr past ↦ past.0 ]
@@ -99,8 +99,8 @@ plans_told w t old new (ends.GreetingRefused r) printed text did line = (refl, (
 plans_told w t old new ends.NoMemory printed text did line = ((quiet_script t did.0 did.1.0, inr (ends.NoMemory, (printed, did))), line)
 
 -- a session was done with the script that was read
-plans_session : (w : ClientWords) (c : Kept) (t : Taken) (script : List ℕ) (old new : Told) (s : Status) (text : List ℕ) → IsClientOf (Some w) (Some c) → IsScript t script
-    → (length script ≤ limit → IsReadWhole t) → TellsSession (group_of c) c.id script old new s text → Plans (client_command (Some w) t old new) s text
+plans_session : (w : ClientWords) (c : KeptClient) (t : Taken) (script : List ℕ) (old new : Told) (s : Status) (text : List ℕ) → IsClientOf (Some w) (Some c) → IsScript t script
+    → (length script ≤ script_limit → IsReadWhole t) → TellsSession (kept_group c) c.id script old new s text → Plans (client_command (Some w) t old new) s text
 plans_session w c t script old new s text is read whole tells = by_telling tells.1.1.1
   where
     x : IsSession w.group w.me script old [] tells.0 new tells.1.0
@@ -120,23 +120,23 @@ plans_session w c t script old new s text is read whole tells = by_telling tells
     by_telling (inr none) =
         subst (λ (r : Status). Plans (client_command (Some w) t old new) r text) (sym none.0) ((quiet_script t script read, inr (tells.0, (tells.1.0, did))), none.1)
 
-pub plans_whole : (w : ClientWords) (c : Kept) (t : Taken) (script : List ℕ) (old new : Told) (s : Status) (text : List ℕ) → IsClientOf (Some w) (Some c)
-    → InputGives t.old t.new t.before t.now t.ended (input.Whole script) → TellsSession (group_of c) c.id script old new s text → Plans (client_command (Some w) t old new) s text
+pub plans_whole : (w : ClientWords) (c : KeptClient) (t : Taken) (script : List ℕ) (old new : Told) (s : Status) (text : List ℕ) → IsClientOf (Some w) (Some c)
+    → InputGives t.old t.new t.before t.now t.ended (input.Whole script) → TellsSession (kept_group c) c.id script old new s text → Plans (client_command (Some w) t old new) s text
 plans_whole w c t script old new s text is read tells = plans_session w c t script old new s text is (read.0, inl (read.4, (read.2, read.1))) (λ few. (read.4, (read.2, read.1))) tells
 
-pub plans_long : (w : ClientWords) (c : Kept) (t : Taken) (script : List ℕ) (old new : Told) (s : Status) (text : List ℕ) → IsClientOf (Some w) (Some c)
-    → InputGives t.old t.new t.before t.now t.ended (input.TooLong script) → TellsSession (group_of c) c.id script old new s text → Plans (client_command (Some w) t old new) s text
+pub plans_long : (w : ClientWords) (c : KeptClient) (t : Taken) (script : List ℕ) (old new : Told) (s : Status) (text : List ℕ) → IsClientOf (Some w) (Some c)
+    → InputGives t.old t.new t.before t.now t.ended (input.TooLong script) → TellsSession (kept_group c) c.id script old new s text → Plans (client_command (Some w) t old new) s text
 plans_long w c t script old new s text is read tells = plans_session w c t script old new s text is (read.0, inr (read.2, read.1)) (λ few. let long = read.1 in absurd (omega (arith, few, long))) tells
 
 -- ---- where it ends well
 
-read_whole : (t : Taken) (script given : List ℕ) → IsScript t script → t.old ≡ Some given → length given ≤ limit → given ≡ script
+read_whole : (t : Taken) (script given : List ℕ) → IsScript t script → t.old ≡ Some given → length given ≤ script_limit → given ≡ script
 read_whole t script given is told few = by_end is.1
   where
     took : LeavesBehind script (Some given) t.new
     took = subst (λ (l : Option (List ℕ)). LeavesBehind script l t.new) told is.0
 
-    by_end : IsReadWhole t ⊎ ((t.now ≡ t.before) × (limit < length script)) → given ≡ script
+    by_end : IsReadWhole t ⊎ ((t.now ≡ t.before) × (script_limit < length script)) → given ≡ script
     by_end (inl whole) = told_whole t script is.0 whole.1.1 given told
     by_end (inr past) = let size = ap length took.2 ∙ length-append script took.0 in let long = past.1 in absurd (omega (arith, long, few, size))
 

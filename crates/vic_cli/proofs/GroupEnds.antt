@@ -3,7 +3,7 @@ use Rattle.std.proofs.Common.{◌≡◌, ℕ, ◌<◌, ◌⊎◌, Bool, true, fa
 use Rattle.std.specs.Prelude.{IfSome, IsSome}
 use Rattle.vic_ports.specs.Causes.{Rose, LeavesBehind}
 use Rattle.vic_ports.specs.Written.{AppendedAll}
-use Rattle.vic_script.specs.Run.{limit, Bad, Played, run_of, is_honest_script, bad_line_of, group_in, history_in, group_of, history_of}
+use Rattle.vic_script.specs.Run.{script_limit, Bad, ScriptRun, run_of, is_honest_script, bad_line_of, group_in, history_in, script_group, script_history}
 use Rattle.vic_script.specs.Print.{print_of, print_of_script, is_forged, all_views, all_agreements, tags_line, end_text}
 use Rattle.vic_wire.specs.Hashes.{Group}
 use Rattle.vic_rules.specs.declared.trace.TraceStep.{TraceStep}
@@ -31,7 +31,7 @@ use Rattle.vic_runs.proofs.Halted.{none_for_halting}
 use Rattle.vic_runs.proofs.Prints.{prints_returns}
 use Rattle.vic_group.specs.declared.play.End.{End}
 use Rattle.vic_group.specs.declared.play.End.TheVariants as end
-use Rattle.vic_group.specs.Playing.{ended_by, end_of}
+use Rattle.vic_group.specs.Playing.{end_by, end_of}
 use Rattle.vic_group.proofs.Spans.{run-front, long-bad}
 use Rattle.vic_text.specs.declared.status.Status.{Status}
 use Rattle.vic_text.specs.declared.status.Status.TheVariants as status
@@ -44,7 +44,7 @@ use Rattle.vic_cli.proofs.Command.{known_of, complete_of}
 -- ---- what was read, and the script
 
 -- what was read past the limit is a front of the script, and all that matters of it
-pub if_past : (P : Played → Type 0) (bytes : List ℕ) (old new : Option (List ℕ)) → limit < length bytes → LeavesBehind bytes old new → P (run_of bytes) → IfSome old (λ script. P (run_of script))
+pub if_past : (P : ScriptRun → Type 0) (bytes : List ℕ) (old new : Option (List ℕ)) → script_limit < length bytes → LeavesBehind bytes old new → P (run_of bytes) → IfSome old (λ script. P (run_of script))
 if_past P bytes None new more left p = tt
 if_past P bytes (Some script) new more left p = subst P (sym (ap run_of left.2 ∙ run-front bytes left.0 more)) p
 
@@ -58,15 +58,15 @@ if_told (Some other) script P same p = subst P (sym (same other refl)) p
 -- where a run ends so, its status is this
 pub tells_run : (script text : List ℕ) (e : End) (s : Status) → e ≡ end_of (run_of script) → text ≡ print_of_script script
     → (e ≡ end.Whole → s ≡ status.Ok) → (e ≡ end.Forged → s ≡ status.TagsNotMade) → (e ≡ end.Bad → s ≡ status.BadLine) → TellsRun script s text
-tells_run script text e s is prints whole forged bad = inl (by_end (bad_line_of script) refl (is_forged (group_of script) (history_of script)) refl, prints)
+tells_run script text e s is prints whole forged bad = inl (by_end (bad_line_of script) refl (is_forged (script_group script) (script_history script)) refl, prints)
   where
-    ends_by : (b : Option Bad) (f : Bool) → bad_line_of script ≡ b → is_forged (group_of script) (history_of script) ≡ f → e ≡ ended_by b f
-    ends_by b f at test = is ∙ ap (λ (o : Option Bad). ended_by o (is_forged (group_of script) (history_of script))) at ∙ ap (ended_by b) test
+    ends_by : (b : Option Bad) (f : Bool) → bad_line_of script ≡ b → is_forged (script_group script) (script_history script) ≡ f → e ≡ end_by b f
+    ends_by b f at test = is ∙ ap (λ (o : Option Bad). end_by o (is_forged (script_group script) (script_history script))) at ∙ ap (end_by b) test
 
-    status_by : (b : Option Bad) (f : Bool) → bad_line_of script ≡ b → is_forged (group_of script) (history_of script) ≡ f → run_status script ≡ status_of b f
-    status_by b f at test = ap (λ (o : Option Bad). status_of o (is_forged (group_of script) (history_of script))) at ∙ ap (status_of b) test
+    status_by : (b : Option Bad) (f : Bool) → bad_line_of script ≡ b → is_forged (script_group script) (script_history script) ≡ f → run_status script ≡ status_of b f
+    status_by b f at test = ap (λ (o : Option Bad). status_of o (is_forged (script_group script) (script_history script))) at ∙ ap (status_of b) test
 
-    by_end : (b : Option Bad) → bad_line_of script ≡ b → (f : Bool) → is_forged (group_of script) (history_of script) ≡ f → s ≡ run_status script
+    by_end : (b : Option Bad) → bad_line_of script ≡ b → (f : Bool) → is_forged (script_group script) (script_history script) ≡ f → s ≡ run_status script
     by_end (Some b) at f test = bad (ends_by (Some b) f at test) ∙ sym (status_by (Some b) f at test)
     by_end None at false test = whole (ends_by None false at test) ∙ sym (status_by None false at test)
     by_end None at true test = forged (ends_by None true at test) ∙ sym (status_by None true at test)
@@ -75,7 +75,7 @@ some_bad : (o : Option Bad) (b : Bad) → o ≡ Some b → IsSome o
 some_bad o b e = subst (λ (x : Option Bad). IsSome x) (sym e) refl
 
 -- what was read past the limit is a front of the script, and all that matters of it
-pub plans_past : (t : Taken) (bytes text : List ℕ) (s : Status) → LeavesBehind bytes t.old t.new → limit < length bytes → t.now ≡ t.before → TellsRun bytes s text → Plans (group_command true t) s text
+pub plans_past : (t : Taken) (bytes text : List ℕ) (s : Status) → LeavesBehind bytes t.old t.new → script_limit < length bytes → t.now ≡ t.before → TellsRun bytes s text → Plans (group_command true t) s text
 plans_past t bytes text s left more quiet tells = by_telling tells
   where
     bad_there : IsSome (run_of bytes).bad
@@ -87,23 +87,23 @@ plans_past t bytes text s left more quiet tells = by_telling tells
 
     by_telling : TellsRun bytes s text → Plans (group_command true t) s text
     by_telling (inl c) =
-        let is : s ≡ status.BadLine = c.0 ∙ is_bad (bad_line_of bytes) (is_forged (group_of bytes) (history_of bytes)) bad_there in
-        let print : IsPrint t HasBad text = if_past (λ (p : Played). IsSome p.bad × (text ≡ print_of p)) bytes t.old t.new more left (bad_there, c.1) in
+        let is : s ≡ status.BadLine = c.0 ∙ is_bad (bad_line_of bytes) (is_forged (script_group bytes) (script_history bytes)) bad_there in
+        let print : IsPrint t HasBad text = if_past (λ (p : ScriptRun). IsSome p.bad × (text ≡ print_of p)) bytes t.old t.new more left (bad_there, c.1) in
         subst (λ (x : Status). Plans (group_command true t) x text) (sym is) (refl, (inr (quiet, (bytes, (more, left))), print))
     by_telling (inr c) = subst (λ (x : Status). Plans (group_command true t) x text) (sym c.0) ((refl, quiet), c.1)
 
 -- a run that was read whole
 pub plans_whole : (t : Taken) (script text : List ℕ) (s : Status) → IsReadWhole t → ((other : List ℕ) → t.old ≡ Some other → other ≡ script) → TellsRun script s text → Plans (group_command true t) s text
 plans_whole t script text s whole same (inr c) = subst (λ (x : Status). Plans (group_command true t) x text) (sym c.0) ((refl, whole.0), c.1)
-plans_whole t script text s whole same (inl c) = by_run (bad_line_of script) refl (is_forged (group_of script) (history_of script)) refl
+plans_whole t script text s whole same (inl c) = by_run (bad_line_of script) refl (is_forged (script_group script) (script_history script)) refl
   where
-    is : (b : Option Bad) (f : Bool) → bad_line_of script ≡ b → is_forged (group_of script) (history_of script) ≡ f → s ≡ status_of b f
-    is b f at test = c.0 ∙ ap (λ (o : Option Bad). status_of o (is_forged (group_of script) (history_of script))) at ∙ ap (status_of b) test
+    is : (b : Option Bad) (f : Bool) → bad_line_of script ≡ b → is_forged (script_group script) (script_history script) ≡ f → s ≡ status_of b f
+    is b f at test = c.0 ∙ ap (λ (o : Option Bad). status_of o (is_forged (script_group script) (script_history script))) at ∙ ap (status_of b) test
 
     print : (Holds : List ℕ → Type 0) → Holds script → IsPrint t Holds text
     print Holds here = if_told t.old script (λ (l : List ℕ). Holds l × (text ≡ print_of_script l)) same (here, c.1)
 
-    by_run : (b : Option Bad) → bad_line_of script ≡ b → (f : Bool) → is_forged (group_of script) (history_of script) ≡ f → Plans (group_command true t) s text
+    by_run : (b : Option Bad) → bad_line_of script ≡ b → (f : Bool) → is_forged (script_group script) (script_history script) ≡ f → Plans (group_command true t) s text
     by_run (Some b) at f test = subst (λ (x : Status). Plans (group_command true t) x text) (sym (is (Some b) f at test)) (refl, (inl whole, print HasBad (some_bad (bad_line_of script) b at)))
     by_run None at false test = subst (λ (x : Status). Plans (group_command true t) x text) (sym (is None false at test)) (refl, (whole, print (IsDone false) (at, test)))
     by_run None at true test = subst (λ (x : Status). Plans (group_command true t) x text) (sym (is None true at test)) (refl, (whole, print (IsDone true) (at, test)))
@@ -117,7 +117,7 @@ told_of t Holds text script told p =
     here.0
 
 status_done : (script : List ℕ) (forged : Bool) → IsDone forged script → run_status script ≡ status_of None forged
-status_done script forged done = ap (λ (o : Option Bad). status_of o (is_forged (group_of script) (history_of script))) done.0 ∙ ap (status_of None) done.1
+status_done script forged done = ap (λ (o : Option Bad). status_of o (is_forged (script_group script) (script_history script))) done.0 ∙ ap (status_of None) done.1
 
 status_bad : (o : Option Bad) (f : Bool) → IsSome o → status_of o f ≡ status.BadLine
 status_bad None f some = absurd cc
@@ -128,7 +128,7 @@ rules_out : (right : Bool) (t : Taken) (planned s : Status) (text : List ℕ) �
 rules_out right t status.Ok s text c is due = inl (sym (due.1.1.1 ∙ status_done due.1.0 false (told_of t (IsDone false) text due.1.0 due.1.1.0 c.1)))
 rules_out right t status.TagsNotMade s text c is due = inl (sym (due.1.1.1 ∙ status_done due.1.0 true (told_of t (IsDone true) text due.1.0 due.1.1.0 c.1)))
 rules_out right t status.ReadFault s text c is due = absurd (due.0 c.0)
-rules_out right t status.BadLine s text c is due = inl (sym (due.1.1.1 ∙ status_bad (bad_line_of due.1.0) (is_forged (group_of due.1.0) (history_of due.1.0)) (told_of t HasBad text due.1.0 due.1.1.0 c.1)))
+rules_out right t status.BadLine s text c is due = inl (sym (due.1.1.1 ∙ status_bad (bad_line_of due.1.0) (is_forged (script_group due.1.0) (script_history due.1.0)) (told_of t HasBad text due.1.0 due.1.1.0 c.1)))
 rules_out right t status.NoMemory s text c is due = inr refl
 rules_out right t status.Usage s text c is due = absurd c
 rules_out right t status.WriteFault s text c is due = absurd c
@@ -205,7 +205,7 @@ is_output false t status.GreetingRefused text p = absurd p.1
 
 -- ---- the claim
 
-said_last : (p : Played) → p.bad ≡ None
+said_last : (p : ScriptRun) → p.bad ≡ None
     → print_of p ≡ p.text ++ (all_views (group_in p.scene) (history_in p.scene) ++ all_agreements (group_in p.scene) (history_in p.scene) ++ tags_line (is_forged (group_in p.scene) (history_in p.scene)))
 unfolding print_of
 said_last p good = ap (λ b. p.text ++ end_text (group_in p.scene) (history_in p.scene) b) good
@@ -233,24 +233,24 @@ claimed script =
     record {
       comes = scripts_come script;
       lawful = good.lawful;
-      paths = λ i j m n. hashes_tell_paths (group_of script) (history_of script) good.lawful.steps i j m n;
-      seals = seals_hold (group_of script) (history_of script) good.lawful;
+      paths = λ i j m n. hashes_tell_paths (script_group script) (script_history script) good.lawful.steps i j m n;
+      seals = seals_hold (script_group script) (script_history script) good.lawful;
       views = good.views;
-      fronts = held_before (group_of script) (history_of script) good.lawful;
-      complete = views_complete (group_of script) (history_of script) good.lawful;
-      only_calls = views_show_only_calls (group_of script) (history_of script) good.lawful;
-      agree = views_agree (group_of script) (history_of script) good.lawful;
-      real_time = views_in_order (group_of script) (history_of script) good.lawful;
-      once = completed_once (group_of script) (history_of script) good.lawful;
-      no_conflict = done_meets_no_conflict (group_of script) (history_of script) good.lawful;
-      stands = answers_stand (group_of script) (history_of script) good.lawful;
-      sealed = sealed_answers_stand (group_of script) (history_of script) good.lawful;
-      aborts = aborted_by_conflict (group_of script) (history_of script) good.lawful;
+      fronts = held_before (script_group script) (script_history script) good.lawful;
+      complete = views_complete (script_group script) (script_history script) good.lawful;
+      only_calls = views_show_only_calls (script_group script) (script_history script) good.lawful;
+      agree = views_agree (script_group script) (script_history script) good.lawful;
+      real_time = views_in_order (script_group script) (script_history script) good.lawful;
+      once = completed_once (script_group script) (script_history script) good.lawful;
+      no_conflict = done_meets_no_conflict (script_group script) (script_history script) good.lawful;
+      stands = answers_stand (script_group script) (script_history script) good.lawful;
+      sealed = sealed_answers_stand (script_group script) (script_history script) good.lawful;
+      aborts = aborted_by_conflict (script_group script) (script_history script) good.lawful;
       contents = good.loads;
-      asked = calls_are_asked (group_of script) (history_of script) good.lawful;
-      called = asked_are_called (group_of script) (history_of script) good.lawful;
-      agreed = agreements_reach (group_of script) (history_of script) good.lawful;
-      tags = is_forged-Decides (group_of script) (history_of script);
+      asked = calls_are_asked (script_group script) (script_history script) good.lawful;
+      called = asked_are_called (script_group script) (script_history script) good.lawful;
+      agreed = agreements_reach (script_group script) (script_history script) good.lawful;
+      tags = is_forged-Decides (script_group script) (script_history script);
       says_so = said_last (run_of script);
       prints = prints_returns script;
       honest = honestly script;

@@ -5,7 +5,7 @@ use Rattle.vic_rules.specs.History.{IsLawful}
 use Rattle.vic_conn.specs.Frames.{frames_of}
 use Rattle.vic_ports.specs.Causes.{Rose, LeavesBehind}
 use Rattle.vic_ports.specs.Links.{Told}
-use Rattle.vic_script.specs.Run.{limit}
+use Rattle.vic_script.specs.Run.{script_limit}
 use Rattle.vic_session.specs.declared.end.SessionEnd.{SessionEnd}
 use Rattle.vic_session.specs.declared.end.SessionEnd.TheVariants as ends
 use Rattle.vic_session.specs.Talks.{talk, talker}
@@ -21,7 +21,7 @@ use Rattle.vic_cli.specs.Command.{Command}
 
 -- the script that was read: all of the source with its end, or a front past the limit. No read failed
 abbrev pub IsScript : Taken → List ℕ → Type 0
-IsScript t script = LeavesBehind script t.old t.new × (IsReadWhole t ⊎ ((t.now ≡ t.before) × (limit < length script)))
+IsScript t script = LeavesBehind script t.old t.new × (IsReadWhole t ⊎ ((t.now ≡ t.before) × (script_limit < length script)))
 
 -- a session, of which the client's steps are a lawful history of it alone where the link tells its bytes
 pub record HasSession (w : ClientWords) (script : List ℕ) (old new : Told) (end : SessionEnd) (printed : List ℕ) : Type 0 where
@@ -53,7 +53,7 @@ Causes words t old new s text =
 pub record CanBeDone (w : ClientWords) (t : Taken) (old : Told) : Type 0 where
   pub script : List ℕ
   pub script_is : t.old ≡ Some script
-  pub few : length script ≤ limit
+  pub few : length script ≤ script_limit
   pub bytes : List ℕ
   pub bytes_are : old.left ≡ Some bytes
   pub served : IsServed w.group w.me script (frames_of bytes).0

@@ -1,7 +1,7 @@
 -- What the command of a drill does: it runs the drill that the words ask for, and prints its summary.
 use Rattle.std.specs.Prelude.{◌≡◌, ℕ, List, [], ◌∷◌, Option, Some, None, IsSome, IsSomeAnd, if◌then◌else◌, codes}
 use Rattle.std.specs.Str.{bytes_eq}
-use Rattle.vic_drill.specs.Drills.{print_of_drill, drill}
+use Rattle.vic_drill.specs.Drills.{print_of_drill, drill_of}
 use Rattle.vic_drill.specs.Laws.{IsHonestDrill}
 use Rattle.vic_text.specs.declared.status.Status.{Status}
 use Rattle.vic_text.specs.declared.status.Status.TheVariants as status
@@ -31,7 +31,7 @@ print_for a = print_of_drill a.number a.clients a.calls
 
 -- it is an honest run: no client halts, each call returned what becomes of it in the server's log, and more
 abbrev pub IsHonestFor : DrillWords → Type 0
-IsHonestFor a = IsHonestDrill (drill a.number a.clients a.calls)
+IsHonestFor a = IsHonestDrill (drill_of a.number a.clients a.calls)
 
 -- ---- the command's end
 

@@ -15,7 +15,7 @@ use Rattle.vic_ports.specs.Causes.{Rose}
 use Rattle.vic_order.specs.Scenes.{SceneOf}
 use Rattle.vic_order.specs.Honest.{ComesHonestly}
 use Rattle.vic_attacks.specs.Hostile.{Hostile}
-use Rattle.vic_script.specs.Run.{Bad, run_of, is_honest_script, group_of, history_of, bad_line_of}
+use Rattle.vic_script.specs.Run.{Bad, run_of, is_honest_script, script_group, script_history, bad_line_of}
 use Rattle.vic_script.specs.Print.{print_of_script, is_forged, all_views, all_agreements, tags_line}
 use Rattle.vic_runs.specs.Agreements.{AgreementsCountIn}
 use Rattle.vic_runs.specs.Reached.{GoesAs}
@@ -32,7 +32,7 @@ use Rattle.vic_cli.specs.Command.{Command}
 
 -- every line of a script is done, and this tells whether a tag was taken that no client had made before
 abbrev pub IsDone : Bool → List ℕ → Type 0
-IsDone forged script = (bad_line_of script ≡ None) × (is_forged (group_of script) (history_of script) ≡ forged)
+IsDone forged script = (bad_line_of script ≡ None) × (is_forged (script_group script) (script_history script) ≡ forged)
 
 -- a line of a script is bad
 abbrev pub HasBad : List ℕ → Type 0
@@ -59,7 +59,7 @@ status_of None false = status.Ok
 status_of None true = status.TagsNotMade
 
 abbrev pub run_status : List ℕ → Status
-run_status script = status_of (bad_line_of script) (is_forged (group_of script) (history_of script))
+run_status script = status_of (bad_line_of script) (is_forged (script_group script) (script_history script))
 
 abbrev pub group_command : Bool → Taken → Command
 group_command right t = record {
@@ -81,7 +81,7 @@ pub record IsHonest (script : List ℕ) : Type 0 where
   -- these are the events of its lines, one line after the other
   pub lines : (s : SceneOf Hostile) (is : (run_of script).scene ≡ Some s) → (comes s is).events ≡ script_events script
   -- every tag that a client took was made by a client before
-  pub tags_made : is_forged (group_of script) (history_of script) ≡ false
+  pub tags_made : is_forged (script_group script) (script_history script) ≡ false
   -- each client's path is the oldest entries of the server's log, up to some position
   pub anyway : (s : SceneOf Hostile) (is : (run_of script).scene ≡ Some s) → HoldsAnyway s.group s.history (comes s is).server
   -- and where contents are apart (in a group with objects no two different ones that clients sent have one hash; in a plain group none is
@@ -89,7 +89,7 @@ pub record IsHonest (script : List ℕ) : Type 0 where
   -- returned that a check failed, each load that returned a content returned the one that was stored last, and more
   pub holds : (s : SceneOf Hostile) (is : (run_of script).scene ≡ Some s) → AreApart s.group s.history → IsHonestScene s (comes s is).events (comes s is).server
   -- and then no line is bad for that its client has halted
-  pub none_halted : AreApart (group_of script) (history_of script) → (b : Bad) → bad_line_of script ≡ Some b → b.kind ≡ 3 → ⊥
+  pub none_halted : AreApart (script_group script) (script_history script) → (b : Bad) → bad_line_of script ≡ Some b → b.kind ≡ 3 → ⊥
 
 -- what holds of the run of a script, whatever its lines give, change, repeat or send again, and whatever servers they copy and join
 pub record IsAsClaimed (script : List ℕ) : Type 0 where
@@ -97,46 +97,46 @@ pub record IsAsClaimed (script : List ℕ) : Type 0 where
   -- line of the script names it, or doesn't
   pub comes : (s : SceneOf Hostile) → (run_of script).scene ≡ Some s → ComesOf script s (script_events script)
   -- its clients step by the rules
-  pub lawful : IsLawful (group_of script) (history_of script)
+  pub lawful : IsLawful (script_group script) (script_history script)
   -- two fronts of its clients' paths that have one hash are equal, or two listed texts collide
-  pub paths : HashesTellPathsIn (group_of script) (history_of script)
+  pub paths : HashesTellPathsIn (script_group script) (script_history script)
   -- each seal that a client took or made holds, unless a tag was forged or two listed texts collide
-  pub seals : SealsHoldIn (group_of script) (history_of script)
+  pub seals : SealsHoldIn (script_group script) (script_history script)
   -- the claim on the views of all clients
-  pub views : Headline (group_of script) (history_of script)
+  pub views : Headline (script_group script) (script_history script)
   -- and so at each earlier moment of the run
-  pub fronts : (later earlier : List TraceStep) → history_of script ≡ later ++ earlier → IsLawful (group_of script) earlier × Headline (group_of script) earlier
+  pub fronts : (later earlier : List TraceStep) → script_history script ≡ later ++ earlier → IsLawful (script_group script) earlier × Headline (script_group script) earlier
   -- of which these need no exception: each view has each call that its client completed, once, and only calls that were made and
   -- returned so, and every two views agree up to each call in both
-  pub complete : (me : ℕ) → HasAll (group_of script) me (history_of script) (view_of (group_of script) me (history_of script))
-  pub only_calls : (me : ℕ) → ShowsOnlyCalls (group_of script) (history_of script) (view_of (group_of script) me (history_of script))
-  pub agree : (i j : ℕ) → Agree (view_of (group_of script) i (history_of script)) (view_of (group_of script) j (history_of script))
+  pub complete : (me : ℕ) → HasAll (script_group script) me (script_history script) (view_of (script_group script) me (script_history script))
+  pub only_calls : (me : ℕ) → ShowsOnlyCalls (script_group script) (script_history script) (view_of (script_group script) me (script_history script))
+  pub agree : (i j : ℕ) → Agree (view_of (script_group script) i (script_history script)) (view_of (script_group script) j (script_history script))
   -- and this only that no tag was forged: each view keeps real-time order
-  pub real_time : (IsForged (group_of script) (history_of script) → ⊥) → (me : ℕ) → IsInRealTime (group_of script) (history_of script) (view_of (group_of script) me (history_of script))
+  pub real_time : (IsForged (script_group script) (script_history script) → ⊥) → (me : ℕ) → IsInRealTime (script_group script) (script_history script) (view_of (script_group script) me (script_history script))
   -- a call has at most one completion
-  pub once : CompletedOnceIn (group_of script) (history_of script)
+  pub once : CompletedOnceIn (script_group script) (script_history script)
   -- a call that is done conflicts with no entry of another client above the seal of its Reply and below the call
-  pub no_conflict : DoneMeetsNoConflictIn (group_of script) (history_of script)
+  pub no_conflict : DoneMeetsNoConflictIn (script_group script) (script_history script)
   -- so its answer is that of the Reply's part after its client's own done calls above the seal, whichever of those entries take effect
-  pub stands : AnswersStandIn (group_of script) (history_of script)
+  pub stands : AnswersStandIn (script_group script) (script_history script)
   -- and, unless a tag was forged or two listed texts collide, that of what the calls up to the seal leave, after the same
-  pub sealed : SealedAnswersStandIn (group_of script) (history_of script)
+  pub sealed : SealedAnswersStandIn (script_group script) (script_history script)
   -- a call is aborted exactly by the least entry of another client, above the seal of its Reply and below the call, that conflicts with it
-  pub aborts : AbortedByConflictIn (group_of script) (history_of script)
+  pub aborts : AbortedByConflictIn (script_group script) (script_history script)
   -- in a group with objects each content that a load returned is that of the last done store of its name before the load's get, in its
   -- client's view, unless a tag was forged or two listed texts collide
-  pub contents : LoadsGetTheLastIn (group_of script) (history_of script)
+  pub contents : LoadsGetTheLastIn (script_group script) (script_history script)
   -- a client calls what it is asked for and nothing else, and the numbers of its calls rise by one
-  pub asked : CallsAreAskedIn (group_of script) (history_of script)
-  pub called : (later : List TraceStep) (x : TraceStep) (past : List TraceStep) → history_of script ≡ later ++ x ∷ past → CallsWhatItIsAsked (group_of script) past x
+  pub asked : CallsAreAskedIn (script_group script) (script_history script)
+  pub called : (later : List TraceStep) (x : TraceStep) (past : List TraceStep) → script_history script ≡ later ++ x ∷ past → CallsWhatItIsAsked (script_group script) past x
   -- each call that stands in two clients' views stands within the number that is printed for the two
-  pub agreed : AgreementsCountIn (group_of script) (history_of script)
+  pub agreed : AgreementsCountIn (script_group script) (script_history script)
   -- the test that decides between the statuses 0 and 1, and that the print tells, is true exactly where a tag is forged
-  pub tags : (is_forged (group_of script) (history_of script) ≡ true) ↔ IsForged (group_of script) (history_of script)
+  pub tags : (is_forged (script_group script) (script_history script) ≡ true) ↔ IsForged (script_group script) (script_history script)
   -- where no line is bad, the print has what the lines printed, the views, how far they agree, and that test's answer
   pub says_so : bad_line_of script ≡ None → print_of_script script ≡ (run_of script).text
-      ++ (all_views (group_of script) (history_of script) ++ all_agreements (group_of script) (history_of script) ++ tags_line (is_forged (group_of script) (history_of script)))
+      ++ (all_views (script_group script) (script_history script) ++ all_agreements (script_group script) (script_history script) ++ tags_line (is_forged (script_group script) (script_history script)))
   -- what the lines printed is what the steps returned in which clients took payloads, the oldest first
-  pub prints : (run_of script).text ≡ flat_map line_of_step (reverse (history_of script))
+  pub prints : (run_of script).text ≡ flat_map line_of_step (reverse (script_history script))
   -- where no line tampers, it is as with one honest server
   pub honest : is_honest_script script ≡ true → IsHonest script

@@ -2,7 +2,7 @@
 use Rattle.std.specs.Prelude.{◌≡◌, ℕ, ◌<◌, ◌⊎◌, Bool, true, List, length, Option}
 use Rattle.vic_ports.specs.Causes.{Rose, IsSpent, LeavesBehind}
 use Rattle.vic_ports.specs.Written.{AppendedAll, AppendedFront}
-use Rattle.vic_script.specs.Run.{limit}
+use Rattle.vic_script.specs.Run.{script_limit}
 use Rattle.vic_text.specs.declared.status.Status.{Status}
 use Rattle.vic_text.specs.declared.status.Status.TheVariants as status
 use Rattle.vic_cli.specs.declared.output.Text.{Text}
@@ -33,7 +33,7 @@ IsReadWhole t = (t.now ≡ t.before) × ((t.ended ≡ true) × IsSpent t.new)
 
 -- more was taken than a script may have, and no read failed
 abbrev pub IsReadPast : Taken → Type 0
-IsReadPast t = (t.now ≡ t.before) × ((bytes : List ℕ) × ((limit < length bytes) × LeavesBehind bytes t.old t.new))
+IsReadPast t = (t.now ≡ t.before) × ((bytes : List ℕ) × ((script_limit < length bytes) × LeavesBehind bytes t.old t.new))
 
 -- what is told of a sink before and after
 pub record Given : Type 0 where

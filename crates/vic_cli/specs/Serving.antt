@@ -8,7 +8,7 @@ use Rattle.vic_ports.specs.Causes.{Rose}
 use Rattle.vic_ports.specs.Links.{Told, Lines}
 use Rattle.vic_gate.specs.declared.worker.WorkEnd.{WorkEnd}
 use Rattle.vic_gate.specs.declared.worker.WorkEnd.TheVariants as ends
-use Rattle.vic_server.specs.Replay.{Kept, opening}
+use Rattle.vic_server.specs.Replay.{KeptServer, opening_server}
 use Rattle.vic_hall.specs.Hosting.{Visited, lines}
 use Rattle.vic_hall.specs.Runs.{IsRun}
 use Rattle.vic_script.specs.Words.{newline}
@@ -60,7 +60,7 @@ is_no_memory ends.BadFrame = false
 is_no_memory ends.NoMemory = true
 
 -- the lines, of the connections, of the server at the end and of how the workers ended
-abbrev pub serve_text : ℕ → Kept → List WorkEnd → List ℕ
+abbrev pub serve_text : ℕ → KeptServer → List WorkEnd → List ℕ
 serve_text connections k ends =
     told_line (codes "connections ") connections
     ++ told_line (codes "ordered ") (size k.server)
@@ -88,10 +88,10 @@ opened_by lines faults old new = opened_of (lines old) (lines new) (faults old) 
 
 -- so many lines came, were served by one server of the kind and the clients that were asked for, and went back, in order, and no
 -- accept failed; and the text tells of it
-abbrev pub IsServed : Asked → Opened → Kept → List ℕ → Type 0
+abbrev pub IsServed : Asked → Opened → KeptServer → List ℕ → Type 0
 IsServed a d k text =
     (d.now ≡ d.before) × ((l : Lines) × ((worked : List WorkEnd) × (Visited l d.old d.new
-    × (IsRun a.connections (opening a.kind a.clients false) l worked k × (text ≡ serve_text a.connections k worked)))))
+    × (IsRun a.connections (opening_server a.kind a.clients false) l worked k × (text ≡ serve_text a.connections k worked)))))
 
 -- each line that came went back as it came
 abbrev pub IsUnserved : Opened → Type 0
@@ -103,20 +103,20 @@ IsUntouched d = (d.new ≡ d.old) × (d.now ≡ d.before)
 
 -- what was asked for was done, though nothing tells of it
 abbrev pub WasServed : Asked → Opened → Type 0
-WasServed a d = (k : Kept) × ((text : List ℕ) × IsServed a d k text)
+WasServed a d = (k : KeptServer) × ((text : List ℕ) × IsServed a d k text)
 
 -- ---- the command's end
 
 -- with status 0 all was served, and where a server is kept, it is the one that the text tells of; with 7 an accept failed. Memory
 -- runs out before the first accept, or after all was served
-abbrev pub Causes : Option Asked → Opened → Option Kept → Status → List ℕ → Type 0
+abbrev pub Causes : Option Asked → Opened → Option KeptServer → Status → List ℕ → Type 0
 Causes asked d kept status.Ok text =
-    IsSomeAnd asked (λ a. (k : Kept) × (IsServed a d k text × IfSome kept (λ x. x ≡ k)))
+    IsSomeAnd asked (λ a. (k : KeptServer) × (IsServed a d k text × IfSome kept (λ x. x ≡ k)))
 Causes asked d kept status.LinkFault text = Rose d.before d.now × (IsUnserved d × (text ≡ link_fault_line))
 Causes asked d kept status.NoMemory text = IsSomeAnd asked (λ a. IsUntouched d ⊎ WasServed a d)
 Causes asked d kept s text = ⊥
 
-abbrev pub serve_command : Option Asked → Opened → Option Kept → Command
+abbrev pub serve_command : Option Asked → Opened → Option KeptServer → Command
 serve_command asked d kept = record {
   right = IsSome asked;
   untouched = IsUntouched d;

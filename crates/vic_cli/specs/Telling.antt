@@ -6,7 +6,7 @@ use Rattle.vic_wire.specs.Hashes.{Group}
 use Rattle.vic_ports.specs.Links.{Told}
 use Rattle.vic_script.specs.Words.{space, newline}
 use Rattle.vic_script.specs.Print.{bad_line}
-use Rattle.vic_script.specs.Run.{limit}
+use Rattle.vic_script.specs.Run.{script_limit}
 use Rattle.vic_session.specs.declared.end.SessionEnd.{SessionEnd}
 use Rattle.vic_session.specs.declared.end.SessionEnd.TheVariants as ends
 use Rattle.vic_session.specs.Sessions.{IsSession}
@@ -49,4 +49,4 @@ TellsEnd end printed s text = ((s ≡ status_by end) × (text ≡ text_by end pr
 
 -- a session was done, over a script within the limit where it ended well, and is told so; or memory ran out in telling it
 abbrev pub TellsSession : Group → ℕ → List ℕ → Told → Told → Status → List ℕ → Type 0
-TellsSession g me script old new s text = (end : SessionEnd) × ((printed : List ℕ) × ((IsSession g me script old [] end new printed × (end ≡ ends.Ok → length script ≤ limit)) × TellsEnd end printed s text))
+TellsSession g me script old new s text = (end : SessionEnd) × ((printed : List ℕ) × ((IsSession g me script old [] end new printed × (end ≡ ends.Ok → length script ≤ script_limit)) × TellsEnd end printed s text))

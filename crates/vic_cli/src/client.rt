@@ -3,7 +3,7 @@
 ghost use Rattle.std.specs.Prelude.{◌≡◌, Some, None, map, string_bytes};
 ghost use Rattle.vic_ports.specs.InputGives.{TakesAtMost, most_taken};
 ghost use Rattle.vic_rules.specs.Client.{at_start};
-ghost use Rattle.vic_client.specs.Kept.{StandsFor, group_of};
+ghost use Rattle.vic_client.specs.Kept.{StandsFor, kept_group};
 ghost use Rattle.vic_cli.specs.Output.{taken_by, given_by, text_bytes};
 ghost use Rattle.vic_cli.specs.ClientWords.{ClientWords, client_words, IsClientOf};
 ghost use Rattle.vic_cli.specs.Command.{Plans, Ends, IsComplete};
@@ -15,7 +15,7 @@ use crate::session::compose_session;
 use std::alloc::Global;
 use vic_client::Client;
 use vic_dict::NoMemory;
-use vic_ports::{Input, Link, Sink, Source, read_input};
+use vic_ports::{InputRead, Link, Sink, Source, read_input};
 use vic_text::Status;
 
 // Reads a script, and does the client's session with it.
@@ -32,10 +32,10 @@ fn compose_client<S: Source, L: Link>(
     ensures taken { TakesAtMost most_taken (S.left source.old) (S.left source.new) }
 {
     match read_input(alloc, source) {
-        Input::Whole(script) => compose_session(alloc, client, script.as_slice(), link),
-        Input::TooLong(front) => compose_session(alloc, client, front.as_slice(), link),
-        Input::Fault => Composed::of(Status::ReadFault),
-        Input::NoMemory => Composed::of(Status::NoMemory),
+        InputRead::Whole(script) => compose_session(alloc, client, script.as_slice(), link),
+        InputRead::TooLong(front) => compose_session(alloc, client, front.as_slice(), link),
+        InputRead::Fault => Composed::of(Status::ReadFault),
+        InputRead::NoMemory => Composed::of(Status::NoMemory),
     }
 }
 

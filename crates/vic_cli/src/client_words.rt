@@ -3,7 +3,7 @@
 ghost use Rattle.std.specs.Prelude.{◌≡◌, ◌<◌, ◌≤◌, ◌&&◌, ℕ, List, [], ◌∷◌, length, map, string_bytes, codes, IfOk, IfSome};
 ghost use Rattle.std.specs.Str.{bytes_eq};
 ghost use Rattle.vic_cli.specs.Arguments.{is_address as address_test, mode_of as mode_by, number_in as number_by};
-ghost use Rattle.vic_cli.specs.ClientWords.{client_words, counted, joined, key_in, IsClientOf};
+ghost use Rattle.vic_cli.specs.ClientWords.{client_words, words_with_count, words_of_parts, key_in, IsClientOf};
 
 use crate::arguments::{is_address, mode_of, number_in, small_number};
 use std::alloc::Global;
@@ -45,7 +45,7 @@ fn member_of(
 ) -> Result<Option<Client>, NoMemory>
     requires some { 0 < count }
     requires most { count ≤ 64 }
-    ensures { (address : List ℕ) → IfOk result (λ c. IsClientOf (joined address count (number_by count id.now) (key_in key.now) (mode_by mode.now)) c) }
+    ensures { (address : List ℕ) → IfOk result (λ c. IsClientOf (words_of_parts address count (number_by count id.now) (key_in key.now) (mode_by mode.now)) c) }
 {
     let Some(me) = number_in(id, count) else {
         return Ok(None);

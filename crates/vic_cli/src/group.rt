@@ -10,7 +10,7 @@ ghost use Rattle.vic_cli.specs.GroupEnds.{group_command, IsAsClaimed, TellsRun, 
 use crate::output::{Composed, Text, finish};
 use std::alloc::Global;
 use vic_group::play::{End, play};
-use vic_ports::{Input, MemorySink, MemorySource, NeverFails, Sink, Source, read_input};
+use vic_ports::{InputRead, MemorySink, MemorySource, NeverFails, Sink, Source, read_input};
 use vic_text::Status;
 use vic_text::word::is_name;
 
@@ -52,10 +52,10 @@ fn compose<S: Source>(alloc: Global, right: bool, source: &mut S) -> Composed
         return Composed::of(Status::Usage);
     }
     match read_input(alloc, source) {
-        Input::Whole(script) => compose_run(alloc, script.as_slice()),
-        Input::TooLong(front) => compose_run(alloc, front.as_slice()),
-        Input::Fault => Composed::of(Status::ReadFault),
-        Input::NoMemory => Composed::of(Status::NoMemory),
+        InputRead::Whole(script) => compose_run(alloc, script.as_slice()),
+        InputRead::TooLong(front) => compose_run(alloc, front.as_slice()),
+        InputRead::Fault => Composed::of(Status::ReadFault),
+        InputRead::NoMemory => Composed::of(Status::NoMemory),
     }
 }
 

@@ -2,7 +2,7 @@
 
 ghost use Rattle.std.specs.Prelude.{◌≡◌, ◌++◌, [], OnOk};
 ghost use Rattle.vic_rules.specs.Client.{at_start};
-ghost use Rattle.vic_client.specs.Kept.{StandsFor, group_of};
+ghost use Rattle.vic_client.specs.Kept.{StandsFor, kept_group};
 ghost use Rattle.vic_cli.specs.Output.{text_bytes};
 ghost use Rattle.vic_cli.specs.Telling.{status_by, end_line, TellsEnd, TellsSession};
 
@@ -90,7 +90,7 @@ pub fn compose_session<L: Link>(
     link: &mut L,
 ) -> Composed
     requires { StandsFor client.old at_start }
-    ensures { TellsSession (group_of client.old) client.old.id script.now (L.told link.old) (L.told link.new) result.status (text_bytes result.text) }
+    ensures { TellsSession (kept_group client.old) client.old.id script.now (L.told link.old) (L.told link.new) result.status (text_bytes result.text) }
 {
     let mut out = Bytes::new(alloc);
     let end = run_lines(alloc, client, script, link, &mut out);

@@ -11,7 +11,7 @@ use Rattle.vic_chain.specs.Held.{Held, ShowsPath}
 
 -- who it is, its group, the window of its path, its own calls that aren't sealed, what it awaits, how often it called, how far its
 -- call on objects has come, and the check at which it halted
-pub record Kept : Type 0 where
+pub record KeptClient : Type 0 where
   pub id : ℕ
   pub count : ℕ
   pub mode : Mode
@@ -24,12 +24,12 @@ pub record Kept : Type 0 where
   pub halted : Option ℕ
 
 -- the group that it is in
-abbrev pub group_of : Kept → Group
-group_of c = record { mode = c.mode; count = c.count; key = c.key }
+abbrev pub kept_group : KeptClient → Group
+kept_group c = record { mode = c.mode; count = c.count; key = c.key }
 
 -- the window shows the path of the standing, and all else is the standing's own
-pub record StandsFor (c : Kept) (s : Standing) : Type 0 where
-  pub path : ShowsPath (group_of c) s.path c.window
+pub record StandsFor (c : KeptClient) (s : Standing) : Type 0 where
+  pub path : ShowsPath (kept_group c) s.path c.window
   pub sealed : s.sealed ≡ c.window.sealed
   pub root : s.root ≡ c.window.root
   pub own : s.own ≡ c.own
@@ -39,18 +39,18 @@ pub record StandsFor (c : Kept) (s : Standing) : Type 0 where
   pub halted : s.halted ≡ c.halted
 
 -- the client awaits nothing and has not halted
-abbrev pub is_idle : Kept → Bool
+abbrev pub is_idle : KeptClient → Bool
 is_idle c = awaits_nothing c.awaiting && is_none c.halted
 
 -- the same client of the same group
-pub record IsSame (old new : Kept) : Type 0 where
+pub record IsSameClient (old new : KeptClient) : Type 0 where
   pub id : new.id ≡ old.id
-  pub group : group_of new ≡ group_of old
+  pub group : kept_group new ≡ kept_group old
 
 -- the move that a client's step makes from where it stands
-abbrev pub move_of : Kept → Standing → Input → Move
-move_of c s given = step (group_of c) c.id s given
+abbrev pub kept_move : KeptClient → Standing → Input → Move
+kept_move c s given = step (kept_group c) c.id s given
 
 -- what is sent at a move
-abbrev pub sent_at : Kept → Move → Option (List ℕ)
-sent_at c v = payload_of (group_of c) c.id v.next v.sends
+abbrev pub sent_at : KeptClient → Move → Option (List ℕ)
+sent_at c v = payload_of (kept_group c) c.id v.next v.sends

@@ -3,7 +3,7 @@
 ghost use Rattle.std.specs.Prelude.{◌≡◌, ◌+◌, ◌<◌, ◌^◌, IsSome, IfSome, IfOk};
 ghost use Rattle.vic_dict.specs.Dictionary.{Fits};
 ghost use Rattle.vic_rules.specs.declared.object.Phase.{Phase as APhase};
-ghost use Rattle.vic_rules.specs.Client.{Standing, calls_op};
+ghost use Rattle.vic_rules.specs.Client.{Standing, move_to_call};
 ghost use Rattle.vic_checks.specs.State.{StandsForState};
 ghost use Rattle.vic_client.specs.Sound.{PhaseFits};
 ghost use Rattle.vic_client.specs.Hearing.{IsSoundState, IsPendingIn, Hears};
@@ -34,7 +34,7 @@ pub(crate) fn call_op(
     ensures pending { (p : APhase) → PhaseFits calls p → IfOk result (λ r. IsPendingIn state.now calls p r.effect state.now) }
     ensures sends { IfOk result (λ p. IsSome p.step.send) }
     ensures fits { IfOk result (λ p. IfSome p.step.send FitsFrame) }
-    ensures taken { (s : Standing) → StandsForState state.now s → s.calls ≡ calls → IfOk result (λ p. Hears state.now p state.now s (calls_op s turned op load)) }
+    ensures taken { (s : Standing) → StandsForState state.now s → s.calls ≡ calls → IfOk result (λ p. Hears state.now p state.now s (move_to_call s turned op load)) }
 {
     let seq = calls + 1;
     let sent = invoke_payload(alloc, state, seq, &op)?;

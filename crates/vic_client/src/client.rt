@@ -2,16 +2,16 @@
 
 ghost use Rattle.std.specs.Prelude.{◌≡◌, ◌<◌, ◌≤◌, ◌+◌, ◌^◌, ℕ, IsTrue, IsSome, IfSome, IfOk, OnOk, OnErr, Ok, Some, None, length};
 ghost use Rattle.vic_dict.specs.Dictionary.{Fits};
-ghost use Rattle.vic_chain.specs.Held.{held_length, advanced};
-ghost use Rattle.vic_rules.specs.Client.{Standing, at_start, calls_op};
+ghost use Rattle.vic_chain.specs.Held.{held_length, held_sealed_at};
+ghost use Rattle.vic_rules.specs.Client.{Standing, at_start, move_to_call};
 ghost use Rattle.vic_rules.specs.Objects.{FitsObject};
 ghost use Rattle.vic_rules.specs.declared.object.ObjectCall.TheVariants as object;
 ghost use Rattle.vic_rules.specs.declared.trace.Input.{Input as AnInput};
 ghost use Rattle.vic_rules.specs.declared.trace.Input.TheVariants as input;
 ghost use Rattle.vic_client.specs.Sound.{PhaseFits};
-ghost use Rattle.vic_client.specs.Kept.{StandsFor, IsSame, is_idle, group_of, move_of, sent_at};
+ghost use Rattle.vic_client.specs.Kept.{StandsFor, IsSameClient, is_idle, kept_group, kept_move, sent_at};
 ghost use Rattle.vic_client.specs.Shows.{Shows};
-ghost use Rattle.vic_client.specs.Pending.{CanKeep, CanSeal, FitsFrame, IsPendingOf, kept, forgotten, turned_from};
+ghost use Rattle.vic_client.specs.Pending.{CanKeep, CanSeal, FitsFrame, IsPendingOf, after_keeping, after_forgetting, phase_turned};
 
 use crate::calling::call_op;
 use crate::hearing::hear;
@@ -39,10 +39,10 @@ pub struct Client {
 }
 
 impl Model for Client {
-    ghost use Rattle.vic_client.specs.Kept.{Kept};
+    ghost use Rattle.vic_client.specs.Kept.{KeptClient};
     ghost use Rattle.vic_client.specs.Sound.{IsSound, PhaseFits};
 
-    ghost Value = { Kept };
+    ghost Value = { KeptClient };
 
     ghost view = { λ a. record { id = a.state.id; count = a.state.count; mode = a.state.mode; key = a.state.key; window = a.state.window; own = a.state.own; awaiting = a.state.awaiting; calls = a.calls; phase = a.proxy; halted = a.halted } };
 
@@ -56,7 +56,7 @@ impl Client {
         requires member { id ≤ count }
         requires few { count ≤ 64 }
         ensures id { result.id ≡ id }
-        ensures group { group_of result ≡ record { mode = mode; count = count; key = key } }
+        ensures group { kept_group result ≡ record { mode = mode; count = count; key = key } }
         ensures stands { StandsFor result at_start }
     {
         Client {
@@ -81,7 +81,7 @@ impl Client {
         requires fits { Fits op }
         requires few { self.now.calls + 1 < 2 ^ 32 }
         requires going { (calls : ℕ) → PhaseFits calls proxy }
-        ensures planned { (given : AnInput) → ((s : Standing) → move_of self.now s given ≡ calls_op s proxy op load)
+        ensures planned { (given : AnInput) → ((s : Standing) → kept_move self.now s given ≡ move_to_call s proxy op load)
             → IfOk result (λ p. IsPendingOf self.now p self.now given) }
         ensures sends { IfOk result (λ p. IsSome p.step.send) }
         ensures fits { IfOk result (λ p. IfSome p.step.send FitsFrame) }
@@ -198,7 +198,7 @@ impl Client {
     /// Keeps the step that is pending: it is made. It takes no memory; it costs what the entries cost that it seals.
     pub fn keep(&mut self, pending: Pending) -> Step
         requires { CanKeep pending.effect self.old }
-        ensures client { self.new ≡ kept pending.effect self.old }
+        ensures client { self.new ≡ after_keeping pending.effect self.old }
         ensures step { result ≡ pending.step }
     {
         let Pending { step, effect } = pending;
@@ -209,7 +209,7 @@ impl Client {
     // What keeping a step makes of the client.
     fn become_kept(&mut self, effect: Effect)
         requires { CanKeep effect self.old }
-        ensures { self.new ≡ kept effect self.old }
+        ensures { self.new ≡ after_keeping effect self.old }
     {
         match effect {
             Effect::Stays => (),
@@ -249,8 +249,8 @@ impl Client {
 
     // Moves the call on objects, where it moves.
     fn turn(&mut self, turned: Option<Proxy>)
-        requires { PhaseFits self.old.calls (turned_from self.old.phase turned) }
-        ensures { self.new ≡ record self.old { phase = turned_from self.old.phase turned } }
+        requires { PhaseFits self.old.calls (phase_turned self.old.phase turned) }
+        ensures { self.new ≡ record self.old { phase = phase_turned self.old.phase turned } }
     {
         if let Some(proxy) = turned {
             self.proxy = proxy;
@@ -261,7 +261,7 @@ impl Client {
     fn keep_sent(&mut self, pending: Pending) -> Bytes
         requires can { CanKeep pending.effect self.old }
         requires sends { IsSome pending.step.send }
-        ensures client { self.new ≡ kept pending.effect self.old }
+        ensures client { self.new ≡ after_keeping pending.effect self.old }
         ensures sent { Some result ≡ pending.step.send }
     {
         self.keep(pending).send.unwrap()
@@ -271,7 +271,7 @@ impl Client {
     /// entries cost that came onto the path.
     pub fn forget(&mut self, pending: Pending)
         requires { CanKeep pending.effect self.old }
-        ensures { self.new ≡ forgotten pending.effect self.old }
+        ensures { self.new ≡ after_forgetting pending.effect self.old }
     {
         match pending.effect {
             Effect::Replies { length, .. } => {
@@ -290,11 +290,11 @@ impl Client {
         requires plain { self.old.mode ≡ Mode.Plain }
         requires fits { Fits op.now }
         requires few { self.old.calls + 1 < 2 ^ 32 }
-        ensures same { IsSame self.old self.new }
+        ensures same { IsSameClient self.old self.new }
         ensures err { OnErr result (self.new ≡ self.old) }
-        ensures sent { (s : Standing) → StandsFor self.old s → IfOk result (λ b. Some b ≡ sent_at self.old (move_of self.old s (input.Call op.now))) }
+        ensures sent { (s : Standing) → StandsFor self.old s → IfOk result (λ b. Some b ≡ sent_at self.old (kept_move self.old s (input.Call op.now))) }
         ensures fits { IfOk result FitsFrame }
-        ensures stands { (s : Standing) → StandsFor self.old s → OnOk result (StandsFor self.new (move_of self.old s (input.Call op.now)).next) }
+        ensures stands { (s : Standing) → StandsFor self.old s → OnOk result (StandsFor self.new (kept_move self.old s (input.Call op.now)).next) }
     {
         let pending = self.plan_call(alloc, op)?;
         Ok(self.keep_sent(pending))
@@ -308,11 +308,11 @@ impl Client {
         requires objects { self.old.mode ≡ Mode.Objects }
         requires fits { FitsObject call.now }
         requires few { self.old.calls + 1 < 2 ^ 32 }
-        ensures same { IsSame self.old self.new }
+        ensures same { IsSameClient self.old self.new }
         ensures err { OnErr result (self.new ≡ self.old) }
-        ensures sent { (s : Standing) → StandsFor self.old s → IfOk result (λ b. Some b ≡ sent_at self.old (move_of self.old s (input.Object call.now))) }
+        ensures sent { (s : Standing) → StandsFor self.old s → IfOk result (λ b. Some b ≡ sent_at self.old (kept_move self.old s (input.Object call.now))) }
         ensures fits { IfOk result FitsFrame }
-        ensures stands { (s : Standing) → StandsFor self.old s → OnOk result (StandsFor self.new (move_of self.old s (input.Object call.now)).next) }
+        ensures stands { (s : Standing) → StandsFor self.old s → OnOk result (StandsFor self.new (kept_move self.old s (input.Object call.now)).next) }
     {
         let pending = self.plan_object(alloc, call)?;
         Ok(self.keep_sent(pending))
@@ -322,11 +322,11 @@ impl Client {
     #[tactic(auto, using(crate::proofs::Pendings::stands_kept))]
     pub fn poll(&mut self, alloc: Global) -> Result<Bytes, NoMemory>
         requires { IsTrue (is_idle self.old) }
-        ensures same { IsSame self.old self.new }
+        ensures same { IsSameClient self.old self.new }
         ensures err { OnErr result (self.new ≡ self.old) }
-        ensures sent { (s : Standing) → StandsFor self.old s → IfOk result (λ b. Some b ≡ sent_at self.old (move_of self.old s input.Poll)) }
+        ensures sent { (s : Standing) → StandsFor self.old s → IfOk result (λ b. Some b ≡ sent_at self.old (kept_move self.old s input.Poll)) }
         ensures fits { IfOk result FitsFrame }
-        ensures stands { (s : Standing) → StandsFor self.old s → OnOk result (StandsFor self.new (move_of self.old s input.Poll).next) }
+        ensures stands { (s : Standing) → StandsFor self.old s → OnOk result (StandsFor self.new (kept_move self.old s input.Poll).next) }
     {
         let pending = self.plan_poll(alloc)?;
         Ok(self.keep_sent(pending))
@@ -336,11 +336,11 @@ impl Client {
     #[tactic(auto, using(crate::proofs::Pendings::stands_kept))]
     pub fn sync(&mut self, alloc: Global) -> Result<Bytes, NoMemory>
         requires { IsTrue (is_idle self.old) }
-        ensures same { IsSame self.old self.new }
+        ensures same { IsSameClient self.old self.new }
         ensures err { OnErr result (self.new ≡ self.old) }
-        ensures sent { (s : Standing) → StandsFor self.old s → IfOk result (λ b. Some b ≡ sent_at self.old (move_of self.old s input.Sync)) }
+        ensures sent { (s : Standing) → StandsFor self.old s → IfOk result (λ b. Some b ≡ sent_at self.old (kept_move self.old s input.Sync)) }
         ensures fits { IfOk result FitsFrame }
-        ensures stands { (s : Standing) → StandsFor self.old s → OnOk result (StandsFor self.new (move_of self.old s input.Sync).next) }
+        ensures stands { (s : Standing) → StandsFor self.old s → OnOk result (StandsFor self.new (kept_move self.old s input.Sync).next) }
     {
         let pending = self.plan_sync(alloc)?;
         Ok(self.keep_sent(pending))
@@ -349,8 +349,8 @@ impl Client {
     /// Takes a payload that is said to come from the server, whatever it holds. A halted client answers the same number again.
     /// After want of memory the client is as before, and the payload may be given again.
     pub fn take(&mut self, alloc: Global, payload: &[u8]) -> Result<Step, NoMemory>
-        ensures same { IsSame self.old self.new }
-        ensures taken { (s : Standing) → StandsFor self.old s → IfOk result (λ r. Shows self.old r self.new (move_of self.old s (input.Payload payload.now))) }
+        ensures same { IsSameClient self.old self.new }
+        ensures taken { (s : Standing) → StandsFor self.old s → IfOk result (λ r. Shows self.old r self.new (kept_move self.old s (input.Payload payload.now))) }
         ensures fits { IfOk result (λ r. IfSome r.send FitsFrame) }
         ensures halted { (k : ℕ) → self.old.halted ≡ Some k → (result ≡ Ok (record { send = None; returned = Some (Outcome.Halted k); object = None })) × (self.new ≡ self.old) }
         ensures err { OnErr result (self.new ≡ self.old) }
@@ -430,7 +430,7 @@ impl Client {
 // Moves the seal of the window; what is awaited then.
 fn seal_to(state: &mut State, position: u32, root: &Digest32, awaiting: Awaiting)
     requires { CanSeal state.old.window position }
-    ensures { state.new ≡ record state.old { window = advanced state.old.window position root.now.bytes; awaiting = awaiting } }
+    ensures { state.new ≡ record state.old { window = held_sealed_at state.old.window position root.now.bytes; awaiting = awaiting } }
 {
     state.window.advance(position, root);
     state.awaiting = awaiting;

@@ -9,9 +9,9 @@ ghost use Rattle.vic_rules.specs.Objects.{is_calling as calls_now, reference_tex
 ghost use Rattle.vic_wire.specs.Messages.{HasSpelling};
 ghost use Rattle.vic_wire.specs.Parts.{read_part as part_read};
 ghost use Rattle.vic_chain.specs.Held.{held_length};
-ghost use Rattle.vic_rules.specs.Client.{Standing, grown, replied, updated, shows_open, shows_own, taken, taken_or_halts, waited, refused_at, calls_op};
-ghost use Rattle.vic_checks.specs.State.{group_of, StandsForState};
-ghost use Rattle.vic_checks.specs.Parted.{part_of as part_by, part_in, seen, IsGrammar, IsAbove};
+ghost use Rattle.vic_rules.specs.Client.{Standing, path_with_entries, move_on_reply, move_on_update, has_open_op, has_own_op, move_on_answer, move_on_verdict, move_on_wait, move_on_refusal, move_to_call};
+ghost use Rattle.vic_checks.specs.State.{state_group, StandsForState};
+ghost use Rattle.vic_checks.specs.Parted.{part_of as part_by, part_in, part_seen, IsGrammar, IsAbove};
 ghost use Rattle.vic_checks.specs.Passing.{IsFormed, IsTurn, IsShownTo};
 ghost use Rattle.vic_client.specs.Sound.{PhaseFits};
 ghost use Rattle.vic_client.specs.Hearing.{IsSoundState, IsPendingIn, StandsIn, Hears, op_in, judged_move, heard_move};
@@ -34,7 +34,7 @@ use vic_wire::{Digest32, Seal, TaggedList, ToClient, ToServer};
 // The part that the bytes spell, if they spell one.
 #[tactic(auto, unfolding(vic_wire::specs::Parts::read_part))]
 fn read_part(alloc: Global, bytes: &[u8]) -> Result<Option<Pruned>, NoMemory>
-    ensures exact { IfOk result (λ part. seen part ≡ part_read bytes.now) }
+    ensures exact { IfOk result (λ part. part_seen part ≡ part_read bytes.now) }
     ensures grammar { IfOk result (λ part. IfSome part IsGrammar) }
 {
     match vic_proof::part_of(alloc, bytes) {
@@ -50,7 +50,7 @@ fn read_part(alloc: Global, bytes: &[u8]) -> Result<Option<Pruned>, NoMemory>
 
 // The part that an answer carries, if its bytes are one.
 fn part_of(alloc: Global, message: Option<&ToClient>) -> Result<Option<Pruned>, NoMemory>
-    ensures exact { IfOk result (λ part. seen part ≡ part_in (option_copied message.entry)) }
+    ensures exact { IfOk result (λ part. part_seen part ≡ part_in (option_copied message.entry)) }
     ensures grammar { IfOk result (λ part. IfSome part IsGrammar) }
 {
     match message {
@@ -90,11 +90,11 @@ fn hear_reply(
     requires formed { IsFormed (held_length state.old.window) state.old.awaiting (is_some part) (ToClient.Reply seal.now entries.now []) }
     requires above { state.old.window.sealed ≤ seal.now.position }
     requires grammar { IfSome part IsGrammar }
-    requires shown { shows_open (seen part) state.old.awaiting ≡ true }
+    requires shown { has_open_op (part_seen part) state.old.awaiting ≡ true }
     ensures sound { IsSoundState state.new }
     ensures pending { (calls : ℕ) (p : APhase) → PhaseFits calls p → IfOk result (λ r. IsPendingIn state.old calls p r.effect state.new) }
     ensures fits { IfOk result (λ p. IfSome p.step.send FitsFrame) }
-    ensures taken { (s : Standing) → StandsForState state.old s → calls_now s.phase ≡ calling → IfOk result (λ p. Hears state.old p state.new s (replied state.old.id s seal.now (grown s entries.now) (seen part) s.awaiting)) }
+    ensures taken { (s : Standing) → StandsForState state.old s → calls_now s.phase ≡ calling → IfOk result (λ p. Hears state.old p state.new s (move_on_reply state.old.id s seal.now (path_with_entries s entries.now) (part_seen part) s.awaiting)) }
     ensures err { OnErr result (state.new ≡ state.old) }
 {
     match (awaited_op(alloc, &state.awaiting)?, part) {
@@ -113,10 +113,10 @@ fn hear_update(
     requires above { state.now.window.sealed ≤ seal.now.position }
     requires turn { IsTurn state.now (ToClient.Update seal.now []) }
     requires grammar { IfSome part IsGrammar }
-    requires shown { shows_own (seen part) state.now.own ≡ true }
+    requires shown { has_own_op (part_seen part) state.now.own ≡ true }
     ensures pending { (calls : ℕ) (p : APhase) → PhaseFits calls p → IfOk result (λ r. IsPendingIn state.now calls p r.effect state.now) }
     ensures fits { IfOk result (λ p. IfSome p.step.send FitsFrame) }
-    ensures taken { (s : Standing) → StandsForState state.now s → IfOk result (λ p. Hears state.now p state.now s (updated s seal.now (seen part) s.own)) }
+    ensures taken { (s : Standing) → StandsForState state.now s → IfOk result (λ p. Hears state.now p state.now s (move_on_update s seal.now (part_seen part) s.own)) }
 {
     match part {
         Some(part) => take_update(alloc, state, seal, &part),
@@ -129,7 +129,7 @@ fn fetch(alloc: Global, state: &State, hash: &Digest32, len: u32) -> Result<Pend
     requires sound { IsSoundState state.now }
     ensures pending { (calls : ℕ) (p : APhase) → PhaseFits calls p → IfOk result (λ r. IsPendingIn state.now calls p r.effect state.now) }
     ensures fits { IfOk result (λ p. IfSome p.step.send FitsFrame) }
-    ensures taken { (s : Standing) → StandsForState state.now s → IfOk result (λ p. Hears state.now p state.now s (waited s (phase.Fetching hash.now len))) }
+    ensures taken { (s : Standing) → StandsForState state.now s → IfOk result (λ p. Hears state.now p state.now s (move_on_wait s (phase.Fetching hash.now len))) }
 {
     let wanted = Digest32 { bytes: hash.bytes };
     let sent = request_payload(alloc, &ToServer::Fetch(wanted))?;
@@ -141,7 +141,7 @@ fn hear_wait(alloc: Global, state: &State, proxy: &Proxy) -> Result<Pending, NoM
     requires sound { IsSoundState state.now }
     ensures pending { (calls : ℕ) → PhaseFits calls proxy.now → IfOk result (λ r. IsPendingIn state.now calls proxy.now r.effect state.now) }
     ensures fits { IfOk result (λ p. IfSome p.step.send FitsFrame) }
-    ensures taken { (s : Standing) → StandsForState state.now s → s.phase ≡ proxy.now → IfOk result (λ p. Hears state.now p state.now s (waited s s.phase)) }
+    ensures taken { (s : Standing) → StandsForState state.now s → s.phase ≡ proxy.now → IfOk result (λ p. Hears state.now p state.now s (move_on_wait s s.phase)) }
 {
     match proxy.phase() {
         Phase::Fetching(hash, len) => fetch(alloc, state, hash, *len),
@@ -164,7 +164,7 @@ fn put_reference(
     ensures pending { IfOk result (λ r. IsPendingIn state.now calls (phase.Keeping name.now hash.now len) r.effect state.now) }
     ensures fits { IfOk result (λ p. IfSome p.step.send FitsFrame) }
     ensures taken { (s : Standing) → StandsForState state.now s → s.calls ≡ calls
-        → IfOk result (λ p. Hears state.now p state.now s (calls_op s phase.Calling (op.Put name.now (reference_text hash.now.bytes len)) false)) }
+        → IfOk result (λ p. Hears state.now p state.now s (move_to_call s phase.Calling (op.Put name.now (reference_text hash.now.bytes len)) false)) }
 {
     let hash = Digest32 { bytes: hash.bytes };
     let op = Op::Put(name.copy(alloc)?, reference(alloc, &hash, len)?);
@@ -177,7 +177,7 @@ fn hear_kept(alloc: Global, state: &State, calls: u32, proxy: &Proxy) -> Result<
     ensures pending { IfOk result (λ r. IsPendingIn state.now calls proxy.now r.effect state.now) }
     ensures fits { IfOk result (λ p. IfSome p.step.send FitsFrame) }
     ensures taken { (s : Standing) → StandsForState state.now s → s.calls ≡ calls → s.phase ≡ proxy.now
-        → IfOk result (λ p. Hears state.now p state.now s (taken state.now.id s ToClient.Kept)) }
+        → IfOk result (λ p. Hears state.now p state.now s (move_on_answer state.now.id s ToClient.Kept)) }
 {
     match proxy.phase() {
         Phase::Keeping(name, hash, len) => put_reference(alloc, state, calls, name, hash, *len),
@@ -190,7 +190,7 @@ fn hear_refused(state: &State, calling: bool, reason: u8) -> Pending
     requires sound { IsSoundState state.now }
     ensures pending { (calls : ℕ) (p : APhase) → PhaseFits calls p → IsPendingIn state.now calls p result.effect state.now }
     ensures fits { IfSome result.step.send FitsFrame }
-    ensures taken { (s : Standing) → StandsForState state.now s → calls_now s.phase ≡ calling → Hears state.now result state.now s (refused_at s reason s.awaiting) }
+    ensures taken { (s : Standing) → StandsForState state.now s → calls_now s.phase ≡ calling → Hears state.now result state.now s (move_on_refusal s reason s.awaiting) }
 {
     match &state.awaiting {
         Awaiting::Kept => Pending::ends(None, ObjectOutcome::Refused(reason)),
@@ -217,16 +217,16 @@ fn hear_message(
     requires sound { IsSoundState state.old }
     requires going { PhaseFits calls proxy.now }
     requires spelled { HasSpelling message }
-    requires part { seen part ≡ part_by message }
+    requires part { part_seen part ≡ part_by message }
     requires grammar { IfSome part IsGrammar }
-    requires shown { IsShownTo (seen part) state.old message }
+    requires shown { IsShownTo (part_seen part) state.old message }
     requires formed { IsFormed (held_length state.old.window) state.old.awaiting (is_some part) message }
     requires above { IsAbove state.old.window.sealed message }
     requires turn { IsTurn state.old message }
     ensures sound { IsSoundState state.new }
     ensures pending { IfOk result (λ p. IsPendingIn state.old calls proxy.now p.effect state.new) }
     ensures fits { IfOk result (λ p. IfSome p.step.send FitsFrame) }
-    ensures taken { (s : Standing) → StandsIn state.old calls proxy.now s → IfOk result (λ p. Hears state.old p state.new s (taken state.old.id s message)) }
+    ensures taken { (s : Standing) → StandsIn state.old calls proxy.now s → IfOk result (λ p. Hears state.old p state.new s (move_on_answer state.old.id s message)) }
     ensures err { OnErr result (state.new ≡ state.old) }
 {
     match message {
@@ -260,9 +260,9 @@ fn hear_passed(
     requires sound { IsSoundState state.old }
     requires going { PhaseFits calls proxy.now }
     requires spelled { IfSome message HasSpelling }
-    requires part { seen part ≡ part_in message }
+    requires part { part_seen part ≡ part_in message }
     requires grammar { IfSome part IsGrammar }
-    requires shown { IfSome message (IsShownTo (seen part) state.old) }
+    requires shown { IfSome message (IsShownTo (part_seen part) state.old) }
     requires formed { IfSome message (IsFormed (held_length state.old.window) state.old.awaiting (is_some part)) }
     requires above { IfSome message (IsAbove state.old.window.sealed) }
     requires turn { IfSome message (IsTurn state.old) }
@@ -270,7 +270,7 @@ fn hear_passed(
     ensures pending { IfOk result (λ p. IsPendingIn state.old calls proxy.now p.effect state.new) }
     ensures fits { IfOk result (λ p. IfSome p.step.send FitsFrame) }
     ensures taken { (s : Standing) → StandsIn state.old calls proxy.now s
-        → IfOk result (λ p. Hears state.old p state.new s (taken_or_halts state.old.id s message None)) }
+        → IfOk result (λ p. Hears state.old p state.new s (move_on_verdict state.old.id s message None)) }
     ensures err { OnErr result (state.new ≡ state.old) }
 {
     match message {
@@ -291,13 +291,13 @@ fn hear_read(
     requires sound { IsSoundState state.old }
     requires going { PhaseFits calls proxy.now }
     requires spelled { IfSome message HasSpelling }
-    requires part { seen part ≡ part_in message }
+    requires part { part_seen part ≡ part_in message }
     requires grammar { IfSome part IsGrammar }
     ensures sound { IsSoundState state.new }
     ensures pending { IfOk result (λ p. IsPendingIn state.old calls proxy.now p.effect state.new) }
     ensures fits { IfOk result (λ p. IfSome p.step.send FitsFrame) }
     ensures taken { (s : Standing) → StandsIn state.old calls proxy.now s
-        → IfOk result (λ p. Hears state.old p state.new s (judged_move (group_of state.old) state.old.id s message)) }
+        → IfOk result (λ p. Hears state.old p state.new s (judged_move (state_group state.old) state.old.id s message)) }
     ensures err { OnErr result (state.new ≡ state.old) }
 {
     match judge(state, message.as_ref(), part.as_ref()) {
@@ -322,7 +322,7 @@ pub(crate) fn hear(
     ensures pending { IfOk result (λ p. IsPendingIn state.old calls proxy.now p.effect state.new) }
     ensures fits { IfOk result (λ p. IfSome p.step.send FitsFrame) }
     ensures taken { (s : Standing) → StandsIn state.old calls proxy.now s
-        → IfOk result (λ p. Hears state.old p state.new s (heard_move (group_of state.old) state.old.id s payload.now)) }
+        → IfOk result (λ p. Hears state.old p state.new s (heard_move (state_group state.old) state.old.id s payload.now)) }
     ensures err { OnErr result (state.new ≡ state.old) }
 {
     let message = decode_answer(alloc, payload)?;

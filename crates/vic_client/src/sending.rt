@@ -5,7 +5,7 @@ ghost use Rattle.vic_dict.specs.Dictionary.{Fits};
 ghost use Rattle.vic_wire.specs.Messages.{HasRequestSpelling, request_text};
 ghost use Rattle.vic_chain.specs.Held.{ShowsPath, held_length};
 ghost use Rattle.vic_rules.specs.Client.{Standing, request_of, Invokes, Commits, Seals, Syncs};
-ghost use Rattle.vic_checks.specs.State.{group_of};
+ghost use Rattle.vic_checks.specs.State.{state_group};
 ghost use Rattle.vic_client.specs.Pending.{FitsFrame};
 
 use std::alloc::Global;
@@ -34,8 +34,8 @@ pub(crate) fn invoke_payload(
 ) -> Result<Bytes, NoMemory>
     requires fits { Fits op.now }
     requires number { 0 < seq }
-    ensures sent { (s : Standing) → ShowsPath (group_of state.now) s.path state.now.window
-        → IfOk result (λ b. b ≡ request_text (request_of (group_of state.now) state.now.id s (Invokes seq op.now))) }
+    ensures sent { (s : Standing) → ShowsPath (state_group state.now) s.path state.now.window
+        → IfOk result (λ b. b ≡ request_text (request_of (state_group state.now) state.now.id s (Invokes seq op.now))) }
     ensures fits { IfOk result FitsFrame }
 {
     op.are_bytes();
@@ -57,8 +57,8 @@ pub(crate) fn invoke_payload(
 /// The Commit of the call at the end of the path.
 pub(crate) fn commit_payload(alloc: Global, state: &State, done: bool) -> Result<Bytes, NoMemory>
     requires { 0 < held_length state.now.window }
-    ensures sent { (s : Standing) → ShowsPath (group_of state.now) s.path state.now.window
-        → IfOk result (λ b. b ≡ request_text (request_of (group_of state.now) state.now.id s (Commits done))) }
+    ensures sent { (s : Standing) → ShowsPath (state_group state.now) s.path state.now.window
+        → IfOk result (λ b. b ≡ request_text (request_of (state_group state.now) state.now.id s (Commits done))) }
     ensures fits { IfOk result FitsFrame }
 {
     let position = state.window.length();
@@ -84,8 +84,8 @@ pub(crate) fn seal_payload(
     requires some { 0 < position }
     requires above { state.now.window.sealed ≤ position }
     requires within { position ≤ held_length state.now.window }
-    ensures sent { (s : Standing) → ShowsPath (group_of state.now) s.path state.now.window → s.sealed ≡ position → s.root ≡ root.bytes
-        → IfOk result (λ b. b ≡ request_text (request_of (group_of state.now) state.now.id s Seals)) }
+    ensures sent { (s : Standing) → ShowsPath (state_group state.now) s.path state.now.window → s.sealed ≡ position → s.root ≡ root.bytes
+        → IfOk result (λ b. b ≡ request_text (request_of (state_group state.now) state.now.id s Seals)) }
     ensures fits { IfOk result FitsFrame }
 {
     let chained = state.window.hash_at(position);
@@ -102,8 +102,8 @@ pub(crate) fn seal_payload(
 
 /// The Sync from the length of the path on.
 pub(crate) fn sync_payload(alloc: Global, state: &State) -> Result<Bytes, NoMemory>
-    ensures sent { (s : Standing) → ShowsPath (group_of state.now) s.path state.now.window
-        → IfOk result (λ b. b ≡ request_text (request_of (group_of state.now) state.now.id s Syncs)) }
+    ensures sent { (s : Standing) → ShowsPath (state_group state.now) s.path state.now.window
+        → IfOk result (λ b. b ≡ request_text (request_of (state_group state.now) state.now.id s Syncs)) }
     ensures fits { IfOk result FitsFrame }
 {
     let known = state.window.length();

@@ -7,15 +7,15 @@ ghost use Rattle.vic_wire.specs.Hashes.{Group};
 ghost use Rattle.vic_wire.specs.Parts.{IsPart, reaches};
 ghost use Rattle.vic_prune.specs.Parts.{part as shown};
 ghost use Rattle.vic_wire.specs.Messages.{IsTagged};
-ghost use Rattle.vic_chain.specs.Held.{ShowsPath, held_length, cut_to};
+ghost use Rattle.vic_chain.specs.Held.{ShowsPath, held_length, held_cut_to};
 ghost use Rattle.vic_wire.specs.Messages.{request_text};
-ghost use Rattle.vic_rules.specs.Client.{Standing, onto, grown, request_of, Commits, sealed_to, listed_to, new_root, shows_own, is_write as writes, is_done as done_of};
+ghost use Rattle.vic_rules.specs.Client.{Standing, onto, path_with_entries, request_of, Commits, move_to_seal, move_on_entries, new_root, has_own_op, is_write as writes, is_done as done_of};
 ghost use Rattle.vic_rules.specs.declared.state.Own.{Own as AnOwn};
 ghost use Rattle.vic_rules.specs.declared.object.Phase.{Phase as APhase};
-ghost use Rattle.vic_rules.specs.Objects.{is_calling, after_decision, ended_by, over_with as over};
-ghost use Rattle.vic_checks.specs.State.{group_of, StandsForState};
+ghost use Rattle.vic_rules.specs.Objects.{is_calling, after_decision, outcome_after_decision, final_outcome};
+ghost use Rattle.vic_checks.specs.State.{state_group, StandsForState};
 ghost use Rattle.vic_client.specs.Sound.{PhaseFits};
-ghost use Rattle.vic_client.specs.Pending.{FitsFrame, turned_from};
+ghost use Rattle.vic_client.specs.Pending.{FitsFrame, phase_turned};
 ghost use Rattle.vic_client.specs.Hearing.{IsSoundState, IsPendingIn, Hears, reply_move};
 
 use crate::pending::{Effect, Pending};
@@ -38,7 +38,7 @@ pub(crate) fn extend_all(window: &mut Window, items: &[Tagged]) -> Result<(), No
     ensures length { OnOk result (held_length window.new ≡ held_length window.old + length items.now) }
     ensures ok { (g : Group) (s : Standing) → ShowsPath g s.path window.old → OnOk result (ShowsPath g (onto items.now s.path) window.new) }
     // What was put onto it can be taken off again.
-    ensures back { OnOk result (cut_to window.new (held_length window.old) ≡ window.old) }
+    ensures back { OnOk result (held_cut_to window.new (held_length window.old) ≡ window.old) }
     ensures sealed { window.new.sealed ≡ window.old.sealed }
     ensures err { OnErr result (window.new ≡ window.old) }
 {
@@ -62,8 +62,8 @@ fn own_call(alloc: Global, state: &mut State, op: Op, done: bool) -> Result<Byte
     requires fits { Fits op }
     ensures own { OnOk result (state.new ≡ record state.old { own = state.old.own ++ record { position = held_length state.old.window; op = op; done = done } ∷ [] }) }
     ensures err { OnErr result (state.new ≡ state.old) }
-    ensures sent { (s : Standing) → ShowsPath (group_of state.old) s.path state.old.window
-        → IfOk result (λ b. b ≡ request_text (request_of (group_of state.old) state.old.id s (Commits done))) }
+    ensures sent { (s : Standing) → ShowsPath (state_group state.old) s.path state.old.window
+        → IfOk result (λ b. b ≡ request_text (request_of (state_group state.old) state.old.id s (Commits done))) }
     ensures fits { IfOk result FitsFrame }
 {
     let sent = commit_payload(alloc, state, done)?;
@@ -87,9 +87,9 @@ struct Behind {
 
 // What becomes of a call on objects when an operation is decided, which is its own where it is calling.
 fn turned_by(alloc: Global, calling: bool, outcome: &Outcome) -> Result<Behind, NoMemory>
-    ensures turned { (p : APhase) → is_calling p ≡ calling → IfOk result (λ b. turned_from p b.turned ≡ after_decision p outcome.now) }
-    ensures object { (p : APhase) → is_calling p ≡ calling → IfOk result (λ b. b.object ≡ ended_by p outcome.now) }
-    ensures fits { (calls : ℕ) (p : APhase) → PhaseFits calls p → IfOk result (λ b. PhaseFits calls (turned_from p b.turned)) }
+    ensures turned { (p : APhase) → is_calling p ≡ calling → IfOk result (λ b. phase_turned p b.turned ≡ after_decision p outcome.now) }
+    ensures object { (p : APhase) → is_calling p ≡ calling → IfOk result (λ b. b.object ≡ outcome_after_decision p outcome.now) }
+    ensures fits { (calls : ℕ) (p : APhase) → PhaseFits calls p → IfOk result (λ b. PhaseFits calls (phase_turned p b.turned)) }
 {
     if !calling {
         return Ok(Behind {
@@ -107,7 +107,7 @@ fn turned_by(alloc: Global, calling: bool, outcome: &Outcome) -> Result<Behind, 
 
 // The outcome with which a call on objects is over, if it is.
 fn over_with(next: Next) -> Option<ObjectOutcome>
-    ensures { result ≡ over next }
+    ensures { result ≡ final_outcome next }
 {
     match next {
         Next::Return(outcome) => Some(outcome),
@@ -194,13 +194,13 @@ pub(crate) fn take_update(
     requires sound { IsSoundState state.now }
     requires some { 0 < length state.now.own }
     requires grammar { IsPart (shown part.now) }
-    requires reached { shows_own (Some (shown part.now)) state.now.own ≡ true }
+    requires reached { has_own_op (Some (shown part.now)) state.now.own ≡ true }
     requires above { state.now.window.sealed ≤ seal.now.position }
     requires within { seal.now.position + 1 ≤ held_length state.now.window }
     ensures pending { (calls : ℕ) (p : APhase) → PhaseFits calls p → IfOk result (λ r. IsPendingIn state.now calls p r.effect state.now) }
     ensures fits { IfOk result (λ p. IfSome p.step.send FitsFrame) }
     ensures taken { (s : Standing) (o : AnOwn) (others : List AnOwn) → StandsForState state.now s → s.own ≡ o ∷ others
-        → IfOk result (λ p. Hears state.now p state.now s (sealed_to s (seal.now.position + 1) (new_root o (shown part.now) seal.now.root.bytes) others)) }
+        → IfOk result (λ p. Hears state.now p state.now s (move_to_seal s (seal.now.position + 1) (new_root o (shown part.now) seal.now.root.bytes) others)) }
 {
     let length = state.window.length();
     let within = seal.position < length;
@@ -234,7 +234,7 @@ pub(crate) fn take_entries(
     ensures pending { (calls : ℕ) (p : APhase) → PhaseFits calls p → IfOk result (λ r. IsPendingIn state.old calls p r.effect state.new) }
     ensures fits { IfOk result (λ p. IfSome p.step.send FitsFrame) }
     ensures taken { (s : Standing) → StandsForState state.old s
-        → IfOk result (λ p. Hears state.old p state.new s (listed_to s (grown s entries.now) seal.now.position seal.now.root.bytes)) }
+        → IfOk result (λ p. Hears state.old p state.new s (move_on_entries s (path_with_entries s entries.now) seal.now.position seal.now.root.bytes)) }
     ensures err { OnErr result (state.new ≡ state.old) }
 {
     let length = state.window.length();

@@ -14,7 +14,7 @@ use Rattle.std.proofs.lemmas.Slice.Eq.{bytes_eq-Decides}
 use Rattle.vic_dict.specs.declared.op.Op.{Op}
 use Rattle.vic_dict.specs.declared.op.Op.TheVariants as op
 use Rattle.vic_dict.specs.declared.op.Answer.TheVariants as answer
-use Rattle.vic_dict.specs.Dictionary.{Dictionary, reply, after, found, gone}
+use Rattle.vic_dict.specs.Dictionary.{Dictionary, reply, after, answer_of_get, answer_of_del}
 use Rattle.vic_wire.specs.Conflict.{conflicts, looks_at, is_met, changed_key}
 use Rattle.vic_commute.specs.Commutes.{Commutes}
 
@@ -132,8 +132,8 @@ same_passing p d e alike =
 -- alike dictionaries give the operation the same answer
 pub reply_alike : (o : Op) (d e : Dictionary) → Alike o d e → reply d o ≡ reply e o
 reply_alike (op.Put k v) d e alike = refl
-reply_alike (op.Get k) d e alike = ap found (alike k (own_key k))
-reply_alike (op.Del k) d e alike = ap gone (alike k (own_key k))
+reply_alike (op.Get k) d e alike = ap answer_of_get (alike k (own_key k))
+reply_alike (op.Del k) d e alike = ap answer_of_del (alike k (own_key k))
 reply_alike (op.List p) d e alike = ap answer.Names (same_passing (λ k. starts_with nat_eq k p) d e alike)
 
 -- ---- either order

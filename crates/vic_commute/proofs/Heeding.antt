@@ -8,7 +8,7 @@ use Rattle.std.proofs.lemmas.Slice.Eq.{bytes_eq-Decides}
 use Rattle.vic_dict.specs.declared.op.Op.{Op}
 use Rattle.vic_dict.specs.declared.op.Op.TheVariants as op
 use Rattle.vic_dict.specs.declared.op.Answer.TheVariants as answer
-use Rattle.vic_dict.specs.Dictionary.{Dictionary, nothing, reply, after, found, gone}
+use Rattle.vic_dict.specs.Dictionary.{Dictionary, nothing, reply, after, answer_of_get, answer_of_del}
 use Rattle.vic_wire.specs.Conflict.{conflicts, looks_at, is_met, changed_key, heeds, is_heeded, blocks}
 use Rattle.vic_commute.specs.Commutes.{BeginsWith}
 use Rattle.vic_commute.specs.Blocks.{DifferAtMostAt, after_all, NotBlocked, BlocksConflict, BlocksAre, Heeds, by_get, by_del, by_list}
@@ -57,8 +57,8 @@ unblocked_after o x d e away alike k h = alike k h ∙ sym (get-after x e k ∙ 
 -- alike dictionaries give the operation the same answer
 pub heeded_reply : (o : Op) (d e : Dictionary) → HeededAlike o d e → reply d o ≡ reply e o
 heeded_reply (op.Put k v) d e alike = refl
-heeded_reply (op.Get k) d e alike = ap found (alike k (own_key k))
-heeded_reply (op.Del k) d e alike = ap gone (alike k (own_key k))
+heeded_reply (op.Get k) d e alike = ap answer_of_get (alike k (own_key k))
+heeded_reply (op.Del k) d e alike = ap answer_of_del (alike k (own_key k))
 heeded_reply (op.List p) d e alike = ap answer.Names (same_passing (λ k. starts_with nat_eq k p) d e alike)
 
 -- ---- blocks

@@ -18,7 +18,7 @@ use Rattle.std.specs.Prelude.{T, ◌&&◌, slice_get}
 use Rattle.std.specs.Prelude.{map as map_list}
 use Rattle.vic_dict.specs.Lists.{AreBytes}
 use Rattle.vic_dict.specs.Dictionary.{IsKey, Dictionary, nothing}
-use Rattle.vic_dict.specs.Rows.{Row, bytes_cmp, place_in, later, spot, AreFit, AreByteRows, IsTable, is_past}
+use Rattle.vic_dict.specs.Rows.{Row, bytes_cmp, place_in, spot_after_row, spot, AreFit, AreByteRows, IsTable, is_past}
 
 abbrev the_map : List Row → Dictionary
 the_map es = map.from_sorted es
@@ -112,7 +112,7 @@ gap_first k e es p h = record {
   finds = ap (λ o. cond (is_eq o) (Some e.1) (find bytes_cmp k es)) p ∙ find_below_all k es (below_later k e es p h);
 }
 
-next_spot : (k : List ℕ) (e : Row) (es : List Row) (r : Result ℕ ℕ) → bytes_cmp k e.0 ≡ Greater → MatchResult r (IsAt k es) (IsGap k es) → MatchResult (later r) (IsAt k (e ∷ es)) (IsGap k (e ∷ es))
+next_spot : (k : List ℕ) (e : Row) (es : List Row) (r : Result ℕ ℕ) → bytes_cmp k e.0 ≡ Greater → MatchResult r (IsAt k es) (IsGap k es) → MatchResult (spot_after_row r) (IsAt k (e ∷ es)) (IsGap k (e ∷ es))
 next_spot k e es (Ok i) p h = at_next k e es i p h
 next_spot k e es (Err i) p h = gap_next k e es i p h
 
@@ -121,7 +121,7 @@ pub spotted : (k : List ℕ) (es : List Row) → is_sorted bytes_cmp es ≡ true
 spotted k [] h = record { within = omega arith; puts = λ v. refl; finds = refl }
 spotted k (e ∷ es) h =
     let parts = and_parts _ _ h in
-    elim (bytes_cmp k e.0) as (λ o. bytes_cmp k e.0 ≡ o → MatchResult (by_order o (Err 0) (Ok 0) (later (spot k es))) (IsAt k (e ∷ es)) (IsGap k (e ∷ es))) [
+    elim (bytes_cmp k e.0) as (λ o. bytes_cmp k e.0 ≡ o → MatchResult (by_order o (Err 0) (Ok 0) (spot_after_row (spot k es))) (IsAt k (e ∷ es)) (IsGap k (e ∷ es))) [
       | Less ↦ λ p. gap_first k e es p parts.0
       | Equal ↦ λ p. at_first k e es p parts.0
       | Greater ↦ λ p. next_spot k e es (spot k es) p (spotted k es parts.1)
@@ -160,19 +160,19 @@ place_before k (e ∷ es) (suc i) d h p =
 pub spot_here : (k : List ℕ) (es : List Row) (d : Row) → place_in k es < length es → (get_or es (place_in k es) d).0 ≡ k → spot k es ≡ Ok (place_in k es)
 spot_here k [] d = λ h same. absurd (omega arith)
 spot_here k (e ∷ es) d =
-    elim (bytes_cmp k e.0) as (λ o. bytes_cmp k e.0 ≡ o → by_order o 0 0 (suc (place_in k es)) < suc (length es) → (get_or (e ∷ es) (by_order o 0 0 (suc (place_in k es))) d).0 ≡ k → by_order o (Err 0) (Ok 0) (later (spot k es)) ≡ Ok (by_order o 0 0 (suc (place_in k es)))) [
+    elim (bytes_cmp k e.0) as (λ o. bytes_cmp k e.0 ≡ o → by_order o 0 0 (suc (place_in k es)) < suc (length es) → (get_or (e ∷ es) (by_order o 0 0 (suc (place_in k es))) d).0 ≡ k → by_order o (Err 0) (Ok 0) (spot_after_row (spot k es)) ≡ Ok (by_order o 0 0 (suc (place_in k es)))) [
       | Less ↦ λ p h same. let q : bytes_cmp k k ≡ Less = subst (λ x. bytes_cmp k x ≡ Less) same p in absurd (cc (q, tied_itself nat_list_cmp_total k))
       | Equal ↦ λ p h same. refl
-      | Greater ↦ λ p h same. ap later (spot_here k es d (omega arith) same)
+      | Greater ↦ λ p h same. ap spot_after_row (spot_here k es d (omega arith) same)
     ] refl
 
 pub spot_other : (k : List ℕ) (es : List Row) (d : Row) → (place_in k es < length es → (get_or es (place_in k es) d).0 ≡ k → ⊥) → spot k es ≡ Err (place_in k es)
 spot_other k [] d = λ other. refl
 spot_other k (e ∷ es) d =
-    elim (bytes_cmp k e.0) as (λ o. bytes_cmp k e.0 ≡ o → (by_order o 0 0 (suc (place_in k es)) < suc (length es) → (get_or (e ∷ es) (by_order o 0 0 (suc (place_in k es))) d).0 ≡ k → ⊥) → by_order o (Err 0) (Ok 0) (later (spot k es)) ≡ Err (by_order o 0 0 (suc (place_in k es)))) [
+    elim (bytes_cmp k e.0) as (λ o. bytes_cmp k e.0 ≡ o → (by_order o 0 0 (suc (place_in k es)) < suc (length es) → (get_or (e ∷ es) (by_order o 0 0 (suc (place_in k es))) d).0 ≡ k → ⊥) → by_order o (Err 0) (Ok 0) (spot_after_row (spot k es)) ≡ Err (by_order o 0 0 (suc (place_in k es)))) [
       | Less ↦ λ p other. refl
       | Equal ↦ λ p other. absurd (other (omega arith) (sym (same_text k e.0 p)))
-      | Greater ↦ λ p other. ap later (spot_other k es d (λ h same. other (omega arith) same))
+      | Greater ↦ λ p other. ap spot_after_row (spot_other k es d (λ h same. other (omega arith) same))
     ] refl
 
 -- ---- limits

@@ -47,19 +47,19 @@ abbrev pub IsProper : Dictionary → Type 0
 IsProper d = (k v : List ℕ) → map.get d k ≡ Some v → (IsKey k × AreBytes k) × ((length v < 65) × AreBytes v)
 
 -- what a look-up answers, and what a removal does
-abbrev pub found : Option (List ℕ) → Answer
-found None = answer.NotFound
-found (Some v) = answer.Found v
+abbrev pub answer_of_get : Option (List ℕ) → Answer
+answer_of_get None = answer.NotFound
+answer_of_get (Some v) = answer.Found v
 
-abbrev pub gone : Option (List ℕ) → Answer
-gone None = answer.Absent
-gone (Some v) = answer.Removed
+abbrev pub answer_of_del : Option (List ℕ) → Answer
+answer_of_del None = answer.Absent
+answer_of_del (Some v) = answer.Removed
 
 -- what an operation answers
 abbrev pub reply : Dictionary → Op → Answer
 reply d (op.Put k v) = answer.Stored
-reply d (op.Get k) = found (map.get d k)
-reply d (op.Del k) = gone (map.get d k)
+reply d (op.Get k) = answer_of_get (map.get d k)
+reply d (op.Del k) = answer_of_del (map.get d k)
 reply d (op.List p) = answer.Names (filter (λ k. starts_with nat_eq k p) (map.keys d))
 
 -- the dictionary that it leaves

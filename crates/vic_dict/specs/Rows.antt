@@ -37,14 +37,14 @@ place_in k [] = 0
 place_in k (e ∷ es) = by_order (bytes_cmp k e.0) 0 0 (suc (place_in k es))
 
 -- the same place among one row more
-abbrev pub later : Result ℕ ℕ → Result ℕ ℕ
-later (Ok i) = Ok (suc i)
-later (Err i) = Err (suc i)
+abbrev pub spot_after_row : Result ℕ ℕ → Result ℕ ℕ
+spot_after_row (Ok i) = Ok (suc i)
+spot_after_row (Err i) = Err (suc i)
 
 -- where a key stands, or else where it would
 abbrev pub spot : List ℕ → List Row → Result ℕ ℕ
 spot k [] = Err 0
-spot k (e ∷ es) = by_order (bytes_cmp k e.0) (Err 0) (Ok 0) (later (spot k es))
+spot k (e ∷ es) = by_order (bytes_cmp k e.0) (Err 0) (Ok 0) (spot_after_row (spot k es))
 
 -- whether a key is above all keys of the rows
 abbrev pub is_past : List ℕ → List Row → Bool

@@ -5,7 +5,7 @@ ghost use Rattle.std.specs.Prelude.{map as map_list};
 ghost use Rattle.std.specs.List.{starts_with};
 ghost use Rattle.std.specs.FinMap as map;
 ghost use Rattle.std.specs.FinMap.{is_sorted};
-ghost use Rattle.vic_dict.specs.Dictionary.{nothing, Fits, found, reply, after};
+ghost use Rattle.vic_dict.specs.Dictionary.{nothing, Fits, answer_of_get, reply, after};
 ghost use Rattle.vic_dict.specs.Rows.{IsTable, AreFit, AreByteRows, bytes_cmp, place_in, spot, is_past};
 
 use crate::bytes::{Bytes, Names, NoMemory};
@@ -104,7 +104,7 @@ fn is_rising(rows: &[(Bytes, Bytes)]) -> bool
 
 /// What a look-up answers.
 fn answer_of(alloc: Global, value: Option<&Bytes>) -> Result<Answer, NoMemory>
-    ensures { IfOk result (λ answer. answer ≡ found (option_copied value.entry)) }
+    ensures { IfOk result (λ answer. answer ≡ answer_of_get (option_copied value.entry)) }
 {
     match value {
         Some(value) => Ok(Answer::Found(value.copy(alloc)?)),

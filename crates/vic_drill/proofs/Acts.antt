@@ -9,7 +9,7 @@ use Rattle.vic_dict.specs.declared.op.Op.TheVariants as op
 use Rattle.vic_spellings.proofs.Bytes.{bytes-cons}
 use Rattle.vic_gen.specs.declared.Act.TheVariants as act
 use Rattle.vic_drill.specs.MayBe.{MayCall, MayAct}
-use Rattle.vic_gen.specs.Drawing.{Drawing, drawn, next_of, picked, op_drawn, key_drawn, prefix_drawn, two_digits, three_digits, is_poll, act_of, acted, acted_once, moved}
+use Rattle.vic_gen.specs.Drawing.{Drawing, number_drawn, next_of, client_drawn, op_drawn, key_drawn, prefix_drawn, two_digits, three_digits, is_poll, act_of, drawing_after_act, drawing_with_act, next_drawing}
 
 -- a digit is a byte
 digit-byte : (n : ℕ) → 48 + n % 10 < 256
@@ -25,10 +25,10 @@ three-bytes : (a b c : ℕ) → AreBytes ((48 + a % 10) ∷ (48 + b % 10) ∷ (4
 three-bytes a b c = bytes-cons (48 + a % 10) ((48 + b % 10) ∷ (48 + c % 10) ∷ []) (digit-byte a) (two-bytes b c)
 
 pub key-bytes : (x : ℕ) → AreBytes (key_drawn x)
-key-bytes x = bytes-cons 107 (three_digits (drawn x 200)) (lit< tt) (three-bytes (drawn x 200 / 100) (drawn x 200 / 10) (drawn x 200))
+key-bytes x = bytes-cons 107 (three_digits (number_drawn x 200)) (lit< tt) (three-bytes (number_drawn x 200 / 100) (number_drawn x 200 / 10) (number_drawn x 200))
 
 pub prefix-bytes : (x : ℕ) → AreBytes (prefix_drawn x)
-prefix-bytes x = bytes-cons 107 (two_digits (drawn x 20)) (lit< tt) (two-bytes (drawn x 20 / 10) (drawn x 20))
+prefix-bytes x = bytes-cons 107 (two_digits (number_drawn x 20)) (lit< tt) (two-bytes (number_drawn x 20 / 10) (number_drawn x 20))
 
 pub value-bytes : (call : ℕ) → call < 2 ^ 32 → AreBytes (118 ∷ decimal call)
 value-bytes call few = bytes-cons 118 (decimal call) (lit< tt) (λ i. omega (arith, IsAscii-decimal call (omega arith) i))
@@ -51,22 +51,22 @@ op-may kind x call few =
     (record { fits = lit< tt; bytes = prefix-bytes x })))
 
 -- a client of the group is drawn
-pub picked-member : (d : Drawing) → 0 < length d.acts → (0 < picked d) × (picked d ≤ length d.acts)
-picked-member d some = (omega arith, omega arith)
+pub client_drawn-member : (d : Drawing) → 0 < length d.acts → (0 < client_drawn d) × (client_drawn d ≤ length d.acts)
+client_drawn-member d some = (omega arith, omega arith)
 
 act_by : (b : Bool) (o : Op) → MayCall o → MayAct (if b then act.Poll else act.Call o)
 act_by true o may = tt
 act_by false o may = may
 
 pub act-may : (d : Drawing) (client call : ℕ) → call < 2 ^ 32 → MayAct (act_of d client call)
-act-may d client call few = act_by (is_poll d client) (op_drawn (drawn d.x 8) (next_of d.x) call) (op-may (drawn d.x 8) (next_of d.x) call few)
+act-may d client call few = act_by (is_poll d client) (op_drawn (number_drawn d.x 8) (next_of d.x) call) (op-may (number_drawn d.x 8) (next_of d.x) call few)
 
 -- acting leaves as many clients
 acted_by : (b : Bool) (d e : Drawing) (n : ℕ) → length d.acts ≡ n → length e.acts ≡ n → length (if b then d else e).acts ≡ n
 acted_by true d e n h k = h
 acted_by false d e n h k = k
 
-pub acted-acts : (d : Drawing) (client : ℕ) → length (acted d client).acts ≡ length d.acts
-acted-acts d client =
-    let same : length (acted_once d client).acts ≡ length d.acts = length-set d.acts (client - 1) _ in
-    acted_by (is_poll d client) (acted_once d client) (moved (moved (acted_once d client))) (length d.acts) same same
+pub drawing_after_act-acts : (d : Drawing) (client : ℕ) → length (drawing_after_act d client).acts ≡ length d.acts
+drawing_after_act-acts d client =
+    let same : length (drawing_with_act d client).acts ≡ length d.acts = length-set d.acts (client - 1) _ in
+    acted_by (is_poll d client) (drawing_with_act d client) (next_drawing (next_drawing (drawing_with_act d client))) (length d.acts) same same

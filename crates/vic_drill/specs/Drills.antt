@@ -10,62 +10,62 @@ use Rattle.vic_rules.specs.declared.trace.Input.TheVariants as input
 use Rattle.vic_rules.specs.declared.trace.TraceStep.{TraceStep}
 use Rattle.vic_order.specs.Order.{Server, Ordered, sealed_count, weight, ordered_at}
 use Rattle.vic_order.specs.Serving.{by_rule}
-use Rattle.vic_order.specs.Scenes.{Scene, opening, server_at, waits_in, Event, Asks, Serves, Takes, happens}
+use Rattle.vic_order.specs.Scenes.{Scene, opening, server_at, waits_in, Event, Asks, Serves, Takes, after_event}
 use Rattle.vic_gen.specs.declared.Act.{Act}
 use Rattle.vic_gen.specs.declared.Act.TheVariants as act
-use Rattle.vic_gen.specs.Drawing.{Drawing, drawing_from, moved as step_on, picked, act_of, acted}
+use Rattle.vic_gen.specs.Drawing.{Drawing, drawing_from, next_drawing, client_drawn, act_of, drawing_after_act}
 
 -- a group without objects, under a key of 32 zeros
-abbrev pub group_of : ℕ → Group
-group_of clients = record { mode = mode.Plain; count = clients; key = replicate 32 0 }
+abbrev pub drill_group : ℕ → Group
+drill_group clients = record { mode = mode.Plain; count = clients; key = replicate 32 0 }
 
 -- what is drawn from, how many calls were made, the events so far (the newest first), and the scene to which they lead
-pub record Drill : Type 0 where
+pub record DrillState : Type 0 where
   pub drawing : Drawing
   pub calls : ℕ
   pub events : List Event
   pub scene : Scene
 
-abbrev pub begun : ℕ → ℕ → Drill
-begun number clients = record { drawing = drawing_from number clients; calls = 0; events = []; scene = opening (group_of clients) }
+abbrev pub drill_at_start : ℕ → ℕ → DrillState
+drill_at_start number clients = record { drawing = drawing_from number clients; calls = 0; events = []; scene = opening (drill_group clients) }
 
-abbrev pub makes : Event → Drill → Drill
-makes m d = record d { events = m ∷ d.events; scene = happens by_rule d.scene m }
+abbrev pub drill_after_event : Event → DrillState → DrillState
+drill_after_event m d = record d { events = m ∷ d.events; scene = after_event by_rule d.scene m }
 
 -- ---- the main phase
 
-abbrev pub acts : ℕ → Act → Drill → Drill
-acts me act.Poll d = makes (Asks me input.Poll) d
-acts me (act.Call o) d = record (makes (Asks me (input.Call o)) d) { calls = d.calls + 1 }
+abbrev pub drill_after_act : ℕ → Act → DrillState → DrillState
+drill_after_act me act.Poll d = drill_after_event (Asks me input.Poll) d
+drill_after_act me (act.Call o) d = record (drill_after_event (Asks me (input.Call o)) d) { calls = d.calls + 1 }
 
 -- a client acts, by what is drawn
-abbrev pub acts_next : ℕ → Drill → Drill
-acts_next me d = acts me (act_of d.drawing me (d.calls + 1)) (record d { drawing = acted d.drawing me })
+abbrev pub drill_after_next_act : ℕ → DrillState → DrillState
+drill_after_next_act me d = drill_after_act me (act_of d.drawing me (d.calls + 1)) (record d { drawing = drawing_after_act d.drawing me })
 
 -- something waits for a client's server, or for the client
 abbrev pub waits_for : Scene → ℕ → Bool
 waits_for s me = waits_in s.up me || waits_in s.down me
 
 -- its oldest request is served; or, where none waits, it takes its oldest answer
-abbrev pub goes_on : ℕ → Drill → Drill
-goes_on me d = if waits_in d.scene.up me then makes (Serves me) d else makes (Takes me) d
+abbrev pub drill_after_delivery : ℕ → DrillState → DrillState
+drill_after_delivery me d = if waits_in d.scene.up me then drill_after_event (Serves me) d else drill_after_event (Takes me) d
 
 -- one turn of a client: it goes on, or acts where nothing waits
-abbrev pub turn_of : ℕ → Drill → Drill
-turn_of me d = if waits_for d.scene me then goes_on me d else acts_next me d
+abbrev pub drill_after_turn_of : ℕ → DrillState → DrillState
+drill_after_turn_of me d = if waits_for d.scene me then drill_after_delivery me d else drill_after_next_act me d
 
 -- one turn, of the client that is drawn
-abbrev pub turn : Drill → Drill
-turn d = turn_of (picked d.drawing) (record d { drawing = step_on d.drawing })
+abbrev pub drill_after_turn : DrillState → DrillState
+drill_after_turn d = drill_after_turn_of (client_drawn d.drawing) (record d { drawing = next_drawing d.drawing })
 
 -- a turn, where fewer calls were made
-abbrev pub turn_below : ℕ → Drill → Drill
-turn_below calls d = if nat_lt d.calls calls then turn d else d
+abbrev pub drill_after_turn_below : ℕ → DrillState → DrillState
+drill_after_turn_below calls d = if nat_lt d.calls calls then drill_after_turn d else d
 
 -- the same so many times
-unfoldable pub repeats : ℕ → (Drill → Drill) → Drill → Drill
-repeats zero f d = d
-repeats (suc n) f d = repeats n f (f d)
+unfoldable pub drill_after_repeats : ℕ → (DrillState → DrillState) → DrillState → DrillState
+drill_after_repeats zero f d = d
+drill_after_repeats (suc n) f d = drill_after_repeats n f (f d)
 
 -- ---- the closing phase
 
@@ -84,18 +84,18 @@ unsealed_in None = None
 unsealed_in (Some s) = ordered_at s (sealed_count s + 1)
 
 -- its owner polls
-abbrev pub polls : Option Ordered → Drill → Drill
-polls None d = d
-polls (Some o) d = makes (Asks o.entry.client input.Poll) d
+abbrev pub drill_after_poll : Option Ordered → DrillState → DrillState
+drill_after_poll None d = d
+drill_after_poll (Some o) d = drill_after_event (Asks o.entry.client input.Poll) d
 
 -- the first client for whom something waits goes on; where nothing waits, the owner of the first unsealed entry polls; and where all
 -- is sealed, nothing changes any more
-abbrev pub closes_by : Option ℕ → Drill → Drill
-closes_by (Some me) d = goes_on me d
-closes_by None d = polls (unsealed_in (server_in d.scene)) d
+abbrev pub drill_after_closing_by : Option ℕ → DrillState → DrillState
+drill_after_closing_by (Some me) d = drill_after_delivery me d
+drill_after_closing_by None d = drill_after_poll (unsealed_in (server_in d.scene)) d
 
-abbrev pub closes : Drill → Drill
-closes d = closes_by (first_waiting d.scene 1 d.scene.group.count) d
+abbrev pub drill_after_closing : DrillState → DrillState
+drill_after_closing d = drill_after_closing_by (first_waiting d.scene 1 d.scene.group.count) d
 
 -- ---- the whole
 
@@ -108,8 +108,8 @@ abbrev pub most_events : ℕ → ℕ → ℕ
 most_events clients calls = 8 * (clients + calls)
 
 -- a drill: it makes its calls, what is under way goes on, and all is sealed
-unfoldable pub drill : ℕ → ℕ → ℕ → Drill
-drill number clients calls = repeats (most_events clients calls) closes (repeats (most_turns calls) (turn_below calls) (begun number clients))
+unfoldable pub drill_of : ℕ → ℕ → ℕ → DrillState
+drill_of number clients calls = drill_after_repeats (most_events clients calls) drill_after_closing (drill_after_repeats (most_turns calls) (drill_after_turn_below calls) (drill_at_start number clients))
 
 -- ---- its summary
 
@@ -146,4 +146,4 @@ summary clients calls s =
     ++ server_lines (server_in s)
 
 abbrev pub print_of_drill : ℕ → ℕ → ℕ → List ℕ
-print_of_drill number clients calls = summary clients calls (drill number clients calls).scene
+print_of_drill number clients calls = summary clients calls (drill_of number clients calls).scene

@@ -4,7 +4,7 @@ ghost use Rattle.std.specs.Prelude.{◌≡◌, ◌++◌, length, nat_le, Some, I
 ghost use Rattle.vic_wire.specs.declared.message.ToClient.{ToClient as AnAnswer};
 ghost use Rattle.vic_wire.specs.declared.message.ToClient.TheVariants as say;
 ghost use Rattle.vic_wire.specs.Messages.{HasSpelling, answer_text};
-ghost use Rattle.vic_wire.specs.Reading.{allowed, update_at, answer_of_kind, read_answer};
+ghost use Rattle.vic_wire.specs.Reading.{if_allowed, update_at, answer_of_kind, read_answer};
 ghost use Rattle.vic_fields.specs.Giving.{Gives};
 ghost use Rattle.vic_frames.specs.Kinds.{answer_at, reply_at, listed_at, refused_at};
 
@@ -63,7 +63,7 @@ fn refused_from(fields: &[u8]) -> Result<ToClient, CutFault>
 }
 
 fn content_from(alloc: Global, fields: &[u8]) -> Result<ToClient, CutFault>
-    ensures { Gives (λ m. m) result (allowed (nat_le (length fields.now) 8388608) (say.Content fields.now)) }
+    ensures { Gives (λ m. m) result (if_allowed (nat_le (length fields.now) 8388608) (say.Content fields.now)) }
 {
     if !(fields.len() <= CONTENT_LIMIT) {
         return Err(CutFault::Value);

@@ -4,7 +4,7 @@ ghost use Rattle.std.specs.Prelude.{◌≡◌, ◌+◌, ◌<◌, ◌≤◌, [], 
 ghost use Rattle.std.specs.List.{flat_map, AllByRecursion};
 ghost use Rattle.vic_dict.specs.Dictionary.{Fits};
 ghost use Rattle.vic_wire.specs.Messages.{IsTagged, seal_field, tagged_field, entries_field};
-ghost use Rattle.vic_wire.specs.Reading.{FieldFault, ended, some_read, seal_after, seal_at, tagged_at, tagged_list_at, entries_at};
+ghost use Rattle.vic_wire.specs.Reading.{FieldFault, if_ended, some_read, seal_after, seal_at, tagged_at, tagged_list_at, entries_at};
 ghost use Rattle.vic_fields.specs.Giving.{Gives};
 
 use std::alloc::Global;
@@ -17,7 +17,7 @@ pub(crate) const CONTENT_LIMIT: usize = 8_388_608;
 
 /// The value, where nothing follows it.
 pub(crate) fn whole<T: Drop>(value: T, rest: &[u8]) -> Result<T, CutFault>
-    ensures gives { Gives (λ v. v) result (ended (value, rest.now)) }
+    ensures gives { Gives (λ v. v) result (if_ended (value, rest.now)) }
     ensures ends { rest.now ≡ [] → result ≡ Ok value }
 {
     if rest.is_empty() {

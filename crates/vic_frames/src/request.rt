@@ -7,7 +7,7 @@ ghost use Rattle.vic_wire.specs.declared.message.ToServer.{ToServer as ARequest}
 ghost use Rattle.vic_wire.specs.declared.message.ToServer.TheVariants as ask;
 ghost use Rattle.vic_wire.specs.Texts.{op_text, mode_byte, status_byte};
 ghost use Rattle.vic_wire.specs.Messages.{HasRequestSpelling, request_text};
-ghost use Rattle.vic_wire.specs.Reading.{allowed, mode_of, hello_at, invoke_at, commit_at, seal_request_at, sync_at, fetch_at, request_of_kind, read_request};
+ghost use Rattle.vic_wire.specs.Reading.{if_allowed, mode_of, hello_at, invoke_at, commit_at, seal_request_at, sync_at, fetch_at, request_of_kind, read_request};
 ghost use Rattle.vic_fields.specs.Giving.{Gives};
 ghost use Rattle.vic_frames.specs.Kinds.{request_at};
 
@@ -123,7 +123,7 @@ fn sync_from(fields: &[u8]) -> Result<ToServer, CutFault>
 }
 
 fn keep_from(alloc: Global, fields: &[u8]) -> Result<ToServer, CutFault>
-    ensures { Gives (λ m. m) result (allowed (nat_le (length fields.now) 8388608) (ask.Keep fields.now)) }
+    ensures { Gives (λ m. m) result (if_allowed (nat_le (length fields.now) 8388608) (ask.Keep fields.now)) }
 {
     if !(fields.len() <= CONTENT_LIMIT) {
         return Err(CutFault::Value);

@@ -19,15 +19,15 @@ drawing_from number clients = record { x = number; acts = replicate clients 0 }
 abbrev pub next_of : ℕ → ℕ
 next_of x = (x * 1664525 + 1013904223) % 4294967296
 
-abbrev pub drawn : ℕ → ℕ → ℕ
-drawn x n = (next_of x / 65536) % n
+abbrev pub number_drawn : ℕ → ℕ → ℕ
+number_drawn x n = (next_of x / 65536) % n
 
-abbrev pub moved : Drawing → Drawing
-moved d = record d { x = next_of d.x }
+abbrev pub next_drawing : Drawing → Drawing
+next_drawing d = record d { x = next_of d.x }
 
 -- a client
-abbrev pub picked : Drawing → ℕ
-picked d = 1 + drawn d.x (length d.acts)
+abbrev pub client_drawn : Drawing → ℕ
+client_drawn d = 1 + number_drawn d.x (length d.acts)
 
 -- a number in so many digits, with zeros
 abbrev pub two_digits : ℕ → List ℕ
@@ -37,10 +37,10 @@ abbrev pub three_digits : ℕ → List ℕ
 three_digits n = (48 + n / 100 % 10) ∷ two_digits n
 
 abbrev pub key_drawn : ℕ → List ℕ
-key_drawn x = codes "k" ++ three_digits (drawn x 200)
+key_drawn x = codes "k" ++ three_digits (number_drawn x 200)
 
 abbrev pub prefix_drawn : ℕ → List ℕ
-prefix_drawn x = codes "k" ++ two_digits (drawn x 20)
+prefix_drawn x = codes "k" ++ two_digits (number_drawn x 20)
 
 -- the operation of a call, by what was drawn for its kind; x is the number behind that
 abbrev pub op_drawn : ℕ → ℕ → ℕ → Op
@@ -53,8 +53,8 @@ op_drawn kind x call =
 abbrev pub acts_of : Drawing → ℕ → ℕ
 acts_of d client = unwrap_or (slice_get d.acts (client - 1)) 0
 
-abbrev pub acted_once : Drawing → ℕ → Drawing
-acted_once d client = record d { acts = slice_set d.acts (client - 1) ((acts_of d client + 1) % 4) }
+abbrev pub drawing_with_act : Drawing → ℕ → Drawing
+drawing_with_act d client = record d { acts = slice_set d.acts (client - 1) ((acts_of d client + 1) % 4) }
 
 -- every fourth act of a client is a poll
 abbrev pub is_poll : Drawing → ℕ → Bool
@@ -62,10 +62,10 @@ is_poll d client = nat_eq (acts_of d client) 3
 
 -- what a client does, at the call of this number, and the drawing after it
 abbrev pub act_of : Drawing → ℕ → ℕ → Act
-act_of d client call = if is_poll d client then act.Poll else act.Call (op_drawn (drawn d.x 8) (next_of d.x) call)
+act_of d client call = if is_poll d client then act.Poll else act.Call (op_drawn (number_drawn d.x 8) (next_of d.x) call)
 
-abbrev pub acted : Drawing → ℕ → Drawing
-acted d client = if is_poll d client then acted_once d client else moved (moved (acted_once d client))
+abbrev pub drawing_after_act : Drawing → ℕ → Drawing
+drawing_after_act d client = if is_poll d client then drawing_with_act d client else next_drawing (next_drawing (drawing_with_act d client))
 
 -- the operation of a call is within the limits
 abbrev pub FitsAct : Act → Type 0

@@ -3,7 +3,7 @@
 ghost use Rattle.std.specs.Prelude.{◌≡◌, ◌<◌, ◌≤◌, ◌+◌, ◌/◌, ◌%◌, ◌∷◌, length, IfOk, OnOk, OnErr};
 ghost use Rattle.std.specs.Fmt.{decimal};
 ghost use Rattle.vic_dict.specs.Dictionary.{Fits};
-ghost use Rattle.vic_gen.specs.Drawing.{drawing_from, next_of, drawn, moved, picked, key_drawn, prefix_drawn, op_drawn, act_of, acted, FitsAct};
+ghost use Rattle.vic_gen.specs.Drawing.{drawing_from, next_of, number_drawn, next_drawing, client_drawn, key_drawn, prefix_drawn, op_drawn, act_of, drawing_after_act, FitsAct};
 
 use crate::Act;
 use std::alloc::Global;
@@ -41,7 +41,7 @@ fn next(x: u32) -> u32
 /// What is drawn of a number, below a bound.
 fn draw(x: u32, below: u32) -> u32
     requires { 0 < below }
-    ensures drawn { result ≡ drawn x below }
+    ensures drawn { result ≡ number_drawn x below }
     ensures below { result < below }
 {
     (next(x) / 65_536) % below
@@ -118,8 +118,8 @@ impl Gen {
 
     /// The client whose turn is next, from 1 on.
     pub fn pick(&mut self) -> u8
-        ensures picked { result ≡ picked self.old }
-        ensures moved { self.new ≡ moved self.old }
+        ensures picked { result ≡ client_drawn self.old }
+        ensures moved { self.new ≡ next_drawing self.old }
         ensures some { 0 < result }
         ensures known { result ≤ length self.old.acts }
         ensures few { length self.old.acts ≤ 64 }
@@ -136,7 +136,7 @@ impl Gen {
         requires known { client ≤ length self.old.acts }
         ensures act { IfOk result (λ made. made ≡ act_of self.old client call) }
         ensures fits { IfOk result FitsAct }
-        ensures ok { OnOk result (self.new ≡ acted self.old client) }
+        ensures ok { OnOk result (self.new ≡ drawing_after_act self.old client) }
         ensures err { OnErr result (self.new ≡ self.old) }
     {
         let place = usize::from(client) - 1;

@@ -9,45 +9,45 @@ use Rattle.vic_rules.specs.declared.trace.TraceStep.{TraceStep}
 use Rattle.vic_rules.specs.Client.{Standing, awaits_nothing, IsIdle, MayStep}
 use Rattle.vic_rules.specs.History.{standing}
 use Rattle.vic_client.specs.declared.pending.Pending.{Pending}
-use Rattle.vic_client.specs.Kept.{Kept, StandsFor, group_of, is_idle}
-use Rattle.vic_client.specs.Pending.{kept, IsPendingOf}
-use Rattle.vic_order.specs.Scenes.{queued, or_before, payload_in}
+use Rattle.vic_client.specs.Kept.{KeptClient, StandsFor, kept_group, is_idle}
+use Rattle.vic_client.specs.Pending.{after_keeping, IsPendingOf}
+use Rattle.vic_order.specs.Scenes.{queue_with, or_before, payload_in}
 use Rattle.vic_group.specs.declared.member.Member.{Member}
 use Rattle.vic_group.specs.World.{MemberStands, Acts, CanAsk, step_at}
 use Rattle.vic_group.proofs.Members.{taken_now, sent_now, stands_next}
 
 -- what a member became that kept its client's pending step, with what goes with it
-pub record Becomes (given : Input) (sends : Option (List ℕ)) (next : Kept) (old new : Member) : Type 0 where
+pub record Becomes (given : Input) (sends : Option (List ℕ)) (next : KeptClient) (old new : Member) : Type 0 where
   pub client : new.client ≡ next
   pub server : new.server ≡ old.server
-  pub up : new.up ≡ queued old.up sends
+  pub up : new.up ≡ queue_with old.up sends
   pub down : new.down ≡ old.down
   pub taken : new.taken ≡ or_before (payload_in given) old.taken
   pub sent : new.sent ≡ or_before sends old.sent
 
 -- it made its step
-pub acts : (g : Group) (h : List TraceStep) (i : ℕ) (given : Input) (old new : Member) (p : Pending) (mid : Kept) (sent : Option (List ℕ)) → MemberStands g h old i → IsPendingOf old.client p mid given
-    → sent ≡ p.step.send → MayStep g (standing g i h) given → Becomes given sent (kept p.effect mid) old new → Acts g h i given old new
+pub acts : (g : Group) (h : List TraceStep) (i : ℕ) (given : Input) (old new : Member) (p : Pending) (mid : KeptClient) (sent : Option (List ℕ)) → MemberStands g h old i → IsPendingOf old.client p mid given
+    → sent ≡ p.step.send → MayStep g (standing g i h) given → Becomes given sent (after_keeping p.effect mid) old new → Acts g h i given old new
 acts g h i given old new p mid sent at pends sends may so =
     subst (λ (k : Group). MemberStands k h old i → MayStep k (standing k i h) given → Acts k h i given old new) at.group
-    (subst (λ (n : ℕ). MemberStands (group_of old.client) h old n → MayStep (group_of old.client) (standing (group_of old.client) n h) given → Acts (group_of old.client) h n given old new) at.id own) at may
+    (subst (λ (n : ℕ). MemberStands (kept_group old.client) h old n → MayStep (kept_group old.client) (standing (kept_group old.client) n h) given → Acts (kept_group old.client) h n given old new) at.id own) at may
   where
-    own : MemberStands (group_of old.client) h old old.client.id → MayStep (group_of old.client) (standing (group_of old.client) old.client.id h) given → Acts (group_of old.client) h old.client.id given old new
+    own : MemberStands (kept_group old.client) h old old.client.id → MayStep (kept_group old.client) (standing (kept_group old.client) old.client.id h) given → Acts (kept_group old.client) h old.client.id given old new
     own here able =
-        let k : Group = group_of old.client in
+        let k : Group = kept_group old.client in
         let n : ℕ = old.client.id in
         let x : TraceStep = step_at k h n given in
         let shown = pends.shows (standing k n h) here.stands in
         let sent_is : sent ≡ x.sent = sends ∙ shown.send in
         record {
           may = able;
-          up = so.up ∙ ap (λ (o : Option (List ℕ)). queued old.up o) sent_is;
+          up = so.up ∙ ap (λ (o : Option (List ℕ)). queue_with old.up o) sent_is;
           down = so.down;
           server = so.server;
           stands = record {
-            id = ap (λ (c : Kept). c.id) so.client ∙ pends.same.id;
-            group = ap (λ (c : Kept). group_of c) so.client ∙ pends.same.group;
-            stands = subst (λ (c : Kept). StandsFor c (standing k n (x ∷ h))) (sym so.client) (subst (λ (s : Standing). StandsFor (kept p.effect mid) s) (sym (stands_next k h n given)) shown.stands);
+            id = ap (λ (c : KeptClient). c.id) so.client ∙ pends.same.id;
+            group = ap (λ (c : KeptClient). kept_group c) so.client ∙ pends.same.group;
+            stands = subst (λ (c : KeptClient). StandsFor c (standing k n (x ∷ h))) (sym so.client) (subst (λ (s : Standing). StandsFor (after_keeping p.effect mid) s) (sym (stands_next k h n given)) shown.stands);
             taken = so.taken ∙ ap (λ (o : Option (List ℕ)). or_before (payload_in given) o) here.taken ∙ sym (taken_now h x);
             sent = so.sent ∙ ap (λ (o : Option (List ℕ)). or_before o old.sent) sent_is ∙ ap (λ (o : Option (List ℕ)). or_before x.sent o) here.sent ∙ sym (sent_now h x);
           };

@@ -6,11 +6,11 @@ use Rattle.vic_rules.specs.Client.{awaits_nothing, first_failing}
 use Rattle.vic_dict.specs.declared.op.Mode.{Mode}
 use Rattle.vic_wire.specs.Hashes.{Group}
 use Rattle.vic_view.specs.declared.transcript.Transcript.{Transcript}
-use Rattle.vic_view.specs.Transcripts.{group_of}
-use Rattle.vic_order.specs.Scenes.{SceneOf, stands, is_client}
+use Rattle.vic_view.specs.Transcripts.{transcript_group}
+use Rattle.vic_order.specs.Scenes.{SceneOf, standing_in, is_client}
 use Rattle.vic_script.specs.Scenes.{asked_tests}
 use Rattle.vic_group.specs.declared.member.Member.{Member}
-use Rattle.vic_group.specs.World.{Shows}
+use Rattle.vic_group.specs.World.{ShowsParts}
 use Rattle.vic_group.proofs.Scenes.{stands_here}
 
 -- ---- tests
@@ -44,7 +44,7 @@ idle_passes true false is = absurd cc
 idle_passes false true is = absurd cc
 idle_passes false false is = absurd cc
 
-module _ {V : Type 0} (t : Transcript) (ms : List Member) (vs : List (Option V)) (s : SceneOf V) (i : ℕ) (shows : Shows t ms vs s) where
+module _ {V : Type 0} (t : Transcript) (ms : List Member) (vs : List (Option V)) (s : SceneOf V) (i : ℕ) (shows : ShowsParts t ms vs s) where
   -- a client whose place is taken is there
   pub is_there : (k : ℕ) → i ≡ k + 1 → k < length ms → is_client s i ≡ true
   is_there k is lt =
@@ -62,14 +62,14 @@ module _ {V : Type 0} (t : Transcript) (ms : List Member) (vs : List (Option V))
   pub asked_is : (k : ℕ) (m : Member) → i ≡ k + 1 → slice_get ms k ≡ Some m → k < length ms → first_failing (asked_tests s i) ≡ rest_of (is_none m.client.halted) (awaits_nothing m.client.awaiting)
   asked_is k m is at lt =
       let stand = stands_here t ms vs s i k m shows is at in
-      ap (λ (b : Bool). if b then rest_of (is_none (stands s i).halted) (awaits_nothing (stands s i).awaiting) else Some 2) (is_there k is lt)
-      ∙ ap (λ (o : Option ℕ). rest_of (is_none o) (awaits_nothing (stands s i).awaiting)) stand.stands.halted
+      ap (λ (b : Bool). if b then rest_of (is_none (standing_in s i).halted) (awaits_nothing (standing_in s i).awaiting) else Some 2) (is_there k is lt)
+      ∙ ap (λ (o : Option ℕ). rest_of (is_none o) (awaits_nothing (standing_in s i).awaiting)) stand.stands.halted
       ∙ ap (λ (a : Awaiting). rest_of (is_none m.client.halted) (awaits_nothing a)) stand.stands.awaiting
 
   -- and of one that isn't there
   pub unasked_is : is_client s i ≡ false → first_failing (asked_tests s i) ≡ Some 2
-  unasked_is gone = first_fails 2 (is_client s i) ((3, is_none (stands s i).halted) ∷ (4, awaits_nothing (stands s i).awaiting) ∷ []) gone
+  unasked_is gone = first_fails 2 (is_client s i) ((3, is_none (standing_in s i).halted) ∷ (4, awaits_nothing (standing_in s i).awaiting) ∷ []) gone
 
 -- a transcript is of the group that its fields say
-pub same_group : (t : Transcript) (g : Group) → t.mode ≡ g.mode → t.count ≡ g.count → t.key ≡ g.key → group_of t ≡ g
+pub same_group : (t : Transcript) (g : Group) → t.mode ≡ g.mode → t.count ≡ g.count → t.key ≡ g.key → transcript_group t ≡ g
 same_group t g mode count key = ap (λ (k : Mode). record { mode = k; count = t.count; key = t.key }) mode ∙ ap (λ (n : ℕ). record { mode = g.mode; count = n; key = t.key }) count ∙ ap (λ (k : List ℕ). record { mode = g.mode; count = g.count; key = k }) key

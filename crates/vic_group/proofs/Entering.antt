@@ -13,11 +13,11 @@ use Rattle.vic_tag.specs.Keys.{fault_in}
 use Rattle.vic_wire.specs.Hashes.{Group, IsGroup}
 use Rattle.vic_rules.specs.declared.trace.TraceStep.{TraceStep}
 use Rattle.vic_view.specs.declared.transcript.Transcript.{Transcript}
-use Rattle.vic_view.specs.Transcripts.{steps_of, group_of}
+use Rattle.vic_view.specs.Transcripts.{transcript_steps, transcript_group}
 use Rattle.vic_order.specs.Scenes.{server_at, opening_with}
 use Rattle.vic_group.specs.declared.member.Member.{Member}
 use Rattle.vic_group.specs.Members.{AllStand}
-use Rattle.vic_group.specs.World.{MemberStands, Shows}
+use Rattle.vic_group.specs.World.{MemberStands, ShowsParts}
 
 -- one more client behind those that stand
 pub stand_push : {M : Type 0} (P : M → ℕ → Type 0) (i : ℕ) (ms : List M) (m : M) → AllStand P i ms → P m (i + length ms) → AllStand P i (ms ++ m ∷ [])
@@ -99,8 +99,8 @@ all_placed vs (m ∷ ms) (suc n) are there =
     (ap (λ (k : ℕ). is_some (server_at vs k)) here ∙ there, all_placed vs ms n others there)
 
 -- so a world opens
-pub shows_opening : {V : Type 0} (t : Transcript) (ms : List Member) (vs : List (Option V)) (g : Group) (v : V) → group_of t ≡ g → steps_of t ≡ [] → vs ≡ Some v ∷ None ∷ None ∷ None ∷ [] → IsGroup g → HaveEntered g g.count ms
-    → Shows t ms vs (opening_with g v)
+pub shows_opening : {V : Type 0} (t : Transcript) (ms : List Member) (vs : List (Option V)) (g : Group) (v : V) → transcript_group t ≡ g → transcript_steps t ≡ [] → vs ≡ Some v ∷ None ∷ None ∷ None ∷ [] → IsGroup g → HaveEntered g g.count ms
+    → ShowsParts t ms vs (opening_with g v)
 shows_opening t ms vs g v group none servers is have = record {
   count = have.count;
   few = is.count.1;

@@ -10,12 +10,12 @@ use Rattle.vic_dict.specs.declared.op.Mode.TheVariants as mode
 use Rattle.vic_rules.specs.declared.object.ObjectCall.{ObjectCall}
 use Rattle.vic_rules.specs.Objects.{FitsObject}
 use Rattle.vic_wire.specs.Hashes.{Group, IsGroup}
-use Rattle.vic_order.specs.Order.{fresh_server, ready, same_mode}
+use Rattle.vic_order.specs.Order.{fresh_server, ready_member, same_mode}
 use Rattle.vic_order.specs.Serving.{Serving, AnswersAs}
 use Rattle.vic_script.specs.declared.line.Line.{Line}
 use Rattle.vic_script.specs.declared.line.Line.TheVariants as line
-use Rattle.vic_order.specs.Scenes.{SceneOf, opening_with, serves, stands, after_events}
-use Rattle.vic_script.specs.Scenes.{turns, done_line, bad_kind, asked_tests, is_honest_line, fits_op, is_plain_call, fits_object, is_object_call}
+use Rattle.vic_order.specs.Scenes.{SceneOf, opening_with, after_serving, standing_in, after_events}
+use Rattle.vic_script.specs.Scenes.{events_of_turns, done_line, bad_kind, asked_tests, is_honest_line, fits_op, is_plain_call, fits_object, is_object_call}
 use Rattle.vic_runs.specs.Claims.{FitsLine}
 use Rattle.vic_runs.specs.Reached.{IsHonestlyReached}
 use Rattle.vic_runs.proofs.Tests.{passed, client_is, called_is, plain_is, object_called_is, objects_is, fits_op_is, fits_object_is}
@@ -25,7 +25,7 @@ use Rattle.vic_runs.proofs.Honest.{honest-more, honest-opening, honest-line, hon
 use Rattle.vic_runs.proofs.Runs.{holds_at, holds_anyway}
 use Rattle.vic_group.specs.declared.world.World.{World}
 use Rattle.vic_group.specs.declared.member.Member.{Member}
-use Rattle.vic_group.specs.World.{ShowsScene, IsReady, HasBytes, MayDo, IsLeft, Does, StandsHonestly, states}
+use Rattle.vic_group.specs.World.{ShowsScene, IsReady, HasBytes, MayDo, LeftWithoutMemory, DoesLine, StandsHonestly, states}
 use Rattle.vic_group.proofs.Scenes.{stands_here}
 use Rattle.vic_group.proofs.Turns.{member_in}
 
@@ -49,7 +49,7 @@ module _ {S V : Type 0} (state : S → V) (rule : Serving V) where
   stands_at w s n shows r = record { scene = s; shows = shows; reached = r; anyway = holds_anyway (AnswersAs rule) s r.comes; holds = holds_at (AnswersAs rule) s r.comes }
 
   -- the opening, with a server that answers as one that has all clients ready
-  pub stands_opening : (w : World S) (g : Group) (v : V) → ShowsScene state w (opening_with g v) → IsGroup g → AnswersAs rule v (fresh_server g.mode g.count ready) → StandsHonestly state rule w 0
+  pub stands_opening : (w : World S) (g : Group) (v : V) → ShowsScene state w (opening_with g v) → IsGroup g → AnswersAs rule v (fresh_server g.mode g.count ready_member) → StandsHonestly state rule w 0
   stands_opening w g v shows group alike = stands_at w (opening_with g v) 0 shows (honest-opening (AnswersAs rule) g v group alike)
 
   -- ---- what a line leads to
@@ -79,7 +79,7 @@ module _ {S V : Type 0} (state : S → V) (rule : Serving V) where
   object_called_mode s i c good = objects_is s i c good
 
   -- the client of a scene that a world shows may call once more where its member may
-  left_of : (w : World S) (s : SceneOf V) (i : ℕ) (k : Mode) → ShowsScene state w s → 0 < i → i ≤ s.group.count → ((m : Member) → slice_get w.members.items (i - 1) ≡ Some m → IsReady k m) → (stands s i).calls + 1 < 2 ^ 32
+  left_of : (w : World S) (s : SceneOf V) (i : ℕ) (k : Mode) → ShowsScene state w s → 0 < i → i ≤ s.group.count → ((m : Member) → slice_get w.members.items (i - 1) ≡ Some m → IsReady k m) → (standing_in s i).calls + 1 < 2 ^ 32
   left_of w s i k shows above upto ready =
       let count : length w.members.items ≡ s.group.count = shows.count in
       let m = member_in w.members.items (i - 1) (omega (arith, above, upto, count)) in
@@ -138,13 +138,13 @@ module _ {S V : Type 0} (state : S → V) (rule : Serving V) where
   left_at w s n shows r = stands_at w s (n + 1) shows (honest-more (AnswersAs rule) s n (n + 1) (omega arith) r)
 
   -- where memory ran out
-  left_so : (new : World S) (s : SceneOf V) (n : ℕ) (l : Line) → IsHonestlyReached (AnswersAs rule) s n → IsLeft state rule s l new → StandsHonestly state rule new (n + 1)
+  left_so : (new : World S) (s : SceneOf V) (n : ℕ) (l : Line) → IsHonestlyReached (AnswersAs rule) s n → LeftWithoutMemory state rule s l new → StandsHonestly state rule new (n + 1)
   left_so new s n (line.Run i) r left =
       let bounds = client_is s i left.0 in
       let both = honest-left (AnswersAs rule) rule (alike_is_kept rule) s n r i bounds.0 bounds.1 left.1.0 in
       elim left.1.1.1 [
-        | inl turned ↦ left_at new (after_events rule s (turns rule left.1.0 s i)) n turned both.0
-        | inr served ↦ left_at new (serves rule (after_events rule s (turns rule left.1.0 s i)) i) n served both.1
+        | inl turned ↦ left_at new (after_events rule s (events_of_turns rule left.1.0 s i)) n turned both.0
+        | inr served ↦ left_at new (after_serving rule (after_events rule s (events_of_turns rule left.1.0 s i)) i) n served both.1
       ]
   left_so new s n (line.Clients k) r left = left_at new s n left r
   left_so new s n (line.Objects k) r left = left_at new s n left r
@@ -165,11 +165,11 @@ module _ {S V : Type 0} (state : S → V) (rule : Serving V) where
   left_so new s n line.Skip r left = left_at new s n left r
 
   -- an honest line, whatever it comes to
-  pub stands_line : (w new : World S) (n : ℕ) (l : Line) (r : Result (Option ℕ) NoMemory) (before after : List ℕ) → MayDo w l → HasBytes l → ((s : SceneOf V) → ShowsScene state w s → Does state rule s l r new before after)
+  pub stands_line : (w new : World S) (n : ℕ) (l : Line) (r : Result (Option ℕ) NoMemory) (before after : List ℕ) → MayDo w l → HasBytes l → ((s : SceneOf V) → ShowsScene state w s → DoesLine state rule s l r new before after)
       → StandsHonestly state rule w n → is_honest_line l ≡ true → StandsHonestly state rule new (n + 1)
   stands_line w new n l r before after may bytes does at honest = by_result r (does at.scene at.shows)
     where
-      by_result : (r : Result (Option ℕ) NoMemory) → Does state rule at.scene l r new before after → StandsHonestly state rule new (n + 1)
+      by_result : (r : Result (Option ℕ) NoMemory) → DoesLine state rule at.scene l r new before after → StandsHonestly state rule new (n + 1)
       by_result (Ok None) done =
           stands_at new (done_line rule at.scene l).scene (n + 1) done.1.1
           (honest-line (AnswersAs rule) rule (alike_is_kept rule) at.scene n l at.reached (call_left w at.scene l at.shows may done.0) done.0 (line_fits at.scene l bytes done.0 honest) honest)

@@ -10,61 +10,61 @@ use Rattle.vic_rules.specs.Client.{first_failing}
 use Rattle.vic_order.specs.Serving.{Serving}
 use Rattle.vic_script.specs.declared.line.Line.{Line}
 use Rattle.vic_script.specs.declared.line.Line.TheVariants as line
-use Rattle.vic_script.specs.Lines.{is_place}
-use Rattle.vic_order.specs.Scenes.{SceneOf, steps, serves, resends, copies, joins, last_taken, last_sent, is_client, is_server, server_at, waits_in, has_byte, Event, Asks, Takes, Flips, Hears}
+use Rattle.vic_script.specs.Lines.{is_server_number}
+use Rattle.vic_order.specs.Scenes.{SceneOf, after_step, after_serving, after_resending, after_copying, after_joining, last_taken, last_sent, is_client, is_server, server_at, waits_in, has_byte, Event, Asks, Takes, Flips, Hears}
 use Rattle.vic_rules.specs.declared.object.ObjectCall.{ObjectCall}
-use Rattle.vic_script.specs.Scenes.{hears_if, most_turns, turns, events_of, is_plain_call, is_object_call, asked_tests, line_tests, bad_kind}
+use Rattle.vic_script.specs.Scenes.{events_of_hearing, most_turns, events_of_turns, events_of, is_plain_call, is_object_call, asked_tests, line_tests, bad_kind}
 use Rattle.vic_view.specs.declared.transcript.Transcript.{Transcript}
 use Rattle.vic_group.specs.declared.member.Member.{Member}
 use Rattle.vic_group.specs.declared.world.World.{World}
-use Rattle.vic_group.specs.World.{Shows, ShowsScene, Makes, MakesIf, IsLeft, IsLeftOf, Does, states}
+use Rattle.vic_group.specs.World.{ShowsParts, ShowsScene, Makes, MakesIf, LeftWithoutMemory, TurnsLeftWithoutMemory, DoesLine, states}
 use Rattle.vic_group.proofs.Asking.{first_fails, one_passes, both_pass, second_fails}
 use Rattle.vic_group.proofs.Turns.{serves_rest}
 
 module _ {S V : Type 0} (state : S → V) (rule : Serving V) where
   -- a line that prints nothing, behind what was printed
-  pub behind_all : (s : SceneOf V) (l : Line) (r : Result (Option ℕ) NoMemory) (w : World S) (out : List ℕ) → Does state rule s l r w [] [] → Does state rule s l r w out out
+  pub behind_all : (s : SceneOf V) (l : Line) (r : Result (Option ℕ) NoMemory) (w : World S) (out : List ℕ) → DoesLine state rule s l r w [] [] → DoesLine state rule s l r w out out
   behind_all s l (Ok None) w out does = (does.0, (sym (append-nil out) ∙ ap (λ (text : List ℕ). out ++ text) does.1.0, does.1.1))
   behind_all s l (Ok (Some k)) w out does = does
   behind_all s l (Err e) w out does = does
 
   -- a call of a client that is asked for it
   pub called_line : (r : Result (Option ℕ) NoMemory) (s : SceneOf V) (i : ℕ) (o copy : Op) (w : World S) → copy ≡ o → is_plain_call s o ≡ true
-      → IfOk r (λ bad. (first_failing (asked_tests s i) ≡ bad) × MatchOption bad (ShowsScene state w (steps s i (input.Call copy))) (λ kind. ShowsScene state w s)) → OnErr r (ShowsScene state w s)
-      → Does state rule s (line.Call i o) r w [] []
+      → IfOk r (λ bad. (first_failing (asked_tests s i) ≡ bad) × MatchOption bad (ShowsScene state w (after_step s i (input.Call copy))) (λ kind. ShowsScene state w s)) → OnErr r (ShowsScene state w s)
+      → DoesLine state rule s (line.Call i o) r w [] []
   unfolding bad_kind
   called_line (Err e) s i o copy w same plain went kept = kept
   called_line (Ok None) s i o copy w same plain went kept = (
     ap (λ (b : Bool). if b then first_failing (asked_tests s i) else Some 1) plain ∙ went.0,
-    (refl, subst (λ (p : Op). ShowsScene state w (steps s i (input.Call p))) same went.1),
+    (refl, subst (λ (p : Op). ShowsScene state w (after_step s i (input.Call p))) same went.1),
   )
   called_line (Ok (Some k)) s i o copy w same plain went kept = (ap (λ (b : Bool). if b then first_failing (asked_tests s i) else Some 1) plain ∙ went.0, went.1)
 
-  pub uncalled_line : (s : SceneOf V) (i : ℕ) (o : Op) (w : World S) → is_plain_call s o ≡ false → ShowsScene state w s → Does state rule s (line.Call i o) (Ok (Some 1)) w [] []
+  pub uncalled_line : (s : SceneOf V) (i : ℕ) (o : Op) (w : World S) → is_plain_call s o ≡ false → ShowsScene state w s → DoesLine state rule s (line.Call i o) (Ok (Some 1)) w [] []
   unfolding bad_kind
   uncalled_line s i o w other shows = (first_fails 1 (is_plain_call s o) (asked_tests s i) other, shows)
 
   -- a call on objects of a client that is asked for it
   pub object_called_line : (r : Result (Option ℕ) NoMemory) (s : SceneOf V) (i : ℕ) (call copy : ObjectCall) (w : World S) → copy ≡ call → is_object_call s call ≡ true
-      → IfOk r (λ bad. (first_failing (asked_tests s i) ≡ bad) × MatchOption bad (ShowsScene state w (steps s i (input.Object copy))) (λ kind. ShowsScene state w s)) → OnErr r (ShowsScene state w s)
-      → Does state rule s (line.Object i call) r w [] []
+      → IfOk r (λ bad. (first_failing (asked_tests s i) ≡ bad) × MatchOption bad (ShowsScene state w (after_step s i (input.Object copy))) (λ kind. ShowsScene state w s)) → OnErr r (ShowsScene state w s)
+      → DoesLine state rule s (line.Object i call) r w [] []
   unfolding bad_kind
   object_called_line (Err e) s i call copy w same objects went kept = kept
   object_called_line (Ok None) s i call copy w same objects went kept = (
     ap (λ (b : Bool). if b then first_failing (asked_tests s i) else Some 1) objects ∙ went.0,
-    (refl, subst (λ (c : ObjectCall). ShowsScene state w (steps s i (input.Object c))) same went.1),
+    (refl, subst (λ (c : ObjectCall). ShowsScene state w (after_step s i (input.Object c))) same went.1),
   )
   object_called_line (Ok (Some k)) s i call copy w same objects went kept = (ap (λ (b : Bool). if b then first_failing (asked_tests s i) else Some 1) objects ∙ went.0, went.1)
 
-  pub object_uncalled_line : (s : SceneOf V) (i : ℕ) (call : ObjectCall) (w : World S) → is_object_call s call ≡ false → ShowsScene state w s → Does state rule s (line.Object i call) (Ok (Some 1)) w [] []
+  pub object_uncalled_line : (s : SceneOf V) (i : ℕ) (call : ObjectCall) (w : World S) → is_object_call s call ≡ false → ShowsScene state w s → DoesLine state rule s (line.Object i call) (Ok (Some 1)) w [] []
   unfolding bad_kind
   object_uncalled_line s i call w other shows = (first_fails 1 (is_object_call s call) (asked_tests s i) other, shows)
 
   -- a line by which a client is asked for something
   pub asks : (r : Result (Option ℕ) NoMemory) (s : SceneOf V) (l : Line) (i : ℕ) (given : Input) (w : World S) (out : List ℕ) → line_tests s l ≡ asked_tests s i → events_of rule s l ≡ Asks i given ∷ []
-      → (ShowsScene state w s → IsLeft state rule s l w)
-      → IfOk r (λ bad. (first_failing (asked_tests s i) ≡ bad) × MatchOption bad (ShowsScene state w (steps s i given)) (λ kind. ShowsScene state w s)) → OnErr r (ShowsScene state w s)
-      → Does state rule s l r w out out
+      → (ShowsScene state w s → LeftWithoutMemory state rule s l w)
+      → IfOk r (λ bad. (first_failing (asked_tests s i) ≡ bad) × MatchOption bad (ShowsScene state w (after_step s i given)) (λ kind. ShowsScene state w s)) → OnErr r (ShowsScene state w s)
+      → DoesLine state rule s l r w out out
   unfolding bad_kind
   asks (Err e) s l i given w out tests does left went kept = left kept
   asks (Ok None) s l i given w out tests does left went kept = (
@@ -80,73 +80,73 @@ module _ {S V : Type 0} (state : S → V) (rule : Serving V) where
   absent s l who others w tests gone shows = (ap (λ (cs : List (ℕ × Bool)). first_failing cs) tests ∙ first_fails 2 (is_client s who) others gone, shows)
 
   -- a serving
-  pub served_line : (s : SceneOf V) (i who : ℕ) (w : World S) → i ≡ who → is_client s i ≡ true → waits_in s.up i ≡ true → ShowsScene state w (serves rule s i) → Does state rule s (line.Serve who) (Ok None) w [] []
+  pub served_line : (s : SceneOf V) (i who : ℕ) (w : World S) → i ≡ who → is_client s i ≡ true → waits_in s.up i ≡ true → ShowsScene state w (after_serving rule s i) → DoesLine state rule s (line.Serve who) (Ok None) w [] []
   unfolding bad_kind
   served_line s i who w e there some shows =
-      subst (λ (n : ℕ). Does state rule s (line.Serve n) (Ok None) w [] []) e (both_pass 2 5 (is_client s i) (waits_in s.up i) there some, (refl, shows))
+      subst (λ (n : ℕ). DoesLine state rule s (line.Serve n) (Ok None) w [] []) e (both_pass 2 5 (is_client s i) (waits_in s.up i) there some, (refl, shows))
 
-  pub unserved_line : (s : SceneOf V) (i who : ℕ) (w : World S) → i ≡ who → is_client s i ≡ true → waits_in s.up i ≡ false → ShowsScene state w (serves rule s i) → Does state rule s (line.Serve who) (Ok (Some 5)) w [] []
+  pub unserved_line : (s : SceneOf V) (i who : ℕ) (w : World S) → i ≡ who → is_client s i ≡ true → waits_in s.up i ≡ false → ShowsScene state w (after_serving rule s i) → DoesLine state rule s (line.Serve who) (Ok (Some 5)) w [] []
   unfolding bad_kind
   unserved_line s i who w e there none shows =
-      subst (λ (n : ℕ). Does state rule s (line.Serve n) (Ok (Some 5)) w [] []) e
+      subst (λ (n : ℕ). DoesLine state rule s (line.Serve n) (Ok (Some 5)) w [] []) e
       (second_fails 2 5 (is_client s i) (waits_in s.up i) there none, subst (λ (t : SceneOf V). ShowsScene state w t) (serves_rest rule s i none) shows)
 
   -- a taking
   pub took_line : (s : SceneOf V) (i who : ℕ) (w : World S) (before after : List ℕ) (went : Bool) → i ≡ who → is_client s i ≡ true → went ≡ true → (waits_in s.down i ≡ went) × MakesIf state rule s (Takes i) w before after went
-      → Does state rule s (line.Take who) (Ok None) w before after
+      → DoesLine state rule s (line.Take who) (Ok None) w before after
   unfolding bad_kind
   took_line s i who w before after went e there came does =
-      subst (λ (n : ℕ). Does state rule s (line.Take n) (Ok None) w before after) e
+      subst (λ (n : ℕ). DoesLine state rule s (line.Take n) (Ok None) w before after) e
       (both_pass 2 5 (is_client s i) (waits_in s.down i) there (does.0 ∙ came), subst (λ (g : Bool). MakesIf state rule s (Takes i) w before after g) came does.1)
 
   pub untook_line : (s : SceneOf V) (i who : ℕ) (w : World S) (before after : List ℕ) (went : Bool) → i ≡ who → is_client s i ≡ true → went ≡ false → (waits_in s.down i ≡ went) × MakesIf state rule s (Takes i) w before after went
-      → Does state rule s (line.Take who) (Ok (Some 5)) w before after
+      → DoesLine state rule s (line.Take who) (Ok (Some 5)) w before after
   unfolding bad_kind
   untook_line s i who w before after went e there gone does =
-      subst (λ (n : ℕ). Does state rule s (line.Take n) (Ok (Some 5)) w before after) e
+      subst (λ (n : ℕ). DoesLine state rule s (line.Take n) (Ok (Some 5)) w before after) e
       (second_fails 2 5 (is_client s i) (waits_in s.down i) there (does.0 ∙ gone), (subst (λ (g : Bool). MakesIf state rule s (Takes i) w before after g) gone does.1).1)
 
   -- a taking of an answer that was changed
   pub flipped_line : (s : SceneOf V) (i who n : ℕ) (w : World S) (before after : List ℕ) (went : Bool) → i ≡ who → is_client s i ≡ true → went ≡ true → (has_byte s.down i n ≡ went) × MakesIf state rule s (Flips i n) w before after went
-      → Does state rule s (line.Flip who n) (Ok None) w before after
+      → DoesLine state rule s (line.Flip who n) (Ok None) w before after
   unfolding bad_kind
   flipped_line s i who n w before after went e there came does =
-      subst (λ (k : ℕ). Does state rule s (line.Flip k n) (Ok None) w before after) e
+      subst (λ (k : ℕ). DoesLine state rule s (line.Flip k n) (Ok None) w before after) e
       (both_pass 2 5 (is_client s i) (has_byte s.down i n) there (does.0 ∙ came), subst (λ (g : Bool). MakesIf state rule s (Flips i n) w before after g) came does.1)
 
   pub unflipped_line : (s : SceneOf V) (i who n : ℕ) (w : World S) (before after : List ℕ) (went : Bool) → i ≡ who → is_client s i ≡ true → went ≡ false → (has_byte s.down i n ≡ went) × MakesIf state rule s (Flips i n) w before after went
-      → Does state rule s (line.Flip who n) (Ok (Some 5)) w before after
+      → DoesLine state rule s (line.Flip who n) (Ok (Some 5)) w before after
   unfolding bad_kind
   unflipped_line s i who n w before after went e there gone does =
-      subst (λ (k : ℕ). Does state rule s (line.Flip k n) (Ok (Some 5)) w before after) e
+      subst (λ (k : ℕ). DoesLine state rule s (line.Flip k n) (Ok (Some 5)) w before after) e
       (second_fails 2 5 (is_client s i) (has_byte s.down i n) there (does.0 ∙ gone), (subst (λ (g : Bool). MakesIf state rule s (Flips i n) w before after g) gone does.1).1)
 
   -- a run
-  pub ran_line : (s : SceneOf V) (i who : ℕ) (w : World S) (before after : List ℕ) → i ≡ who → is_client s i ≡ true → Makes state rule s (turns rule most_turns s i) w before after
-      → Does state rule s (line.Run who) (Ok None) w before after
+  pub ran_line : (s : SceneOf V) (i who : ℕ) (w : World S) (before after : List ℕ) → i ≡ who → is_client s i ≡ true → Makes state rule s (events_of_turns rule most_turns s i) w before after
+      → DoesLine state rule s (line.Run who) (Ok None) w before after
   unfolding bad_kind
-  ran_line s i who w before after e there does = subst (λ (n : ℕ). Does state rule s (line.Run n) (Ok None) w before after) e (one_passes 2 (is_client s i) there, does)
+  ran_line s i who w before after e there does = subst (λ (n : ℕ). DoesLine state rule s (line.Run n) (Ok None) w before after) e (one_passes 2 (is_client s i) there, does)
 
-  pub cut_line : {T : Type 0} (r : Result T NoMemory) (s : SceneOf V) (i who : ℕ) (w : World S) → i ≡ who → is_client s i ≡ true → OnErr r (IsLeftOf state rule most_turns s i w) → OnErr r ((is_client s who ≡ true) × IsLeftOf state rule most_turns s who w)
+  pub cut_line : {T : Type 0} (r : Result T NoMemory) (s : SceneOf V) (i who : ℕ) (w : World S) → i ≡ who → is_client s i ≡ true → OnErr r (TurnsLeftWithoutMemory state rule most_turns s i w) → OnErr r ((is_client s who ≡ true) × TurnsLeftWithoutMemory state rule most_turns s who w)
   cut_line (Ok done) s i who w e there left = tt
-  cut_line (Err f) s i who w e there left = subst (λ (n : ℕ). (is_client s n ≡ true) × IsLeftOf state rule most_turns s n w) e (there, left)
+  cut_line (Err f) s i who w e there left = subst (λ (n : ℕ). (is_client s n ≡ true) × TurnsLeftWithoutMemory state rule most_turns s n w) e (there, left)
 
   -- a payload that is given
   pub gave_line : (s : SceneOf V) (i who : ℕ) (payload copy : List ℕ) (w : World S) (before after : List ℕ) → i ≡ who → copy ≡ payload → is_client s i ≡ true
-      → Makes state rule s (Hears i copy ∷ []) w before after → Does state rule s (line.Give who payload) (Ok None) w before after
+      → Makes state rule s (Hears i copy ∷ []) w before after → DoesLine state rule s (line.Give who payload) (Ok None) w before after
   unfolding bad_kind
   gave_line s i who payload copy w before after e same there does =
-      subst (λ (p : List ℕ). Does state rule s (line.Give who p) (Ok None) w before after) same
-      (subst (λ (n : ℕ). Does state rule s (line.Give n copy) (Ok None) w before after) e (one_passes 2 (is_client s i) there, does))
+      subst (λ (p : List ℕ). DoesLine state rule s (line.Give who p) (Ok None) w before after) same
+      (subst (λ (n : ℕ). DoesLine state rule s (line.Give n copy) (Ok None) w before after) e (one_passes 2 (is_client s i) there, does))
 
   -- a payload that is taken once more
   pub repeated_line : (s : SceneOf V) (i who : ℕ) (payload : List ℕ) (w : World S) (before after : List ℕ) → i ≡ who → last_taken i s.history ≡ Some payload → is_client s i ≡ true
-      → Makes state rule s (Hears i payload ∷ []) w before after → Does state rule s (line.Again who) (Ok None) w before after
+      → Makes state rule s (Hears i payload ∷ []) w before after → DoesLine state rule s (line.Again who) (Ok None) w before after
   unfolding bad_kind
   repeated_line s i who payload w before after e last there does =
-      subst (λ (n : ℕ). Does state rule s (line.Again n) (Ok None) w before after) e (
+      subst (λ (n : ℕ). DoesLine state rule s (line.Again n) (Ok None) w before after) e (
         both_pass 2 5 (is_client s i) (is_some (last_taken i s.history)) there (ap (λ (o : Option (List ℕ)). is_some o) last),
-        subst (λ (o : Option (List ℕ)). Makes state rule s (hears_if i o) w before after) (sym last) does,
+        subst (λ (o : Option (List ℕ)). Makes state rule s (events_of_hearing i o) w before after) (sym last) does,
       )
 
   pub unrepeated_line : (s : SceneOf V) (i who : ℕ) (w : World S) → i ≡ who → last_taken i s.history ≡ None → is_client s i ≡ true → ShowsScene state w s → (bad_kind s (line.Again who) ≡ Some 5) × ShowsScene state w s
@@ -155,23 +155,23 @@ module _ {S V : Type 0} (state : S → V) (rule : Serving V) where
       subst (λ (n : ℕ). (bad_kind s (line.Again n) ≡ Some 5) × ShowsScene state w s) e (second_fails 2 5 (is_client s i) (is_some (last_taken i s.history)) there (ap (λ (o : Option (List ℕ)). is_some o) none), shows)
 
   -- a server that is copied
-  pub copied_line : (s : SceneOf V) (n to : ℕ) (w : World S) → is_place to ≡ true → is_server s n ≡ true → ShowsScene state w (copies s n to) → Does state rule s (line.Copy n to) (Ok None) w [] []
+  pub copied_line : (s : SceneOf V) (n to : ℕ) (w : World S) → is_server_number to ≡ true → is_server s n ≡ true → ShowsScene state w (after_copying s n to) → DoesLine state rule s (line.Copy n to) (Ok None) w [] []
   unfolding bad_kind
-  copied_line s n to w place there shows = (both_pass 1 6 (is_place to) (is_server s n) place there, (refl, shows))
+  copied_line s n to w place there shows = (both_pass 1 6 (is_server_number to) (is_server s n) place there, (refl, shows))
 
-  pub misplaced_line : (s : SceneOf V) (n to : ℕ) (w : World S) → is_place to ≡ false → ShowsScene state w s → Does state rule s (line.Copy n to) (Ok (Some 1)) w [] []
+  pub misplaced_line : (s : SceneOf V) (n to : ℕ) (w : World S) → is_server_number to ≡ false → ShowsScene state w s → DoesLine state rule s (line.Copy n to) (Ok (Some 1)) w [] []
   unfolding bad_kind
-  misplaced_line s n to w place shows = (first_fails 1 (is_place to) ((6, is_server s n) ∷ []) place, shows)
+  misplaced_line s n to w place shows = (first_fails 1 (is_server_number to) ((6, is_server s n) ∷ []) place, shows)
 
-  pub uncopied_line : (s : SceneOf V) (n to : ℕ) (w : World S) → is_place to ≡ true → is_server s n ≡ false → ShowsScene state w s → Does state rule s (line.Copy n to) (Ok (Some 6)) w [] []
+  pub uncopied_line : (s : SceneOf V) (n to : ℕ) (w : World S) → is_server_number to ≡ true → is_server s n ≡ false → ShowsScene state w s → DoesLine state rule s (line.Copy n to) (Ok (Some 6)) w [] []
   unfolding bad_kind
-  uncopied_line s n to w place gone shows = (second_fails 1 6 (is_place to) (is_server s n) place gone, shows)
+  uncopied_line s n to w place gone shows = (second_fails 1 6 (is_server_number to) (is_server s n) place gone, shows)
 
   -- a client that would join a server that doesn't exist
-  pub unmoved_line : (s : SceneOf V) (i who n : ℕ) (w : World S) → i ≡ who → is_client s i ≡ true → is_server s n ≡ false → ShowsScene state w s → Does state rule s (line.Move who n) (Ok (Some 6)) w [] []
+  pub unmoved_line : (s : SceneOf V) (i who n : ℕ) (w : World S) → i ≡ who → is_client s i ≡ true → is_server s n ≡ false → ShowsScene state w s → DoesLine state rule s (line.Move who n) (Ok (Some 6)) w [] []
   unfolding bad_kind
   unmoved_line s i who n w e there gone shows =
-      subst (λ (k : ℕ). Does state rule s (line.Move k n) (Ok (Some 6)) w [] []) e (second_fails 2 6 (is_client s i) (is_server s n) there gone, shows)
+      subst (λ (k : ℕ). DoesLine state rule s (line.Move k n) (Ok (Some 6)) w [] []) e (second_fails 2 6 (is_client s i) (is_server s n) there gone, shows)
 
   -- a line of the header, once a script has opened
   pub header_line : (s : SceneOf V) (l : Line) (w : World S) → ((n : ℕ) × (l ≡ line.Clients n)) ⊎ (((n : ℕ) × (l ≡ line.Objects n)) ⊎ (((digits : List ℕ) × (l ≡ line.Key digits)) ⊎ ((name : List ℕ) × (n : ℕ) × (l ≡ line.Hostile name n))))
@@ -183,9 +183,9 @@ module _ {S V : Type 0} (state : S → V) (rule : Serving V) where
   header_line s l w (inr (inr (inr a))) shows = (ap (λ (k : Line). first_failing (line_tests s k)) a.2, shows)
 
   -- a line that does nothing
-  pub skipped_line : (s : SceneOf V) (l : Line) (w : World S) (out : List ℕ) → l ≡ line.Skip → ShowsScene state w s → Does state rule s l (Ok None) w out out
+  pub skipped_line : (s : SceneOf V) (l : Line) (w : World S) (out : List ℕ) → l ≡ line.Skip → ShowsScene state w s → DoesLine state rule s l (Ok None) w out out
   unfolding bad_kind
-  skipped_line s l w out is shows = subst (λ (k : Line). Does state rule s k (Ok None) w out out) (sym is) (refl, (sym (append-nil out), shows))
+  skipped_line s l w out is shows = subst (λ (k : Line). DoesLine state rule s k (Ok None) w out out) (sym is) (refl, (sym (append-nil out), shows))
 
 -- a server of the scene that a world shows
 pub server_shown : {S V : Type 0} (state : S → V) (w : World S) (s : SceneOf V) (n : ℕ) → ShowsScene state w s → is_some (server_at (states state w.servers) n) ≡ is_server s n
@@ -193,20 +193,20 @@ server_shown {V = V} state w s n shows = ap (λ (us : List (Option V)). is_some 
 
 module _ {V : Type 0} (t : Transcript) (ms : List Member) (vs : List (Option V)) where
   -- a payload that is sent again
-  pub resent_shows : (s : SceneOf V) (i who : ℕ) → i ≡ who → is_some (last_sent i s.history) ≡ true → is_client s i ≡ true → Shows t ms vs (resends s i)
-      → (bad_kind s (line.Resend who) ≡ None) × ((◌≡◌ {A = List ℕ} [] []) × Shows t ms vs (resends s who))
+  pub resent_shows : (s : SceneOf V) (i who : ℕ) → i ≡ who → is_some (last_sent i s.history) ≡ true → is_client s i ≡ true → ShowsParts t ms vs (after_resending s i)
+      → (bad_kind s (line.Resend who) ≡ None) × ((◌≡◌ {A = List ℕ} [] []) × ShowsParts t ms vs (after_resending s who))
   unfolding bad_kind
   resent_shows s i who e some there shows =
-      subst (λ (n : ℕ). (bad_kind s (line.Resend n) ≡ None) × ((◌≡◌ {A = List ℕ} [] []) × Shows t ms vs (resends s n))) e (both_pass 2 5 (is_client s i) (is_some (last_sent i s.history)) there some, (refl, shows))
+      subst (λ (n : ℕ). (bad_kind s (line.Resend n) ≡ None) × ((◌≡◌ {A = List ℕ} [] []) × ShowsParts t ms vs (after_resending s n))) e (both_pass 2 5 (is_client s i) (is_some (last_sent i s.history)) there some, (refl, shows))
 
-  pub unresent_shows : (s : SceneOf V) (i who : ℕ) → i ≡ who → is_some (last_sent i s.history) ≡ false → is_client s i ≡ true → Shows t ms vs s → (bad_kind s (line.Resend who) ≡ Some 5) × Shows t ms vs s
+  pub unresent_shows : (s : SceneOf V) (i who : ℕ) → i ≡ who → is_some (last_sent i s.history) ≡ false → is_client s i ≡ true → ShowsParts t ms vs s → (bad_kind s (line.Resend who) ≡ Some 5) × ShowsParts t ms vs s
   unfolding bad_kind
   unresent_shows s i who e none there shows =
-      subst (λ (n : ℕ). (bad_kind s (line.Resend n) ≡ Some 5) × Shows t ms vs s) e (second_fails 2 5 (is_client s i) (is_some (last_sent i s.history)) there none, shows)
+      subst (λ (n : ℕ). (bad_kind s (line.Resend n) ≡ Some 5) × ShowsParts t ms vs s) e (second_fails 2 5 (is_client s i) (is_some (last_sent i s.history)) there none, shows)
 
   -- a client that joins a server
-  pub moved_shows : (s : SceneOf V) (i who n : ℕ) → i ≡ who → is_client s i ≡ true → is_server s n ≡ true → Shows t ms vs (joins s i n)
-      → (bad_kind s (line.Move who n) ≡ None) × ((◌≡◌ {A = List ℕ} [] []) × Shows t ms vs (joins s who n))
+  pub moved_shows : (s : SceneOf V) (i who n : ℕ) → i ≡ who → is_client s i ≡ true → is_server s n ≡ true → ShowsParts t ms vs (after_joining s i n)
+      → (bad_kind s (line.Move who n) ≡ None) × ((◌≡◌ {A = List ℕ} [] []) × ShowsParts t ms vs (after_joining s who n))
   unfolding bad_kind
   moved_shows s i who n e there server shows =
-      subst (λ (k : ℕ). (bad_kind s (line.Move k n) ≡ None) × ((◌≡◌ {A = List ℕ} [] []) × Shows t ms vs (joins s k n))) e (both_pass 2 6 (is_client s i) (is_server s n) there server, (refl, shows))
+      subst (λ (k : ℕ). (bad_kind s (line.Move k n) ≡ None) × ((◌≡◌ {A = List ℕ} [] []) × ShowsParts t ms vs (after_joining s k n))) e (both_pass 2 6 (is_client s i) (is_server s n) there server, (refl, shows))

@@ -8,7 +8,7 @@ use Rattle.vic_rules.specs.declared.trace.TraceStep.{TraceStep}
 use Rattle.vic_rules.specs.Client.{Standing, step}
 use Rattle.vic_rules.specs.History.{standing}
 use Rattle.vic_laws.proofs.Standings.{standing_moved, standing_kept}
-use Rattle.vic_client.specs.Kept.{Kept, StandsFor, group_of}
+use Rattle.vic_client.specs.Kept.{KeptClient, StandsFor, kept_group}
 use Rattle.vic_order.specs.Scenes.{or_before, payload_in, last_taken, last_sent}
 use Rattle.vic_group.specs.declared.member.Member.{Member}
 use Rattle.vic_group.specs.Members.{AllStand}
@@ -62,9 +62,9 @@ stays_apart g h x m j apart so = record {
 -- a member exchanged for one with the same client shows as much
 pub same_member : (g : Group) (h : List TraceStep) (m n : Member) (j : ℕ) → n.client ≡ m.client → n.taken ≡ m.taken → n.sent ≡ m.sent → MemberStands g h m j → MemberStands g h n j
 same_member g h m n j client taken sent so = record {
-  id = ap (λ (k : Kept). k.id) client ∙ so.id;
-  group = ap (λ (k : Kept). group_of k) client ∙ so.group;
-  stands = subst (λ (k : Kept). StandsFor k (standing g j h)) (sym client) so.stands;
+  id = ap (λ (k : KeptClient). k.id) client ∙ so.id;
+  group = ap (λ (k : KeptClient). kept_group k) client ∙ so.group;
+  stands = subst (λ (k : KeptClient). StandsFor k (standing g j h)) (sym client) so.stands;
   taken = taken ∙ so.taken;
   sent = sent ∙ so.sent;
 }

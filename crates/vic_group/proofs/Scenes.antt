@@ -12,11 +12,11 @@ use Rattle.vic_rules.specs.declared.trace.TraceStep.{TraceStep}
 use Rattle.vic_rules.specs.Client.{MayStep}
 use Rattle.vic_order.specs.Serving.{Serving}
 use Rattle.vic_view.specs.declared.transcript.Transcript.{Transcript}
-use Rattle.vic_view.specs.Transcripts.{steps_of}
-use Rattle.vic_order.specs.Scenes.{SceneOf, Queue, queue_of, set_queue, queued, or_none, server_at, set_server, server_of, stands, steps, served_with, served, serves, taken, takes, last_sent, resends, copies, joins}
+use Rattle.vic_view.specs.Transcripts.{transcript_steps}
+use Rattle.vic_order.specs.Scenes.{SceneOf, Queue, queue_of, set_queue, queue_with, or_none, server_at, set_server, server_of, standing_in, after_step, after_serving_with, after_serving_from, after_serving, after_taking_from, after_taking, last_sent, after_resending, after_copying, after_joining}
 use Rattle.vic_runs.proofs.Servers.{is_server-set}
 use Rattle.vic_group.specs.declared.member.Member.{Member}
-use Rattle.vic_group.specs.World.{MemberStands, Shows, Acts, Joins, step_at}
+use Rattle.vic_group.specs.World.{MemberStands, ShowsParts, Acts, AddsStep, step_at}
 use Rattle.vic_group.proofs.Members.{stand_at, stand_set, stays_apart, same_member}
 
 -- ---- rows
@@ -83,7 +83,7 @@ module _ {V : Type 0} where
       ∙ ap (λ (x : List ℕ). scene r.group r.history r.up r.down x s.servers) e
       ∙ ap (λ (x : List (Option V)). scene r.group r.history r.up r.down r.served_by x) f
 
-module _ {V : Type 0} (t : Transcript) (ms : List Member) (vs : List (Option V)) (s : SceneOf V) (i k : ℕ) (m : Member) (shows : Shows t ms vs s) (is : i ≡ k + 1) (at : slice_get ms k ≡ Some m) where
+module _ {V : Type 0} (t : Transcript) (ms : List Member) (vs : List (Option V)) (s : SceneOf V) (i k : ℕ) (m : Member) (shows : ShowsParts t ms vs s) (is : i ≡ k + 1) (at : slice_get ms k ≡ Some m) where
   -- client i stands where the history leaves it
   pub stands_here : MemberStands s.group s.history m i
   stands_here = let same : 1 + k ≡ i = omega arith in
@@ -104,7 +104,7 @@ module _ {V : Type 0} (t : Transcript) (ms : List Member) (vs : List (Option V))
 
   -- the member is exchanged for one with the same client
   pub shows_swap : (n : Member) → k < length ms → n.client ≡ m.client → n.taken ≡ m.taken → n.sent ≡ m.sent → is_some (server_at vs n.server) ≡ true
-      → Shows t (slice_set ms k n) vs (record s { up = set_queue s.up i n.up; down = set_queue s.down i n.down; served_by = slice_set s.served_by (i - 1) n.server })
+      → ShowsParts t (slice_set ms k n) vs (record s { up = set_queue s.up i n.up; down = set_queue s.down i n.down; served_by = slice_set s.served_by (i - 1) n.server })
   shows_swap n lt client took sent there = record {
     count = length_set ms k n ∙ shows.count;
     few = shows.few;
@@ -122,8 +122,8 @@ module _ {V : Type 0} (t : Transcript) (ms : List Member) (vs : List (Option V))
   }
 
   -- the member made a step
-  pub shows_made : (after : Transcript) (given : Input) (n : Member) → k < length ms → MayStep s.group (stands s i) given → Joins (step_at s.group s.history i given) t after → MemberStands s.group (step_at s.group s.history i given ∷ s.history) n i → n.server ≡ m.server
-      → Shows after (slice_set ms k n) vs (record s { history = step_at s.group s.history i given ∷ s.history; up = set_queue s.up i n.up; down = set_queue s.down i n.down })
+  pub shows_made : (after : Transcript) (given : Input) (n : Member) → k < length ms → MayStep s.group (standing_in s i) given → AddsStep (step_at s.group s.history i given) t after → MemberStands s.group (step_at s.group s.history i given ∷ s.history) n i → n.server ≡ m.server
+      → ShowsParts after (slice_set ms k n) vs (record s { history = step_at s.group s.history i given ∷ s.history; up = set_queue s.up i n.up; down = set_queue s.down i n.down })
   shows_made after given n lt may joins so server =
       let x : TraceStep = step_at s.group s.history i given in
       let same : i ≡ 1 + k = omega arith in
@@ -131,7 +131,7 @@ module _ {V : Type 0} (t : Transcript) (ms : List Member) (vs : List (Option V))
         count = length_set ms k n ∙ shows.count;
         few = shows.few;
         group = joins.group ∙ shows.group;
-        history = ap (λ (xs : List TraceStep). reverse xs) joins.steps ∙ reverse-append (steps_of t) (x ∷ []) ∙ ap (λ (h : List TraceStep). x ∷ h) shows.history;
+        history = ap (λ (xs : List TraceStep). reverse xs) joins.steps ∙ reverse-append (transcript_steps t) (x ∷ []) ∙ ap (λ (h : List TraceStep). x ∷ h) shows.history;
         up = row_set (λ (c : Member). c.up) ms s.up i k m shows.up is at n;
         down = row_set (λ (c : Member). c.down) ms s.down i k m shows.down is at n;
         served_by = row_set (λ (c : Member). c.server) ms s.served_by i k m shows.served_by is at n ∙ ap (λ (b : ℕ). slice_set s.served_by (i - 1) b) server ∙ row_same (λ (c : Member). c.server) ms s.served_by i k m shows.served_by is at;
@@ -148,59 +148,59 @@ module _ {V : Type 0} (t : Transcript) (ms : List Member) (vs : List (Option V))
       }
 
   -- a client's step
-  pub shows_step : (after : Transcript) (given : Input) (n : Member) → k < length ms → Acts s.group s.history i given m n → Joins (step_at s.group s.history i given) t after
-      → Shows after (slice_set ms k n) vs (steps s i given)
-  unfolding steps
+  pub shows_step : (after : Transcript) (given : Input) (n : Member) → k < length ms → Acts s.group s.history i given m n → AddsStep (step_at s.group s.history i given) t after
+      → ShowsParts after (slice_set ms k n) vs (after_step s i given)
+  unfolding after_step
   shows_step after given n lt acts joins =
       let x : TraceStep = step_at s.group s.history i given in
       let made = record s { history = x ∷ s.history; up = set_queue s.up i n.up; down = set_queue s.down i n.down } in
-      let up : n.up ≡ queued (queue_of s.up i) x.sent = acts.up ∙ ap (λ (q : Queue). queued q x.sent) (sym up_here) in
+      let up : n.up ≡ queue_with (queue_of s.up i) x.sent = acts.up ∙ ap (λ (q : Queue). queue_with q x.sent) (sym up_here) in
       let down : set_queue s.down i n.down ≡ s.down = ap (λ (q : Queue). set_queue s.down i q) acts.down ∙ row_same (λ (c : Member). c.down) ms s.down i k m shows.down is at in
-      subst (λ (r : SceneOf V). Shows after (slice_set ms k n) vs r)
-      (same_scene made (steps s i given) refl refl (ap (λ (q : Queue). set_queue s.up i q) up) down refl refl)
+      subst (λ (r : SceneOf V). ShowsParts after (slice_set ms k n) vs r)
+      (same_scene made (after_step s i given) refl refl (ap (λ (q : Queue). set_queue s.up i q) up) down refl refl)
       (shows_made after given n lt acts.may joins acts.stands acts.server)
 
   -- a client takes its oldest answer as it comes through a change
   pub shows_taken : (after : Transcript) (change : List ℕ → List ℕ) (payload first : List ℕ) (rest : Queue) (n : Member) → k < length ms → m.down ≡ first ∷ rest → payload ≡ change first
-      → Acts s.group s.history i (input.Payload payload) (record m { down = rest }) n → Joins (step_at s.group s.history i (input.Payload payload)) t after
-      → Shows after (slice_set ms k n) vs (takes change s i)
-  unfolding takes steps
+      → Acts s.group s.history i (input.Payload payload) (record m { down = rest }) n → AddsStep (step_at s.group s.history i (input.Payload payload)) t after
+      → ShowsParts after (slice_set ms k n) vs (after_taking change s i)
+  unfolding after_taking after_step
   shows_taken after change payload first rest n lt waits changed acts joins =
       let x : TraceStep = step_at s.group s.history i (input.Payload payload) in
       let made = record s { history = x ∷ s.history; up = set_queue s.up i n.up; down = set_queue s.down i n.down } in
-      let up : n.up ≡ queued (queue_of s.up i) x.sent = acts.up ∙ ap (λ (q : Queue). queued q x.sent) (sym up_here) in
-      let next : SceneOf V = steps (record s { down = set_queue s.down i rest }) i (input.Payload payload) in
-      let shown : Shows after (slice_set ms k n) vs next =
-      subst (λ (r : SceneOf V). Shows after (slice_set ms k n) vs r)
+      let up : n.up ≡ queue_with (queue_of s.up i) x.sent = acts.up ∙ ap (λ (q : Queue). queue_with q x.sent) (sym up_here) in
+      let next : SceneOf V = after_step (record s { down = set_queue s.down i rest }) i (input.Payload payload) in
+      let shown : ShowsParts after (slice_set ms k n) vs next =
+      subst (λ (r : SceneOf V). ShowsParts after (slice_set ms k n) vs r)
       (same_scene made next refl refl (ap (λ (q : Queue). set_queue s.up i q) up) (ap (λ (q : Queue). set_queue s.down i q) acts.down) refl refl)
       (shows_made after (input.Payload payload) n lt acts.may joins acts.stands acts.server) in
-      subst (λ (q : Queue). Shows after (slice_set ms k n) vs (taken change s i q)) (sym (down_here ∙ waits))
-      (subst (λ (p : List ℕ). Shows after (slice_set ms k n) vs (steps (record s { down = set_queue s.down i rest }) i (input.Payload p))) changed shown)
+      subst (λ (q : Queue). ShowsParts after (slice_set ms k n) vs (after_taking_from change s i q)) (sym (down_here ∙ waits))
+      (subst (λ (p : List ℕ). ShowsParts after (slice_set ms k n) vs (after_step (record s { down = set_queue s.down i rest }) i (input.Payload p))) changed shown)
 
   -- a client's last payload joins its requests again
-  pub shows_resent : (n : Member) → k < length ms → n ≡ record m { up = queued m.up m.sent } → Shows t (slice_set ms k n) vs (resends s i)
+  pub shows_resent : (n : Member) → k < length ms → n ≡ record m { up = queue_with m.up m.sent } → ShowsParts t (slice_set ms k n) vs (after_resending s i)
   shows_resent n lt e =
       let sent : m.sent ≡ last_sent i s.history = stands_here.sent in
-      let up : n.up ≡ queued (queue_of s.up i) (last_sent i s.history) =
-      ap (λ (c : Member). c.up) e ∙ ap (λ (q : Queue). queued q m.sent) (sym up_here) ∙ ap (λ (o : Option (List ℕ)). queued (queue_of s.up i) o) sent in
+      let up : n.up ≡ queue_with (queue_of s.up i) (last_sent i s.history) =
+      ap (λ (c : Member). c.up) e ∙ ap (λ (q : Queue). queue_with q m.sent) (sym up_here) ∙ ap (λ (o : Option (List ℕ)). queue_with (queue_of s.up i) o) sent in
       let down : set_queue s.down i n.down ≡ s.down = ap (λ (c : Member). set_queue s.down i c.down) e ∙ row_same (λ (c : Member). c.down) ms s.down i k m shows.down is at in
       let server : slice_set s.served_by (i - 1) n.server ≡ s.served_by = ap (λ (c : Member). slice_set s.served_by (i - 1) c.server) e ∙ row_same (λ (c : Member). c.server) ms s.served_by i k m shows.served_by is at in
-      subst (λ (r : SceneOf V). Shows t (slice_set ms k n) vs r)
-      (same_scene (record s { up = set_queue s.up i n.up; down = set_queue s.down i n.down; served_by = slice_set s.served_by (i - 1) n.server }) (resends s i) refl refl (ap (λ (q : Queue). set_queue s.up i q) up) down server refl)
+      subst (λ (r : SceneOf V). ShowsParts t (slice_set ms k n) vs r)
+      (same_scene (record s { up = set_queue s.up i n.up; down = set_queue s.down i n.down; served_by = slice_set s.served_by (i - 1) n.server }) (after_resending s i) refl refl (ap (λ (q : Queue). set_queue s.up i q) up) down server refl)
       (shows_swap n lt (ap (λ (c : Member). c.client) e) (ap (λ (c : Member). c.taken) e) (ap (λ (c : Member). c.sent) e) (ap (λ (c : Member). is_some (server_at vs c.server)) e ∙ placed_here))
 
   -- a client joins another server
-  pub shows_joined : (n : Member) (number : ℕ) → k < length ms → n ≡ record m { server = number } → is_some (server_at vs number) ≡ true → Shows t (slice_set ms k n) vs (joins s i number)
+  pub shows_joined : (n : Member) (number : ℕ) → k < length ms → n ≡ record m { server = number } → is_some (server_at vs number) ≡ true → ShowsParts t (slice_set ms k n) vs (after_joining s i number)
   shows_joined n number lt e there =
       let up : set_queue s.up i n.up ≡ s.up = ap (λ (c : Member). set_queue s.up i c.up) e ∙ row_same (λ (c : Member). c.up) ms s.up i k m shows.up is at in
       let down : set_queue s.down i n.down ≡ s.down = ap (λ (c : Member). set_queue s.down i c.down) e ∙ row_same (λ (c : Member). c.down) ms s.down i k m shows.down is at in
-      subst (λ (r : SceneOf V). Shows t (slice_set ms k n) vs r)
-      (same_scene (record s { up = set_queue s.up i n.up; down = set_queue s.down i n.down; served_by = slice_set s.served_by (i - 1) n.server }) (joins s i number) refl refl up down (ap (λ (c : Member). slice_set s.served_by (i - 1) c.server) e) refl)
+      subst (λ (r : SceneOf V). ShowsParts t (slice_set ms k n) vs r)
+      (same_scene (record s { up = set_queue s.up i n.up; down = set_queue s.down i n.down; served_by = slice_set s.served_by (i - 1) n.server }) (after_joining s i number) refl refl up down (ap (λ (c : Member). slice_set s.served_by (i - 1) c.server) e) refl)
       (shows_swap n lt (ap (λ (c : Member). c.client) e) (ap (λ (c : Member). c.taken) e) (ap (λ (c : Member). c.sent) e) (ap (λ (c : Member). is_some (server_at vs c.server)) e ∙ there))
 
 -- servers that change, of which those that exist still do
-pub shows_servers : {V : Type 0} (t : Transcript) (ms : List Member) (vs ws : List (Option V)) (s : SceneOf V) → Shows t ms vs s → ((n : ℕ) → is_some (server_at vs n) ≡ true → is_some (server_at ws n) ≡ true)
-    → Shows t ms ws (record s { servers = ws })
+pub shows_servers : {V : Type 0} (t : Transcript) (ms : List Member) (vs ws : List (Option V)) (s : SceneOf V) → ShowsParts t ms vs s → ((n : ℕ) → is_some (server_at vs n) ≡ true → is_some (server_at ws n) ≡ true)
+    → ShowsParts t ms ws (record s { servers = ws })
 shows_servers t ms vs ws s shows still = record {
   count = shows.count;
   few = shows.few;
@@ -216,12 +216,12 @@ shows_servers t ms vs ws s shows still = record {
 }
 
 -- a server becomes a copy of another
-pub shows_copied : {V : Type 0} (t : Transcript) (ms : List Member) (vs ws : List (Option V)) (s : SceneOf V) (n to : ℕ) (v : V) → Shows t ms vs s → server_at vs n ≡ Some v → ws ≡ set_server vs to (Some v)
-    → Shows t ms ws (copies s n to)
+pub shows_copied : {V : Type 0} (t : Transcript) (ms : List Member) (vs ws : List (Option V)) (s : SceneOf V) (n to : ℕ) (v : V) → ShowsParts t ms vs s → server_at vs n ≡ Some v → ws ≡ set_server vs to (Some v)
+    → ShowsParts t ms ws (after_copying s n to)
 shows_copied {V = V} t ms vs ws s n to v shows from set =
     let copied : ws ≡ set_server s.servers to (server_at s.servers n) =
     set ∙ ap (λ (o : Option V). set_server vs to o) (sym from) ∙ ap (λ (us : List (Option V)). set_server us to (server_at us n)) shows.servers in
-    subst (λ (us : List (Option V)). Shows t ms ws (record s { servers = us })) copied
+    subst (λ (us : List (Option V)). ShowsParts t ms ws (record s { servers = us })) copied
     (shows_servers t ms vs ws s shows (λ j there. subst (λ (us : List (Option V)). is_some (server_at us j) ≡ true) (sym set) (is_server-set vs to j (Some v) refl there)))
 
 at_place : {V : Type 0} (b : Bool) (o : Option (Option V)) (v : V) → (if b then None else or_none o) ≡ Some v → o ≡ Some (Some v)
@@ -235,15 +235,15 @@ set_here : {V : Type 0} (vs : List (Option V)) (n : ℕ) (v : V) → server_at v
 set_here vs n v here = set_same vs (n - 1) (Some v) (at_place (nat_eq n 0) (slice_get vs (n - 1)) v here)
 
 -- a server becomes a copy of itself
-pub shows_kept : {V : Type 0} (t : Transcript) (ms : List Member) (vs : List (Option V)) (s : SceneOf V) (n to : ℕ) (v : V) → Shows t ms vs s → server_at vs n ≡ Some v → n ≡ to → Shows t ms vs (copies s n to)
+pub shows_kept : {V : Type 0} (t : Transcript) (ms : List Member) (vs : List (Option V)) (s : SceneOf V) (n to : ℕ) (v : V) → ShowsParts t ms vs s → server_at vs n ≡ Some v → n ≡ to → ShowsParts t ms vs (after_copying s n to)
 shows_kept t ms vs s n to v shows from same =
     shows_copied t ms vs vs s n to v shows from (sym (set_here vs n v from) ∙ ap (λ (k : ℕ). set_server vs k (Some v)) same)
 
 -- a client's server serves its oldest request
-pub shows_served : {V : Type 0} (rule : Serving V) (t : Transcript) (ms : List Member) (vs ws : List (Option V)) (s : SceneOf V) (i k : ℕ) (m n : Member) (v : V) (payload : List ℕ) (rest : Queue) → Shows t ms vs s → i ≡ k + 1
+pub shows_served : {V : Type 0} (rule : Serving V) (t : Transcript) (ms : List Member) (vs ws : List (Option V)) (s : SceneOf V) (i k : ℕ) (m n : Member) (v : V) (payload : List ℕ) (rest : Queue) → ShowsParts t ms vs s → i ≡ k + 1
     → slice_get ms k ≡ Some m → k < length ms → server_at vs m.server ≡ Some v → m.up ≡ payload ∷ rest → n ≡ record m { up = rest; down = m.down ++ (rule v i i payload).0 ∷ [] }
-    → ws ≡ set_server vs m.server (Some (rule v i i payload).1) → Shows t (slice_set ms k n) ws (serves rule s i)
-unfolding serves
+    → ws ≡ set_server vs m.server (Some (rule v i i payload).1) → ShowsParts t (slice_set ms k n) ws (after_serving rule s i)
+unfolding after_serving
 shows_served {V = V} rule t ms vs ws s i k m n v payload rest shows is at lt here waits e set =
     let answer : List ℕ × V = rule v i i payload in
     let number : server_of s.served_by i ≡ m.server = server_here t ms vs s i k m shows is at in
@@ -251,17 +251,17 @@ shows_served {V = V} rule t ms vs ws s i k m n v payload rest shows is at lt her
     let found : server_at s.servers (server_of s.served_by i) ≡ Some v =
     ap (λ (j : ℕ). server_at s.servers j) number ∙ ap (λ (us : List (Option V)). server_at us m.server) (sym shows.servers) ∙ here in
     let swapped = record s { up = set_queue s.up i n.up; down = set_queue s.down i n.down; served_by = slice_set s.served_by (i - 1) n.server } in
-    let shown : Shows t (slice_set ms k n) vs swapped =
+    let shown : ShowsParts t (slice_set ms k n) vs swapped =
     shows_swap t ms vs s i k m shows is at n lt (ap (λ (c : Member). c.client) e) (ap (λ (c : Member). c.taken) e) (ap (λ (c : Member). c.sent) e)
     (ap (λ (c : Member). is_some (server_at vs c.server)) e ∙ placed_here t ms vs s i k m shows is at) in
-    let after : Shows t (slice_set ms k n) ws (record swapped { servers = ws }) =
+    let after : ShowsParts t (slice_set ms k n) ws (record swapped { servers = ws }) =
     shows_servers t (slice_set ms k n) vs ws swapped shown (λ j there. subst (λ (us : List (Option V)). is_some (server_at us j) ≡ true) (sym set) (is_server-set vs m.server j (Some answer.1) refl there)) in
     let servers : ws ≡ set_server s.servers (server_of s.served_by i) (Some answer.1) =
     set ∙ ap (λ (us : List (Option V)). set_server us m.server (Some answer.1)) shows.servers ∙ ap (λ (j : ℕ). set_server s.servers j (Some answer.1)) (sym number) in
     let down : n.down ≡ queue_of s.down i ++ answer.0 ∷ [] = ap (λ (c : Member). c.down) e ∙ ap (λ (q : Queue). q ++ answer.0 ∷ []) (sym (down_here t ms vs s i k m shows is at)) in
     let by : slice_set s.served_by (i - 1) n.server ≡ s.served_by = ap (λ (c : Member). slice_set s.served_by (i - 1) c.server) e ∙ row_same (λ (c : Member). c.server) ms s.served_by i k m shows.served_by is at in
-    subst (λ (q : Queue). Shows t (slice_set ms k n) ws (served rule s i q (server_at s.servers (server_of s.served_by i)))) (sym up)
-    (subst (λ (o : Option V). Shows t (slice_set ms k n) ws (served rule s i (payload ∷ rest) o)) (sym found)
-    (subst (λ (r : SceneOf V). Shows t (slice_set ms k n) ws r)
-    (same_scene (record swapped { servers = ws }) (served_with s i rest answer) refl refl (ap (λ (c : Member). set_queue s.up i c.up) e) (ap (λ (q : Queue). set_queue s.down i q) down) by servers)
+    subst (λ (q : Queue). ShowsParts t (slice_set ms k n) ws (after_serving_from rule s i q (server_at s.servers (server_of s.served_by i)))) (sym up)
+    (subst (λ (o : Option V). ShowsParts t (slice_set ms k n) ws (after_serving_from rule s i (payload ∷ rest) o)) (sym found)
+    (subst (λ (r : SceneOf V). ShowsParts t (slice_set ms k n) ws r)
+    (same_scene (record swapped { servers = ws }) (after_serving_with s i rest answer) refl refl (ap (λ (c : Member). set_queue s.up i c.up) e) (ap (λ (q : Queue). set_queue s.down i q) down) by servers)
     after))

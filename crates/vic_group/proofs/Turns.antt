@@ -7,12 +7,12 @@ use Rattle.std.proofs.lemmas.List.{append-nil, append_assoc, length-append, leng
 use Rattle.vic_dict.specs.declared.bytes.NoMemory.{NoMemory}
 use Rattle.vic_order.specs.Serving.{Serving}
 use Rattle.vic_view.specs.declared.transcript.Transcript.{Transcript}
-use Rattle.vic_order.specs.Scenes.{SceneOf, Queue, queue_of, server_at, server_of, served, serves, waits_in, Event, Serves, Takes, after_events}
+use Rattle.vic_order.specs.Scenes.{SceneOf, Queue, queue_of, server_at, server_of, after_serving_from, after_serving, waits_in, Event, Serves, Takes, after_events}
 use Rattle.vic_runs.proofs.Events.{after-joined, print-joined}
-use Rattle.vic_script.specs.Scenes.{print_of_events, turns}
+use Rattle.vic_script.specs.Scenes.{print_of_events, events_of_turns}
 use Rattle.vic_group.specs.declared.member.Member.{Member}
 use Rattle.vic_group.specs.declared.world.World.{World}
-use Rattle.vic_group.specs.World.{Shows, ShowsScene, Makes, MakesIf, IsLeftOf, states}
+use Rattle.vic_group.specs.World.{ShowsParts, ShowsScene, Makes, MakesIf, TurnsLeftWithoutMemory, states}
 use Rattle.vic_group.proofs.Scenes.{get_set, server_here, placed_here}
 
 -- whether a queue holds something
@@ -32,38 +32,38 @@ not_empty (p ∷ q) some = eqb-suc-zero (length q)
 
 module _ {V : Type 0} (rule : Serving V) where
   -- nothing is served where no request waits
-  pub serves_rest : (s : SceneOf V) (i : ℕ) → waits_in s.up i ≡ false → serves rule s i ≡ s
-  unfolding serves
-  serves_rest s i none = ap (λ (q : Queue). served rule s i q (server_at s.servers (server_of s.served_by i))) (none_in (queue_of s.up i) none)
+  pub serves_rest : (s : SceneOf V) (i : ℕ) → waits_in s.up i ≡ false → after_serving rule s i ≡ s
+  unfolding after_serving
+  serves_rest s i none = ap (λ (q : Queue). after_serving_from rule s i q (server_at s.servers (server_of s.served_by i))) (none_in (queue_of s.up i) none)
 
   -- no turn where none is left, nor where no request waits
-  pub turns_end : (n : ℕ) (s : SceneOf V) (i : ℕ) → n ≡ 0 → turns rule n s i ≡ []
-  unfolding turns
+  pub turns_end : (n : ℕ) (s : SceneOf V) (i : ℕ) → n ≡ 0 → events_of_turns rule n s i ≡ []
+  unfolding events_of_turns
   turns_end zero s i is = refl
   turns_end (suc n) s i is = absurd (omega arith)
 
-  pub turns_rest : (n : ℕ) (s : SceneOf V) (i : ℕ) → waits_in s.up i ≡ false → turns rule n s i ≡ []
-  unfolding turns
+  pub turns_rest : (n : ℕ) (s : SceneOf V) (i : ℕ) → waits_in s.up i ≡ false → events_of_turns rule n s i ≡ []
+  unfolding events_of_turns
   turns_rest zero s i none = refl
   turns_rest (suc n) s i none =
-      ap (λ (b : Bool). if b then [] else turns rule n (after_events rule s (Takes i ∷ Serves i ∷ [])) i ++ Takes i ∷ Serves i ∷ []) (is_empty (queue_of s.up i) none)
+      ap (λ (b : Bool). if b then [] else events_of_turns rule n (after_events rule s (Takes i ∷ Serves i ∷ [])) i ++ Takes i ∷ Serves i ∷ []) (is_empty (queue_of s.up i) none)
 
   -- one turn, and those behind it
   pub turns_on : (n m : ℕ) (s : SceneOf V) (i : ℕ) → n ≡ m + 1 → waits_in s.up i ≡ true
-      → turns rule n s i ≡ turns rule m (after_events rule s (Takes i ∷ Serves i ∷ [])) i ++ Takes i ∷ Serves i ∷ []
-  unfolding turns
+      → events_of_turns rule n s i ≡ events_of_turns rule m (after_events rule s (Takes i ∷ Serves i ∷ [])) i ++ Takes i ∷ Serves i ∷ []
+  unfolding events_of_turns
   turns_on zero m s i is some = absurd (omega arith)
   turns_on (suc n) m s i is some =
       let same : n ≡ m = omega arith in
-      ap (λ (b : Bool). if b then [] else turns rule n (after_events rule s (Takes i ∷ Serves i ∷ [])) i ++ Takes i ∷ Serves i ∷ []) (not_empty (queue_of s.up i) some)
-      ∙ ap (λ (k : ℕ). turns rule k (after_events rule s (Takes i ∷ Serves i ∷ [])) i ++ Takes i ∷ Serves i ∷ []) same
+      ap (λ (b : Bool). if b then [] else events_of_turns rule n (after_events rule s (Takes i ∷ Serves i ∷ [])) i ++ Takes i ∷ Serves i ∷ []) (not_empty (queue_of s.up i) some)
+      ∙ ap (λ (k : ℕ). events_of_turns rule k (after_events rule s (Takes i ∷ Serves i ∷ [])) i ++ Takes i ∷ Serves i ∷ []) same
 
   -- where a request was served, an answer waits
-  pub answer_waits : (s : SceneOf V) (i : ℕ) → i - 1 < length s.down → is_some (server_at s.servers (server_of s.served_by i)) ≡ true → waits_in s.up i ≡ true → waits_in (serves rule s i).down i ≡ true
-  unfolding serves
+  pub answer_waits : (s : SceneOf V) (i : ℕ) → i - 1 < length s.down → is_some (server_at s.servers (server_of s.served_by i)) ≡ true → waits_in s.up i ≡ true → waits_in (after_serving rule s i).down i ≡ true
+  unfolding after_serving
   answer_waits s i lt there some = by_both (queue_of s.up i) (server_at s.servers (server_of s.served_by i)) some there
     where
-      by_both : (q : Queue) (o : Option V) → nat_lt 0 (length q) ≡ true → is_some o ≡ true → waits_in (served rule s i q o).down i ≡ true
+      by_both : (q : Queue) (o : Option V) → nat_lt 0 (length q) ≡ true → is_some o ≡ true → waits_in (after_serving_from rule s i q o).down i ≡ true
       by_both [] o waits is = absurd cc
       by_both (p ∷ q) None waits is = absurd cc
       by_both (p ∷ q) (Some v) waits is =
@@ -78,13 +78,13 @@ member_in (m ∷ ms) zero lt = (m, refl)
 member_in (m ∷ ms) (suc k) lt = member_in ms k (omega (arith, lt))
 
 -- a client's queue of answers stands in its row
-pub within_down : {V : Type 0} (t : Transcript) (ms : List Member) (vs : List (Option V)) (s : SceneOf V) (i k : ℕ) → Shows t ms vs s → i ≡ k + 1 → k < length ms → i - 1 < length s.down
+pub within_down : {V : Type 0} (t : Transcript) (ms : List Member) (vs : List (Option V)) (s : SceneOf V) (i k : ℕ) → ShowsParts t ms vs s → i ≡ k + 1 → k < length ms → i - 1 < length s.down
 within_down t ms vs s i k shows is lt =
     let as_long : length s.down ≡ length ms = ap (λ (qs : List Queue). length qs) (sym shows.down) ∙ length-map ms (λ (m : Member). m.down) in
     omega arith
 
 -- and the server that serves it exists
-pub server_there : {V : Type 0} (t : Transcript) (ms : List Member) (vs : List (Option V)) (s : SceneOf V) (i k : ℕ) (m : Member) → Shows t ms vs s → i ≡ k + 1 → slice_get ms k ≡ Some m
+pub server_there : {V : Type 0} (t : Transcript) (ms : List Member) (vs : List (Option V)) (s : SceneOf V) (i k : ℕ) (m : Member) → ShowsParts t ms vs s → i ≡ k + 1 → slice_get ms k ≡ Some m
     → is_some (server_at s.servers (server_of s.served_by i)) ≡ true
 server_there {V = V} t ms vs s i k m shows is at =
     ap (λ (n : ℕ). is_some (server_at s.servers n)) (server_here t ms vs s i k m shows is at)
@@ -120,44 +120,44 @@ module _ {S V : Type 0} (state : S → V) (rule : Serving V) where
   -- ---- where memory ran out
 
   -- as a request was to be served, nothing has changed
-  pub left_unserved : (n : ℕ) (s : SceneOf V) (i : ℕ) (w : World S) → 0 < n → ShowsScene state w s → IsLeftOf state rule n s i w
-  unfolding turns
+  pub left_unserved : (n : ℕ) (s : SceneOf V) (i : ℕ) (w : World S) → 0 < n → ShowsScene state w s → TurnsLeftWithoutMemory state rule n s i w
+  unfolding events_of_turns
   left_unserved n s i w lt shows = (0, (lt, inl shows))
 
   -- as its answer was to be taken, it was served alone
-  pub left_untaken : (n : ℕ) (s : SceneOf V) (i : ℕ) (w : World S) → 0 < n → ShowsScene state w (serves rule s i) → IsLeftOf state rule n s i w
-  unfolding turns
+  pub left_untaken : (n : ℕ) (s : SceneOf V) (i : ℕ) (w : World S) → 0 < n → ShowsScene state w (after_serving rule s i) → TurnsLeftWithoutMemory state rule n s i w
+  unfolding events_of_turns
   left_untaken n s i w lt shows = (0, (lt, inr shows))
 
   -- later on, what was left then
-  pub left_later : (n m : ℕ) (s : SceneOf V) (i : ℕ) (w : World S) → n ≡ m + 1 → waits_in s.up i ≡ true → IsLeftOf state rule m (after_events rule s (Takes i ∷ Serves i ∷ [])) i w → IsLeftOf state rule n s i w
+  pub left_later : (n m : ℕ) (s : SceneOf V) (i : ℕ) (w : World S) → n ≡ m + 1 → waits_in s.up i ≡ true → TurnsLeftWithoutMemory state rule m (after_events rule s (Takes i ∷ Serves i ∷ [])) i w → TurnsLeftWithoutMemory state rule n s i w
   left_later n m s i w is some left =
       let two : List Event = Takes i ∷ Serves i ∷ [] in
       let next : SceneOf V = after_events rule s two in
-      let on : after_events rule s (turns rule (left.0 + 1) s i) ≡ after_events rule next (turns rule left.0 next i) =
-      ap (after_events rule s) (turns_on rule (left.0 + 1) left.0 s i refl some) ∙ after-joined rule s (turns rule left.0 next i) two in (
+      let on : after_events rule s (events_of_turns rule (left.0 + 1) s i) ≡ after_events rule next (events_of_turns rule left.0 next i) =
+      ap (after_events rule s) (turns_on rule (left.0 + 1) left.0 s i refl some) ∙ after-joined rule s (events_of_turns rule left.0 next i) two in (
         left.0 + 1,
         (
           omega (arith, is, left.1.0),
-          subst (λ (x : SceneOf V). ShowsScene state w x ⊎ ShowsScene state w (serves rule x i)) (sym on) left.1.1,
+          subst (λ (x : SceneOf V). ShowsScene state w x ⊎ ShowsScene state w (after_serving rule x i)) (sym on) left.1.1,
         ),
       )
 
   pub left_later_if : {T : Type 0} (r : Result T NoMemory) (n m : ℕ) (s : SceneOf V) (i : ℕ) (w : World S) → n ≡ m + 1 → waits_in s.up i ≡ true
-      → OnErr r (IsLeftOf state rule m (after_events rule s (Takes i ∷ Serves i ∷ [])) i w) → OnErr r (IsLeftOf state rule n s i w)
+      → OnErr r (TurnsLeftWithoutMemory state rule m (after_events rule s (Takes i ∷ Serves i ∷ [])) i w) → OnErr r (TurnsLeftWithoutMemory state rule n s i w)
   left_later_if (Ok done) n m s i w is some left = tt
   left_later_if (Err e) n m s i w is some left = left_later n m s i w is some left
 
-  pub left_unserved_if : {T E : Type 0} (r : Result T E) (n : ℕ) (s : SceneOf V) (i : ℕ) (w : World S) → 0 < n → ShowsScene state w s → OnErr r (IsLeftOf state rule n s i w)
+  pub left_unserved_if : {T E : Type 0} (r : Result T E) (n : ℕ) (s : SceneOf V) (i : ℕ) (w : World S) → 0 < n → ShowsScene state w s → OnErr r (TurnsLeftWithoutMemory state rule n s i w)
   left_unserved_if (Ok done) n s i w lt shows = tt
   left_unserved_if (Err e) n s i w lt shows = left_unserved n s i w lt shows
 
-  pub left_untaken_if : {T E : Type 0} (r : Result T E) (n : ℕ) (s : SceneOf V) (i : ℕ) (w : World S) → 0 < n → ShowsScene state w (serves rule s i) → OnErr r (IsLeftOf state rule n s i w)
+  pub left_untaken_if : {T E : Type 0} (r : Result T E) (n : ℕ) (s : SceneOf V) (i : ℕ) (w : World S) → 0 < n → ShowsScene state w (after_serving rule s i) → OnErr r (TurnsLeftWithoutMemory state rule n s i w)
   left_untaken_if (Ok done) n s i w lt shows = tt
   left_untaken_if (Err e) n s i w lt shows = left_untaken n s i w lt shows
 
   -- where a request of a member was served, an answer waits for it
-  pub answers : (w : World S) (s : SceneOf V) (i k : ℕ) → ShowsScene state w s → i ≡ k + 1 → k < length w.members.items → waits_in s.up i ≡ true → waits_in (serves rule s i).down i ≡ true
+  pub answers : (w : World S) (s : SceneOf V) (i k : ℕ) → ShowsScene state w s → i ≡ k + 1 → k < length w.members.items → waits_in s.up i ≡ true → waits_in (after_serving rule s i).down i ≡ true
   answers w s i k shows is lt some =
       let m = member_in w.members.items k lt in
       answer_waits rule s i (within_down w.transcript w.members.items (states state w.servers) s i k shows is lt) (server_there w.transcript w.members.items (states state w.servers) s i k m.0 shows is m.1) some

@@ -13,13 +13,13 @@ use Rattle.vic_rules.specs.declared.trace.TraceStep.{TraceStep}
 use Rattle.vic_rules.specs.Client.{step, payload_of, MayStep}
 use Rattle.vic_rules.specs.History.{standing, IsLawful}
 use Rattle.vic_order.specs.Serving.{Serving, AnswersAs}
-use Rattle.vic_client.specs.Kept.{StandsFor, group_of}
+use Rattle.vic_client.specs.Kept.{StandsFor, kept_group}
 use Rattle.vic_view.specs.declared.transcript.Transcript.{Transcript}
-use Rattle.vic_view.specs.Transcripts.{steps_of, history_of, group_of as transcript_group}
+use Rattle.vic_view.specs.Transcripts.{transcript_steps, transcript_history, transcript_group}
 use Rattle.vic_script.specs.declared.line.Line.{Line}
 use Rattle.vic_script.specs.declared.line.Line.TheVariants as line
-use Rattle.vic_order.specs.Scenes.{SceneOf, queued, server_at, last_taken, last_sent, is_client, Event, Serves, after_events}
-use Rattle.vic_script.specs.Scenes.{print_of_events, most_turns, turns, events_of, bad_kind}
+use Rattle.vic_order.specs.Scenes.{SceneOf, queue_with, server_at, last_taken, last_sent, is_client, Event, Serves, after_events}
+use Rattle.vic_script.specs.Scenes.{print_of_events, most_turns, events_of_turns, events_of, bad_kind}
 use Rattle.vic_honest.specs.SafeRuns.{AreApart}
 use Rattle.vic_honest.specs.Claims.{IsHonestScene, HoldsAnyway}
 use Rattle.vic_runs.specs.Reached.{IsHonestlyReached}
@@ -33,7 +33,7 @@ use Rattle.vic_group.specs.Members.{AllStand}
 -- a client of the group has this number, stands where the history leaves it, and has what it took and sent last
 pub record MemberStands (g : Group) (h : List TraceStep) (m : Member) (i : ℕ) : Type 0 where
   pub id : m.client.id ≡ i
-  pub group : group_of m.client ≡ g
+  pub group : kept_group m.client ≡ g
   pub stands : StandsFor m.client (standing g i h)
   pub taken : m.taken ≡ last_taken i h
   pub sent : m.sent ≡ last_sent i h
@@ -44,11 +44,11 @@ states state v = Some (state v.first) ∷ option_map state v.second ∷ option_m
 
 -- the transcript, the servers and the queues are the scene's; its clients have stepped by the rules, each stands where the history
 -- leaves it, and is served by a server that exists
-pub record Shows {V : Type 0} (t : Transcript) (ms : List Member) (vs : List (Option V)) (s : SceneOf V) : Type 0 where
+pub record ShowsParts {V : Type 0} (t : Transcript) (ms : List Member) (vs : List (Option V)) (s : SceneOf V) : Type 0 where
   pub count : length ms ≡ s.group.count
   pub few : s.group.count ≤ 64
   pub group : transcript_group t ≡ s.group
-  pub history : history_of t ≡ s.history
+  pub history : transcript_history t ≡ s.history
   pub up : map (λ m. m.up) ms ≡ s.up
   pub down : map (λ m. m.down) ms ≡ s.down
   pub served_by : map (λ m. m.server) ms ≡ s.served_by
@@ -58,7 +58,7 @@ pub record Shows {V : Type 0} (t : Transcript) (ms : List Member) (vs : List (Op
   pub lawful : IsLawful s.group s.history
 
 abbrev pub ShowsScene : {S V : Type 0} → (S → V) → World S → SceneOf V → Type 0
-ShowsScene state w s = Shows w.transcript w.members.items (states state w.servers) s
+ShowsScene state w s = ShowsParts w.transcript w.members.items (states state w.servers) s
 
 -- a client of a group of this mode that may call once more
 abbrev pub IsReady : Mode → Member → Type 0
@@ -87,20 +87,20 @@ step_at g h i given =
 -- a client made its step, as it may: what it sent joined its queue, and it stands where the history then leaves it
 pub record Acts (g : Group) (h : List TraceStep) (i : ℕ) (given : Input) (old new : Member) : Type 0 where
   pub may : MayStep g (standing g i h) given
-  pub up : new.up ≡ queued old.up (step_at g h i given).sent
+  pub up : new.up ≡ queue_with old.up (step_at g h i given).sent
   pub down : new.down ≡ old.down
   pub server : new.server ≡ old.server
   pub stands : MemberStands g (step_at g h i given ∷ h) new i
 
 -- a step joined a transcript
-pub record Joins (x : TraceStep) (before after : Transcript) : Type 0 where
+pub record AddsStep (x : TraceStep) (before after : Transcript) : Type 0 where
   pub group : transcript_group after ≡ transcript_group before
-  pub steps : steps_of after ≡ steps_of before ++ x ∷ []
+  pub steps : transcript_steps after ≡ transcript_steps before ++ x ∷ []
 
 -- none did
-pub record Stays (before after : Transcript) : Type 0 where
+pub record AddsNoStep (before after : Transcript) : Type 0 where
   pub group : transcript_group after ≡ transcript_group before
-  pub steps : steps_of after ≡ steps_of before
+  pub steps : transcript_steps after ≡ transcript_steps before
 
 -- what a client may be asked: a call that fits, while it may call once more
 abbrev pub CanAsk : Member → Input → Type 0
@@ -122,19 +122,19 @@ MakesIf state rule s m w before after true = Makes state rule s (m ∷ []) w bef
 MakesIf state rule s m w before after false = (after ≡ before) × ShowsScene state w s
 
 -- what so many turns leave that found no memory: those that were done, the last of which may have been served alone
-abbrev pub IsLeftOf : {S V : Type 0} → (S → V) → Serving V → ℕ → SceneOf V → ℕ → World S → Type 0
-IsLeftOf state rule n s i w = (k : ℕ) × ((k < n) × (ShowsScene state w (after_events rule s (turns rule k s i)) ⊎ ShowsScene state w (after_events rule s (Serves i ∷ turns rule k s i))))
+abbrev pub TurnsLeftWithoutMemory : {S V : Type 0} → (S → V) → Serving V → ℕ → SceneOf V → ℕ → World S → Type 0
+TurnsLeftWithoutMemory state rule n s i w = (k : ℕ) × ((k < n) × (ShowsScene state w (after_events rule s (events_of_turns rule k s i)) ⊎ ShowsScene state w (after_events rule s (Serves i ∷ events_of_turns rule k s i))))
 
 -- what a line leaves that found no memory: the scene as it was, but for the turns of a client's run that were done
-abbrev pub IsLeft : {S V : Type 0} → (S → V) → Serving V → SceneOf V → Line → World S → Type 0
-IsLeft state rule s (line.Run i) w = (is_client s i ≡ true) × IsLeftOf state rule most_turns s i w
-IsLeft state rule s l w = ShowsScene state w s
+abbrev pub LeftWithoutMemory : {S V : Type 0} → (S → V) → Serving V → SceneOf V → Line → World S → Type 0
+LeftWithoutMemory state rule s (line.Run i) w = (is_client s i ≡ true) × TurnsLeftWithoutMemory state rule most_turns s i w
+LeftWithoutMemory state rule s l w = ShowsScene state w s
 
 -- a line was done, and its text was appended; or it was bad by its first kind, and nothing changed; or it found no memory
-abbrev pub Does : {S V : Type 0} → (S → V) → Serving V → SceneOf V → Line → Result (Option ℕ) NoMemory → World S → List ℕ → List ℕ → Type 0
-Does state rule s l (Ok None) w before after = (bad_kind s l ≡ None) × Makes state rule s (events_of rule s l) w before after
-Does state rule s l (Ok (Some k)) w before after = (bad_kind s l ≡ Some k) × ShowsScene state w s
-Does state rule s l (Err e) w before after = IsLeft state rule s l w
+abbrev pub DoesLine : {S V : Type 0} → (S → V) → Serving V → SceneOf V → Line → Result (Option ℕ) NoMemory → World S → List ℕ → List ℕ → Type 0
+DoesLine state rule s l (Ok None) w before after = (bad_kind s l ≡ None) × Makes state rule s (events_of rule s l) w before after
+DoesLine state rule s l (Ok (Some k)) w before after = (bad_kind s l ≡ Some k) × ShowsScene state w s
+DoesLine state rule s l (Err e) w before after = LeftWithoutMemory state rule s l w
 
 -- ---- honest servers
 

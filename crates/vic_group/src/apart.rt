@@ -2,8 +2,8 @@
 
 ghost use Rattle.std.specs.Prelude.{◌≡◌, ◌↔◌, false, IfOk};
 ghost use Rattle.vic_rules.specs.Trust.{Collides};
-ghost use Rattle.vic_script.specs.Run.{group_of, history_of};
-ghost use Rattle.vic_view.specs.Transcripts.{group_of as transcript_group, history_of as transcript_history};
+ghost use Rattle.vic_script.specs.Run.{script_group, script_history};
+ghost use Rattle.vic_view.specs.Transcripts.{transcript_group, transcript_history};
 
 use crate::play::{Ran, run_script};
 use std::alloc::Global;
@@ -18,7 +18,7 @@ use vic_view::Transcript;
 /// It costs what the lines of the script cost, and `are_apart` of `vic_apart` over all steps. Each dictionary that is sealed on a
 /// client's path is there whole and its texts are hashed anew, so it is meant for small scripts.
 pub fn texts_are_apart(alloc: Global, script: &[u8]) -> Result<bool, NoMemory>
-    ensures { IfOk result (λ b. (b ≡ false) ↔ Collides (group_of script.now) (history_of script.now)) }
+    ensures { IfOk result (λ b. (b ≡ false) ↔ Collides (script_group script.now) (script_history script.now)) }
 {
     let transcript = transcript_of(alloc, script)?;
     are_apart(alloc, &transcript)
@@ -26,8 +26,8 @@ pub fn texts_are_apart(alloc: Global, script: &[u8]) -> Result<bool, NoMemory>
 
 /// What the clients of a script do, up to its first bad line.
 fn transcript_of(alloc: Global, script: &[u8]) -> Result<Transcript, NoMemory>
-    ensures group { IfOk result (λ t. transcript_group t ≡ group_of script.now) }
-    ensures history { IfOk result (λ t. transcript_history t ≡ history_of script.now) }
+    ensures group { IfOk result (λ t. transcript_group t ≡ script_group script.now) }
+    ensures history { IfOk result (λ t. transcript_history t ≡ script_history script.now) }
 {
     match run_script(alloc, script)? {
         Ran::Whole(world, _) => Ok(world.into_transcript()),

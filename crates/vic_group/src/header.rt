@@ -4,9 +4,9 @@ ghost use Rattle.std.specs.Prelude.{◌≡◌, ◌≤◌, ◌&&◌, [], IfOk, So
 ghost use Rattle.vic_script.specs.Lines.{line_of, kind_named as kind_by};
 ghost use Rattle.vic_script.specs.Run.{zero_key as zeros, no_attack, opening_by, group_in, mode_in, scene_in, Before, Heads};
 ghost use Rattle.vic_runs.specs.Claims.{FitsLine};
-ghost use Rattle.vic_view.specs.Transcripts.{group_of, history_of};
+ghost use Rattle.vic_view.specs.Transcripts.{transcript_group, transcript_history};
 ghost use Rattle.vic_group.specs.World.{ShowsScene};
-ghost use Rattle.vic_group.specs.Playing.{state, header_by, place_by, HasFew, Leads};
+ghost use Rattle.vic_group.specs.Playing.{state, header_by, progress_by, HasFew, Leads};
 
 use crate::opening::{spelled_key, zero_key};
 use crate::world::World;
@@ -65,7 +65,7 @@ pub(crate) fn head_line(
     text: &[u8],
 ) -> Result<Headed, NoMemory>
     requires { HasFew header }
-    ensures { IfOk result (λ r. Leads (place_by header) (line_of (mode_in (scene_in (place_by header))) text.now) r) }
+    ensures { IfOk result (λ r. Leads (progress_by header) (line_of (mode_in (scene_in (progress_by header))) text.now) r) }
 {
     match header {
         None => opening_line(alloc, text),
@@ -218,8 +218,8 @@ pub(crate) fn opened(alloc: Global, header: Header) -> Result<World<Hostile>, No
 /// The transcript of a script that stops behind so much of a header: nothing was done in its group, or in a group of one where the
 /// header hasn't begun.
 pub(crate) fn without_steps(alloc: Global, header: Option<Header>) -> Result<Transcript, NoMemory>
-    ensures group { IfOk result (λ t. group_of t ≡ group_in (scene_in (place_by header))) }
-    ensures history { IfOk result (λ t. history_of t ≡ []) }
+    ensures group { IfOk result (λ t. transcript_group t ≡ group_in (scene_in (progress_by header))) }
+    ensures history { IfOk result (λ t. transcript_history t ≡ []) }
 {
     let Some(header) = header else {
         return Ok(Transcript::new(alloc, Mode::Plain, 1, zero_key(alloc)?));

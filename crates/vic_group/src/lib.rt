@@ -3,7 +3,7 @@
 //!
 //! The contract of [`play::play`] says that a run prints `print_of_script` and ends by `end_of`. That of `World::apply`
 //! says, for servers of any kind, that a line is done as `done_line` says, or bad by `bad_kind`, or found no memory and left what
-//! `IsLeft` says. [`laws`] has what holds of every lawful history, whatever the server sends, and [`apart`] tells whether a run is
+//! `LeftWithoutMemory` says. [`laws`] has what holds of every lawful history, whatever the server sends, and [`apart`] tells whether a run is
 //! excepted from it by two texts with one hash.
 #![tactic(auto)]
 

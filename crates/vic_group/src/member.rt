@@ -8,8 +8,8 @@ ghost use Rattle.vic_rules.specs.declared.trace.TraceStep.{TraceStep as AStep};
 ghost use Rattle.vic_rules.specs.Client.{awaits_nothing, first_failing};
 ghost use Rattle.vic_client.specs.Kept.{is_idle};
 ghost use Rattle.vic_client.specs.Pending.{IsPendingOf};
-ghost use Rattle.vic_order.specs.Scenes.{queued, or_before, payload_in, oldest, flipped, server_at, set_server};
-ghost use Rattle.vic_script.specs.Scenes.{said};
+ghost use Rattle.vic_order.specs.Scenes.{queue_with, or_before, payload_in, oldest_payload, payload_with_flip, server_at, set_server};
+ghost use Rattle.vic_script.specs.Scenes.{print_of_outcomes};
 
 use crate::queue::Queue;
 use crate::said::put_said;
@@ -55,7 +55,7 @@ fn payload_copy(alloc: Global, input: &Input) -> Result<Option<Bytes>, NoMemory>
 /// A copy of a payload with the lowest bit of the byte at a place changed.
 fn flipped_copy(alloc: Global, payload: &[u8], place: usize) -> Result<Bytes, NoMemory>
     requires { place < length payload.now }
-    ensures { IfOk result (λ made. made ≡ flipped place payload.now) }
+    ensures { IfOk result (λ made. made ≡ payload_with_flip place payload.now) }
 {
     let mut bytes = Vec::from_slice(alloc, payload)?;
     bytes[place] ^= 1;
@@ -73,11 +73,11 @@ fn latest(new: Option<Bytes>, before: Option<Bytes>) -> Option<Bytes>
 }
 
 impl Member {
-    ghost use Rattle.vic_group.specs.World.{Acts, MemberStands, IsReady, CanAsk, Joins, Stays, step_at, states};
+    ghost use Rattle.vic_group.specs.World.{Acts, MemberStands, IsReady, CanAsk, AddsStep, AddsNoStep, step_at, states};
 
     // What was sent joins the requests, if something was.
     fn send(&mut self, sent: Option<Bytes>) -> Result<(), NoMemory>
-        ensures ok { OnOk result (self.new ≡ record self.old { up = queued self.old.up sent }) }
+        ensures ok { OnOk result (self.new ≡ record self.old { up = queue_with self.old.up sent }) }
         ensures err { OnErr result (self.new ≡ self.old) }
     {
         match sent {
@@ -95,10 +95,10 @@ impl Member {
         step: Step,
         transcript: &mut Transcript,
     ) -> Result<(), NoMemory>
-        ensures ok { OnOk result (self.new ≡ record self.old { up = queued self.old.up step.send; taken = or_before (payload_in input) self.old.taken; sent = or_before step.send self.old.sent }) }
-        ensures joins { OnOk result (Joins (record { client = self.old.client.id; input = input; sent = step.send; returned = step.returned; object = step.object }) transcript.old transcript.new) }
+        ensures ok { OnOk result (self.new ≡ record self.old { up = queue_with self.old.up step.send; taken = or_before (payload_in input) self.old.taken; sent = or_before step.send self.old.sent }) }
+        ensures joins { OnOk result (AddsStep (record { client = self.old.client.id; input = input; sent = step.send; returned = step.returned; object = step.object }) transcript.old transcript.new) }
         ensures err { OnErr result (self.new ≡ self.old) }
-        ensures stays { OnErr result (Stays transcript.old transcript.new) }
+        ensures stays { OnErr result (AddsNoStep transcript.old transcript.new) }
     {
         let Step {
             send: sent,
@@ -158,9 +158,9 @@ impl Member {
         requires idle { IsTrue (is_idle self.old.client) }
         requires can { CanAsk self.old input }
         ensures acts { (g : Group) (h : List AStep) (i : ℕ) → MemberStands g h self.old i → OnOk result (Acts g h i input self.old self.new) }
-        ensures joins { (g : Group) (h : List AStep) (i : ℕ) → MemberStands g h self.old i → OnOk result (Joins (step_at g h i input) transcript.old transcript.new) }
+        ensures joins { (g : Group) (h : List AStep) (i : ℕ) → MemberStands g h self.old i → OnOk result (AddsStep (step_at g h i input) transcript.old transcript.new) }
         ensures err { OnErr result (self.new ≡ self.old) }
-        ensures stays { OnErr result (Stays transcript.old transcript.new) }
+        ensures stays { OnErr result (AddsNoStep transcript.old transcript.new) }
     {
         let mut pending = self.plan(alloc, &input)?;
         let sent = pending.step.send.take();
@@ -185,11 +185,11 @@ impl Member {
         transcript: &mut Transcript,
         out: &mut Bytes,
     ) -> Result<(), NoMemory>
-        ensures ok { OnOk result (self.new ≡ record self.old { up = queued self.old.up step.send; taken = Some payload; sent = or_before step.send self.old.sent }) }
-        ensures joins { OnOk result (Joins (record { client = self.old.client.id; input = input.Payload payload; sent = step.send; returned = step.returned; object = step.object }) transcript.old transcript.new) }
-        ensures out { OnOk result (out.new ≡ out.old ++ said self.old.client.id step.returned step.object) }
+        ensures ok { OnOk result (self.new ≡ record self.old { up = queue_with self.old.up step.send; taken = Some payload; sent = or_before step.send self.old.sent }) }
+        ensures joins { OnOk result (AddsStep (record { client = self.old.client.id; input = input.Payload payload; sent = step.send; returned = step.returned; object = step.object }) transcript.old transcript.new) }
+        ensures out { OnOk result (out.new ≡ out.old ++ print_of_outcomes self.old.client.id step.returned step.object) }
         ensures err { OnErr result (self.new ≡ self.old) }
-        ensures stays { OnErr result (Stays transcript.old transcript.new) }
+        ensures stays { OnErr result (AddsNoStep transcript.old transcript.new) }
     {
         put_said(out, alloc, self.client.id(), &step.returned, &step.object)?;
         self.make(alloc, Input::Payload(payload), step, transcript)
@@ -205,10 +205,10 @@ impl Member {
         out: &mut Bytes,
     ) -> Result<(), NoMemory>
         ensures acts { (g : Group) (h : List AStep) (i : ℕ) → MemberStands g h self.old i → OnOk result (Acts g h i (input.Payload payload) self.old self.new) }
-        ensures joins { (g : Group) (h : List AStep) (i : ℕ) → MemberStands g h self.old i → OnOk result (Joins (step_at g h i (input.Payload payload)) transcript.old transcript.new) }
-        ensures out { (g : Group) (h : List AStep) (i : ℕ) → MemberStands g h self.old i → OnOk result (out.new ≡ out.old ++ said i (step_at g h i (input.Payload payload)).returned (step_at g h i (input.Payload payload)).object) }
+        ensures joins { (g : Group) (h : List AStep) (i : ℕ) → MemberStands g h self.old i → OnOk result (AddsStep (step_at g h i (input.Payload payload)) transcript.old transcript.new) }
+        ensures out { (g : Group) (h : List AStep) (i : ℕ) → MemberStands g h self.old i → OnOk result (out.new ≡ out.old ++ print_of_outcomes i (step_at g h i (input.Payload payload)).returned (step_at g h i (input.Payload payload)).object) }
         ensures err { OnErr result (self.new ≡ self.old) }
-        ensures stays { OnErr result (Stays transcript.old transcript.new) }
+        ensures stays { OnErr result (AddsNoStep transcript.old transcript.new) }
     {
         payload.are_bytes();
         let mut pending = self.client.hear(alloc, payload.as_slice())?;
@@ -257,7 +257,7 @@ impl Member {
 
     /// A copy of the client's oldest answer with the lowest bit of one byte changed, if it has a byte of this number, counted from 0.
     pub fn flipped_answer(&self, alloc: Global, number: u32) -> Result<Option<Bytes>, NoMemory>
-        ensures { IfOk result (λ made. (is_some made ≡ nat_lt number (length (oldest self.now.down))) × IfSome made (λ payload. payload ≡ flipped number (oldest self.now.down))) }
+        ensures { IfOk result (λ made. (is_some made ≡ nat_lt number (length (oldest_payload self.now.down))) × IfSome made (λ payload. payload ≡ payload_with_flip number (oldest_payload self.now.down))) }
     {
         let Some(payload) = self.down.oldest() else {
             return Ok(None);
@@ -278,10 +278,10 @@ impl Member {
         out: &mut Bytes,
     ) -> Result<(), NoMemory>
         ensures acts { (g : Group) (h : List AStep) (i : ℕ) → MemberStands g h self.old i → OnOk result (Acts g h i (input.Payload payload) (record self.old { down = drop 1 self.old.down }) self.new) }
-        ensures joins { (g : Group) (h : List AStep) (i : ℕ) → MemberStands g h self.old i → OnOk result (Joins (step_at g h i (input.Payload payload)) transcript.old transcript.new) }
-        ensures out { (g : Group) (h : List AStep) (i : ℕ) → MemberStands g h self.old i → OnOk result (out.new ≡ out.old ++ said i (step_at g h i (input.Payload payload)).returned (step_at g h i (input.Payload payload)).object) }
+        ensures joins { (g : Group) (h : List AStep) (i : ℕ) → MemberStands g h self.old i → OnOk result (AddsStep (step_at g h i (input.Payload payload)) transcript.old transcript.new) }
+        ensures out { (g : Group) (h : List AStep) (i : ℕ) → MemberStands g h self.old i → OnOk result (out.new ≡ out.old ++ print_of_outcomes i (step_at g h i (input.Payload payload)).returned (step_at g h i (input.Payload payload)).object) }
         ensures err { OnErr result (self.new ≡ self.old) }
-        ensures stays { OnErr result (Stays transcript.old transcript.new) }
+        ensures stays { OnErr result (AddsNoStep transcript.old transcript.new) }
     {
         self.take(alloc, payload, transcript, out)?;
         self.down.drop_oldest();
@@ -299,9 +299,9 @@ impl Member {
         ensures rests { result ≡ Ok false → ((self.old.up ≡ []) ⊎ (is_some (server_at (states S.state servers.old) self.old.server) ≡ false)) × ((self.new ≡ self.old) × (states S.state servers.new ≡ states S.state servers.old)) }
         ensures there { result ≡ Ok true → is_some (server_at (states S.state servers.old) self.old.server) ≡ true }
         ensures served { result ≡ Ok true → IfSome (server_at (states S.state servers.old) self.old.server) (λ v.
-            (self.old.up ≡ oldest self.old.up ∷ drop 1 self.old.up)
-            × ((self.new ≡ record self.old { up = drop 1 self.old.up; down = self.old.down ++ (S.rule v who who (oldest self.old.up)).0 ∷ [] })
-            × (states S.state servers.new ≡ set_server (states S.state servers.old) self.old.server (Some (S.rule v who who (oldest self.old.up)).1)))) }
+            (self.old.up ≡ oldest_payload self.old.up ∷ drop 1 self.old.up)
+            × ((self.new ≡ record self.old { up = drop 1 self.old.up; down = self.old.down ++ (S.rule v who who (oldest_payload self.old.up)).0 ∷ [] })
+            × (states S.state servers.new ≡ set_server (states S.state servers.old) self.old.server (Some (S.rule v who who (oldest_payload self.old.up)).1)))) }
         ensures err { OnErr result ((self.new ≡ self.old) × (servers.new ≡ servers.old)) }
     {
         let Some(payload) = self.up.oldest() else {
@@ -328,7 +328,7 @@ impl Member {
 
     /// The payload that the client sent last joins its requests again, if it sent one; whether it did.
     pub fn resend(&mut self, alloc: Global) -> Result<bool, NoMemory>
-        ensures ok { IfOk result (λ went. (is_some self.old.sent ≡ went) × (self.new ≡ record self.old { up = queued self.old.up self.old.sent })) }
+        ensures ok { IfOk result (λ went. (is_some self.old.sent ≡ went) × (self.new ≡ record self.old { up = queue_with self.old.up self.old.sent })) }
         ensures err { OnErr result (self.new ≡ self.old) }
     {
         let again = copied(alloc, &self.sent)?;

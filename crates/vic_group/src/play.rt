@@ -5,15 +5,15 @@ ghost use Rattle.vic_script.specs.declared.line.Line.{Line};
 ghost use Rattle.vic_script.specs.Lines.{line_of, lines_of};
 ghost use Rattle.vic_attacks.specs.Hostile.{by_kind};
 ghost use Rattle.vic_script.specs.Scenes.{bad_kind, done_line};
-ghost use Rattle.vic_script.specs.Run.{limit, Before, Stands, scene_in, stops, run_of, try_line, tried_by, bad_end, play as play_by};
+ghost use Rattle.vic_script.specs.Run.{script_limit, Before, Stands, scene_in, run_to_bad_line, run_of, trial_of_line, trial_by, bad_end, run_from};
 ghost use Rattle.vic_script.specs.Print.{print_of_script, bad_line, end_text, is_forged};
-ghost use Rattle.vic_view.specs.Transcripts.{group_of, history_of};
+ghost use Rattle.vic_view.specs.Transcripts.{transcript_group, transcript_history};
 ghost use Rattle.vic_runs.specs.Reached.{IsReached};
 ghost use Rattle.vic_group.specs.World.{MayDo};
-ghost use Rattle.vic_group.specs.Playing.{scene_of, place_by, HasFew, Shows, Tries, tried_at, Follows, Leaves, ended_by, end_of};
+ghost use Rattle.vic_group.specs.Playing.{scene_of, progress_by, HasFew, ShowsItsScene, Tries, trial_at, Follows, ComesTo, end_by, end_of};
 
 use crate::header::{Headed, Header, head_line, opened, without_steps};
-use crate::place::{first_line, place_behind};
+use crate::place::{first_line, line_end};
 use crate::world::{World, WorldFault};
 use std::alloc::Global;
 use vic_dict::{Bytes, NoMemory};
@@ -68,14 +68,14 @@ pub fn play(alloc: Global, script: &[u8]) -> Result<Played, NoMemory>
 
 /// Does the lines of a script, up to the first bad one.
 pub(crate) fn run_script(alloc: Global, script: &[u8]) -> Result<Ran, NoMemory>
-    ensures { IfOk result (λ r. Leaves (run_of script.now) r) }
+    ensures { IfOk result (λ r. ComesTo (run_of script.now) r) }
 {
     run_known(alloc, known_of(script))
 }
 
 /// As much of a script as matters.
 fn known_of(script: &[u8]) -> &[u8]
-    ensures { result.now ≡ take (limit + 1) script.now }
+    ensures { result.now ≡ take (script_limit + 1) script.now }
 {
     if script.len() <= SCRIPT_LIMIT {
         script
@@ -86,8 +86,8 @@ fn known_of(script: &[u8]) -> &[u8]
 
 /// Does the lines of the header, and then the others.
 fn run_known(alloc: Global, known: &[u8]) -> Result<Ran, NoMemory>
-    requires { length known.now ≤ limit + 1 }
-    ensures { IfOk result (λ r. Leaves (play_by (length known.now) 0 1 Before (lines_of known.now)) r) }
+    requires { length known.now ≤ script_limit + 1 }
+    ensures { IfOk result (λ r. ComesTo (run_from (length known.now) 0 1 Before (lines_of known.now)) r) }
 {
     let mut header: Option<Header> = None;
     let mut before = 0;
@@ -95,7 +95,7 @@ fn run_known(alloc: Global, known: &[u8]) -> Result<Ran, NoMemory>
     let mut rest = known;
     while !rest.is_empty() {
         let (text, others) = first_line(rest);
-        let behind = place_behind(known.len(), before, text);
+        let behind = line_end(known.len(), before, text);
         if SCRIPT_LIMIT < behind {
             return unopened(alloc, header, number, 7);
         }
@@ -119,7 +119,7 @@ fn run_known(alloc: Global, known: &[u8]) -> Result<Ran, NoMemory>
 /// The run of a script that has no event, and whose last line is the one before this number.
 fn closed(alloc: Global, header: Option<Header>, number: u32) -> Result<Ran, NoMemory>
     requires { HasFew header }
-    ensures { IfOk result (λ r. Leaves (record { scene = scene_in (place_by header); text = []; bad = bad_end number (place_by header) }) r) }
+    ensures { IfOk result (λ r. ComesTo (record { scene = scene_in (progress_by header); text = []; bad = bad_end number (progress_by header) }) r) }
 {
     match header {
         None => unopened(alloc, None, number, 1),
@@ -129,7 +129,7 @@ fn closed(alloc: Global, header: Option<Header>, number: u32) -> Result<Ran, NoM
 
 /// The run of a script in which this line is bad, before any event and behind so much of a header.
 fn unopened(alloc: Global, header: Option<Header>, number: u32, kind: u8) -> Result<Ran, NoMemory>
-    ensures { IfOk result (λ r. Leaves (stops (place_by header) number kind) r) }
+    ensures { IfOk result (λ r. ComesTo (run_to_bad_line (progress_by header) number kind) r) }
 {
     let transcript = without_steps(alloc, header)?;
     Ok(Ran::Stopped(transcript, Bytes::new(alloc), BadLine { number, kind }))
@@ -144,12 +144,12 @@ fn run_on(
     first: u32,
     lines: &[u8],
 ) -> Result<Ran, NoMemory>
-    requires shows { Shows opened }
+    requires shows { ShowsItsScene opened }
     requires reached { IsReached (scene_of opened) first }
     requires place { place ≤ total }
-    requires total { total ≤ limit + 1 }
-    requires few { first + length lines.now ≤ limit + 2 }
-    ensures { IfOk result (λ r. Leaves (play_by total place first (Stands (scene_of opened)) (lines_of lines.now)) r) }
+    requires total { total ≤ script_limit + 1 }
+    requires few { first + length lines.now ≤ script_limit + 2 }
+    ensures { IfOk result (λ r. ComesTo (run_from total place first (Stands (scene_of opened)) (lines_of lines.now)) r) }
 {
     let mut world = opened;
     let mut out = Bytes::new(alloc);
@@ -158,7 +158,7 @@ fn run_on(
     let mut rest = lines;
     while !rest.is_empty() {
         let (text, others) = first_line(rest);
-        let behind = place_behind(total, before, text);
+        let behind = line_end(total, before, text);
         match do_line(alloc, &mut world, number, behind, text, &mut out)? {
             Some(bad) => return Ok(Ran::Stopped(world.into_transcript(), out, bad)),
             None => {
@@ -180,10 +180,10 @@ fn do_line(
     text: &[u8],
     out: &mut Bytes,
 ) -> Result<Option<BadLine>, NoMemory>
-    requires shows { Shows world.old }
+    requires shows { ShowsItsScene world.old }
     requires reached { IsReached (scene_of world.old) number }
     requires few { number + 1 < 2 ^ 32 }
-    ensures { IfOk result (λ bad. Follows number (tried_at behind (Stands (scene_of world.old)) text.now) (scene_of world.old) world.new out.old out.new bad) }
+    ensures { IfOk result (λ bad. Follows number (trial_at behind (Stands (scene_of world.old)) text.now) (scene_of world.old) world.new out.old out.new bad) }
 {
     if SCRIPT_LIMIT < behind {
         return Ok(Some(BadLine { number, kind: 7 }));
@@ -201,9 +201,9 @@ fn try_text(
     text: &[u8],
     out: &mut Bytes,
 ) -> Result<Option<u8>, NoMemory>
-    requires shows { Shows world.old }
+    requires shows { ShowsItsScene world.old }
     requires may { (l : Line) → line_of (Some world.old.transcript.mode) text.now ≡ Some l → MayDo world.old l }
-    ensures { IfOk result (λ bad. Tries (try_line (Stands (scene_of world.old)) (line_of (Some world.old.transcript.mode) text.now)) (scene_of world.old) world.new out.old out.new bad) }
+    ensures { IfOk result (λ bad. Tries (trial_of_line (Stands (scene_of world.old)) (line_of (Some world.old.transcript.mode) text.now)) (scene_of world.old) world.new out.old out.new bad) }
 {
     let mode = world.transcript().mode;
     match read_line(alloc, text, Some(mode)) {
@@ -219,9 +219,9 @@ fn try_line_on(
     line: &Line,
     out: &mut Bytes,
 ) -> Result<Option<u8>, NoMemory>
-    requires shows { Shows world.old }
+    requires shows { ShowsItsScene world.old }
     requires may { MayDo world.old line.now }
-    ensures { IfOk result (λ bad. Tries (tried_by (bad_kind (scene_of world.old) line.now) (done_line by_kind (scene_of world.old) line.now)) (scene_of world.old) world.new out.old out.new bad) }
+    ensures { IfOk result (λ bad. Tries (trial_by (bad_kind (scene_of world.old) line.now) (done_line by_kind (scene_of world.old) line.now)) (scene_of world.old) world.new out.old out.new bad) }
 {
     match world.apply(alloc, line) {
         Ok(text) => {
@@ -235,15 +235,15 @@ fn try_line_on(
 
 /// How a run ends whose every line was done.
 fn whole_end(forged: bool) -> End
-    ensures { result ≡ ended_by None forged }
+    ensures { result ≡ end_by None forged }
 {
     if forged { End::Forged } else { End::Whole }
 }
 
 /// What was printed, and then the views of all clients.
 fn finished(alloc: Global, world: &World<Hostile>, out: Bytes) -> Result<Played, NoMemory>
-    requires { Shows world.now }
-    ensures { IfOk result (λ p. (p.text ≡ out ++ end_text (group_of world.now.transcript) (history_of world.now.transcript) None) × (p.end ≡ ended_by None (is_forged (group_of world.now.transcript) (history_of world.now.transcript)))) }
+    requires { ShowsItsScene world.now }
+    ensures { IfOk result (λ p. (p.text ≡ out ++ end_text (transcript_group world.now.transcript) (transcript_history world.now.transcript) None) × (p.end ≡ end_by None (is_forged (transcript_group world.now.transcript) (transcript_history world.now.transcript)))) }
 {
     let views = world.views(alloc)?;
     let mut text = out;

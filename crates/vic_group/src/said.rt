@@ -1,7 +1,7 @@
 //! What is printed of a client that took an answer.
 
 ghost use Rattle.std.specs.Prelude.{◌≡◌, ◌++◌, OnOk};
-ghost use Rattle.vic_script.specs.Scenes.{said, line_by};
+ghost use Rattle.vic_script.specs.Scenes.{print_of_outcomes, line_by};
 ghost use Rattle.vic_script.specs.Words.{outcome_words, object_words};
 
 use std::alloc::Global;
@@ -18,7 +18,7 @@ pub fn put_said(
     returned: &Option<Outcome>,
     object: &Option<ObjectOutcome>,
 ) -> Result<(), NoMemory>
-    ensures { OnOk result (out.new ≡ out.old ++ said who returned.now object.now) }
+    ensures { OnOk result (out.new ≡ out.old ++ print_of_outcomes who returned.now object.now) }
 {
     match (returned, object) {
         (None, None) => put_line(out, alloc, who, b"took"),

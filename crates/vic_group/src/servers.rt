@@ -2,7 +2,7 @@
 
 ghost use Rattle.std.specs.Prelude.{◌≡◌, Some, None, ◌∷◌, [], true, Ok, is_some, IfSome, IfOk, OnErr};
 ghost use Rattle.std.specs.Prelude.{option_map};
-ghost use Rattle.vic_script.specs.Lines.{is_place};
+ghost use Rattle.vic_script.specs.Lines.{is_server_number};
 ghost use Rattle.vic_order.specs.Scenes.{server_at, set_server};
 ghost use Rattle.vic_group.specs.World.{states};
 
@@ -114,7 +114,7 @@ impl<S: Serve + Drop> Servers<S> {
 
     /// A server stands in a place from 1 to 4 from now on.
     pub fn set(&mut self, place: u8, server: S)
-        requires { is_place place ≡ true }
+        requires { is_server_number place ≡ true }
         ensures { states S.state self.new ≡ set_server (states S.state self.old) place (Some (S.state server)) }
     {
         match place {

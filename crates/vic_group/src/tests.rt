@@ -1,7 +1,7 @@
 //! Scripts with what they print, and lines of a world. What each script prints was worked out by hand from the rules.
 
 ghost use Rattle.vic_rules.specs.History.{IsLawful};
-ghost use Rattle.vic_view.specs.Transcripts.{group_of, history_of};
+ghost use Rattle.vic_view.specs.Transcripts.{transcript_group, transcript_history};
 
 use crate::opening::zero_key;
 use crate::play::{Ran, play, run_script};
@@ -465,7 +465,7 @@ fn are_same(one: &View, other: &View) -> bool {
 
 /// Whether the definitions read off tell of a transcript what `view_of` and `forged` do, and a print ends with what those tell.
 fn ends_plainly(alloc: Global, t: &Transcript, print: &[u8]) -> Result<bool, NoMemory>
-    requires { IsLawful (group_of t.now) (history_of t.now) }
+    requires { IsLawful (transcript_group t.now) (transcript_history t.now) }
 {
     for k in 0..t.count {
         let view = view_of(alloc, t, k + 1)?;

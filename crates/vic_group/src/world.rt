@@ -8,13 +8,13 @@ ghost use Rattle.vic_rules.specs.Trust.{IsForged};
 ghost use Rattle.vic_rules.specs.Client.{first_failing};
 ghost use Rattle.vic_dict.specs.Dictionary.{Fits};
 ghost use Rattle.vic_rules.specs.Objects.{FitsObject};
-ghost use Rattle.vic_order.specs.Order.{fresh_server, ready, same_mode};
+ghost use Rattle.vic_order.specs.Order.{fresh_server, ready_member, same_mode};
 ghost use Rattle.vic_group.specs.declared.member.Member.{Member as AMember};
 ghost use Rattle.vic_group.specs.World.{HasBytes};
 ghost use Rattle.vic_script.specs.declared.line.Line.TheVariants as line;
-ghost use Rattle.vic_script.specs.Lines.{is_place as place_test};
-ghost use Rattle.vic_order.specs.Scenes.{SceneOf, opening_with, steps, serves, waits_in, has_byte, server_at, Takes, Flips, Hears};
-ghost use Rattle.vic_script.specs.Scenes.{done_line, bad_kind, turns, asked_tests, fits_op, fits_object, is_honest_line};
+ghost use Rattle.vic_script.specs.Lines.{is_server_number};
+ghost use Rattle.vic_order.specs.Scenes.{SceneOf, opening_with, after_step, after_serving, waits_in, has_byte, server_at, Takes, Flips, Hears};
+ghost use Rattle.vic_script.specs.Scenes.{done_line, bad_kind, events_of_turns, asked_tests, fits_op, fits_object, is_honest_line};
 ghost use Rattle.vic_script.specs.Print.{end_text, is_forged};
 
 use crate::member::Member;
@@ -53,8 +53,8 @@ pub struct World<S> {
 }
 
 /// Whether a server may stand in a place.
-fn is_place(place: u8) -> bool
-    ensures { result ≡ place_test place }
+fn is_server_number(place: u8) -> bool
+    ensures { result ≡ is_server_number place }
 {
     0 < place && place <= 4
 }
@@ -95,8 +95,8 @@ fn line_bytes(line: &Line)
 }
 
 impl<S: Serve + Drop> World<S> {
-    ghost use Rattle.vic_group.specs.World.{ShowsScene, MayDo, CanAsk, Does, IsLeft, IsLeftOf, Makes, MakesIf, StandsHonestly};
-    ghost use Rattle.vic_view.specs.Transcripts.{history_of, group_of};
+    ghost use Rattle.vic_group.specs.World.{ShowsScene, MayDo, CanAsk, DoesLine, LeftWithoutMemory, TurnsLeftWithoutMemory, Makes, MakesIf, StandsHonestly};
+    ghost use Rattle.vic_view.specs.Transcripts.{transcript_history, transcript_group};
 
     /// A world of so many clients, all come in, which this server serves.
     pub fn new(
@@ -110,7 +110,7 @@ impl<S: Serve + Drop> World<S> {
         requires few { count ≤ 64 }
         ensures shows { IfOk result (λ w. ShowsScene S.state w (opening_with (record { mode = mode; count = count; key = key }) (S.state server))) }
         // Where the server answers as one that follows the rule and has them all ready, they are clients with one honest server.
-        ensures honest { AnswersAs S.rule (S.state server) (fresh_server mode count ready) → IfOk result (λ w. StandsHonestly S.state S.rule w 0) }
+        ensures honest { AnswersAs S.rule (S.state server) (fresh_server mode count ready_member) → IfOk result (λ w. StandsHonestly S.state S.rule w 0) }
     {
         // A key has 1 to 64 bytes.
         let _length = key.len();
@@ -141,7 +141,7 @@ impl<S: Serve + Drop> World<S> {
     fn ask(&mut self, alloc: Global, who: u32, input: Input) -> Result<Option<u8>, NoMemory>
         requires { 0 < who → (m : AMember) → slice_get self.old.members.items (who - 1) ≡ Some m → CanAsk m input }
         ensures ok { (s : SceneOf S.State) → ShowsScene S.state self.old s → IfOk result (λ bad. (first_failing (asked_tests s who) ≡ bad)
-            × MatchOption bad (ShowsScene S.state self.new (steps s who input)) (λ kind. ShowsScene S.state self.new s)) }
+            × MatchOption bad (ShowsScene S.state self.new (after_step s who input)) (λ kind. ShowsScene S.state self.new s)) }
         ensures err { (s : SceneOf S.State) → ShowsScene S.state self.old s → OnErr result (ShowsScene S.state self.new s) }
     {
         let Some((place, _)) = self.place(who) else {
@@ -159,7 +159,7 @@ impl<S: Serve + Drop> World<S> {
         requires place { who ≡ place + 1 }
         requires within { place < length self.old.members.items }
         ensures members { length self.new.members.items ≡ length self.old.members.items }
-        ensures ok { (s : SceneOf S.State) → ShowsScene S.state self.old s → IfOk result (λ went. (waits_in s.up who ≡ went) × ShowsScene S.state self.new (serves S.rule s who)) }
+        ensures ok { (s : SceneOf S.State) → ShowsScene S.state self.old s → IfOk result (λ went. (waits_in s.up who ≡ went) × ShowsScene S.state self.new (after_serving S.rule s who)) }
         ensures err { (s : SceneOf S.State) → ShowsScene S.state self.old s → OnErr result (ShowsScene S.state self.new s) }
     {
         self.members[place].serve_oldest(alloc, &mut self.servers, who)
@@ -235,8 +235,8 @@ impl<S: Serve + Drop> World<S> {
     ) -> Result<(), NoMemory>
         requires place { who ≡ place + 1 }
         requires within { place < length self.old.members.items }
-        ensures ok { (s : SceneOf S.State) → ShowsScene S.state self.old s → OnOk result (Makes S.state S.rule s (turns S.rule left s who) self.new out.old out.new) }
-        ensures err { (s : SceneOf S.State) → ShowsScene S.state self.old s → OnErr result (IsLeftOf S.state S.rule left s who self.new) }
+        ensures ok { (s : SceneOf S.State) → ShowsScene S.state self.old s → OnOk result (Makes S.state S.rule s (events_of_turns S.rule left s who) self.new out.old out.new) }
+        ensures err { (s : SceneOf S.State) → ShowsScene S.state self.old s → OnErr result (TurnsLeftWithoutMemory S.state S.rule left s who self.new) }
     {
         if left == 0 {
             return Ok(());
@@ -252,7 +252,7 @@ impl<S: Serve + Drop> World<S> {
 
     fn call_line(&mut self, alloc: Global, who: u32, op: &Op) -> Result<Option<u8>, NoMemory>
         requires { MayDo self.old (line.Call who op.now) }
-        ensures { (s : SceneOf S.State) → ShowsScene S.state self.old s → Does S.state S.rule s (line.Call who op.now) result self.new [] [] }
+        ensures { (s : SceneOf S.State) → ShowsScene S.state self.old s → DoesLine S.state S.rule s (line.Call who op.now) result self.new [] [] }
     {
         if !is_plain_call(self.transcript.mode, op) {
             return Ok(Some(1));
@@ -270,7 +270,7 @@ impl<S: Serve + Drop> World<S> {
         call: &ObjectCall,
     ) -> Result<Option<u8>, NoMemory>
         requires { MayDo self.old (line.Object who call.now) }
-        ensures { (s : SceneOf S.State) → ShowsScene S.state self.old s → Does S.state S.rule s (line.Object who call.now) result self.new [] [] }
+        ensures { (s : SceneOf S.State) → ShowsScene S.state self.old s → DoesLine S.state S.rule s (line.Object who call.now) result self.new [] [] }
     {
         if !is_object_call(self.transcript.mode, call) {
             return Ok(Some(1));
@@ -282,7 +282,7 @@ impl<S: Serve + Drop> World<S> {
     }
 
     fn serve_line(&mut self, alloc: Global, who: u32) -> Result<Option<u8>, NoMemory>
-        ensures { (s : SceneOf S.State) → ShowsScene S.state self.old s → Does S.state S.rule s (line.Serve who) result self.new [] [] }
+        ensures { (s : SceneOf S.State) → ShowsScene S.state self.old s → DoesLine S.state S.rule s (line.Serve who) result self.new [] [] }
     {
         let Some((place, id)) = self.place(who) else {
             return Ok(Some(2));
@@ -297,7 +297,7 @@ impl<S: Serve + Drop> World<S> {
         who: u32,
         out: &mut Bytes,
     ) -> Result<Option<u8>, NoMemory>
-        ensures { (s : SceneOf S.State) → ShowsScene S.state self.old s → Does S.state S.rule s (line.Take who) result self.new out.old out.new }
+        ensures { (s : SceneOf S.State) → ShowsScene S.state self.old s → DoesLine S.state S.rule s (line.Take who) result self.new out.old out.new }
     {
         let Some((place, id)) = self.place(who) else {
             return Ok(Some(2));
@@ -307,7 +307,7 @@ impl<S: Serve + Drop> World<S> {
     }
 
     fn run_line(&mut self, alloc: Global, who: u32, out: &mut Bytes) -> Result<Option<u8>, NoMemory>
-        ensures { (s : SceneOf S.State) → ShowsScene S.state self.old s → Does S.state S.rule s (line.Run who) result self.new out.old out.new }
+        ensures { (s : SceneOf S.State) → ShowsScene S.state self.old s → DoesLine S.state S.rule s (line.Run who) result self.new out.old out.new }
     {
         let Some((place, id)) = self.place(who) else {
             return Ok(Some(2));
@@ -323,7 +323,7 @@ impl<S: Serve + Drop> World<S> {
         payload: &Bytes,
         out: &mut Bytes,
     ) -> Result<Option<u8>, NoMemory>
-        ensures { (s : SceneOf S.State) → ShowsScene S.state self.old s → Does S.state S.rule s (line.Give who payload.now) result self.new out.old out.new }
+        ensures { (s : SceneOf S.State) → ShowsScene S.state self.old s → DoesLine S.state S.rule s (line.Give who payload.now) result self.new out.old out.new }
     {
         let Some((place, id)) = self.place(who) else {
             return Ok(Some(2));
@@ -339,7 +339,7 @@ impl<S: Serve + Drop> World<S> {
         who: u32,
         out: &mut Bytes,
     ) -> Result<Option<u8>, NoMemory>
-        ensures { (s : SceneOf S.State) → ShowsScene S.state self.old s → Does S.state S.rule s (line.Again who) result self.new out.old out.new }
+        ensures { (s : SceneOf S.State) → ShowsScene S.state self.old s → DoesLine S.state S.rule s (line.Again who) result self.new out.old out.new }
     {
         let Some((place, id)) = self.place(who) else {
             return Ok(Some(2));
@@ -359,7 +359,7 @@ impl<S: Serve + Drop> World<S> {
         number: u32,
         out: &mut Bytes,
     ) -> Result<Option<u8>, NoMemory>
-        ensures { (s : SceneOf S.State) → ShowsScene S.state self.old s → Does S.state S.rule s (line.Flip who number) result self.new out.old out.new }
+        ensures { (s : SceneOf S.State) → ShowsScene S.state self.old s → DoesLine S.state S.rule s (line.Flip who number) result self.new out.old out.new }
     {
         let Some((place, id)) = self.place(who) else {
             return Ok(Some(2));
@@ -369,7 +369,7 @@ impl<S: Serve + Drop> World<S> {
     }
 
     fn resend_line(&mut self, alloc: Global, who: u32) -> Result<Option<u8>, NoMemory>
-        ensures { (s : SceneOf S.State) → ShowsScene S.state self.old s → Does S.state S.rule s (line.Resend who) result self.new [] [] }
+        ensures { (s : SceneOf S.State) → ShowsScene S.state self.old s → DoesLine S.state S.rule s (line.Resend who) result self.new [] [] }
     {
         let Some((place, _)) = self.place(who) else {
             return Ok(Some(2));
@@ -379,9 +379,9 @@ impl<S: Serve + Drop> World<S> {
     }
 
     fn copy_line(&mut self, alloc: Global, from: u32, to: u8) -> Result<Option<u8>, NoMemory>
-        ensures { (s : SceneOf S.State) → ShowsScene S.state self.old s → Does S.state S.rule s (line.Copy from to) result self.new [] [] }
+        ensures { (s : SceneOf S.State) → ShowsScene S.state self.old s → DoesLine S.state S.rule s (line.Copy from to) result self.new [] [] }
     {
-        if !is_place(to) {
+        if !is_server_number(to) {
             return Ok(Some(1));
         }
         let Some(server) = self.servers.at(from) else {
@@ -397,7 +397,7 @@ impl<S: Serve + Drop> World<S> {
     }
 
     fn move_line(&mut self, who: u32, number: u32) -> Option<u8>
-        ensures { (s : SceneOf S.State) → ShowsScene S.state self.old s → Does S.state S.rule s (line.Move who number) (Ok result) self.new [] [] }
+        ensures { (s : SceneOf S.State) → ShowsScene S.state self.old s → DoesLine S.state S.rule s (line.Move who number) (Ok result) self.new [] [] }
     {
         let Some((place, _)) = self.place(who) else {
             return Some(2);
@@ -417,7 +417,7 @@ impl<S: Serve + Drop> World<S> {
         out: &mut Bytes,
     ) -> Result<Option<u8>, NoMemory>
         requires { MayDo self.old line.now }
-        ensures { (s : SceneOf S.State) → ShowsScene S.state self.old s → Does S.state S.rule s line.now result self.new out.old out.new }
+        ensures { (s : SceneOf S.State) → ShowsScene S.state self.old s → DoesLine S.state S.rule s line.now result self.new out.old out.new }
     {
         match line {
             Line::Clients(_) | Line::Objects(_) | Line::Key(_) | Line::Hostile(_, _) => Ok(Some(1)),
@@ -449,7 +449,7 @@ impl<S: Serve + Drop> World<S> {
         ensures done { (s : SceneOf S.State) → ShowsScene S.state self.old s → IfOk result (λ text.
             (bad_kind s line.now ≡ None) × ((text ≡ (done_line S.rule s line.now).text) × ShowsScene S.state self.new (done_line S.rule s line.now).scene)) }
         ensures bad { (s : SceneOf S.State) (k : ℕ) → ShowsScene S.state self.old s → result ≡ Err (WorldFault.Bad k) → (bad_kind s line.now ≡ Some k) × ShowsScene S.state self.new s }
-        ensures memory { (s : SceneOf S.State) → ShowsScene S.state self.old s → result ≡ Err WorldFault.NoMemory → IsLeft S.state S.rule s line.now self.new }
+        ensures memory { (s : SceneOf S.State) → ShowsScene S.state self.old s → result ≡ Err WorldFault.NoMemory → LeftWithoutMemory S.state S.rule s line.now self.new }
         // Clients with one honest server are that still after an honest line, whatever it comes to.
         ensures honest { (n : ℕ) → StandsHonestly S.state S.rule self.old n → is_honest_line line.now ≡ true → StandsHonestly S.state S.rule self.new (n + 1) }
     {
@@ -487,10 +487,10 @@ impl<S: Serve + Drop> World<S> {
     /// The lines of all views, how far each two agree, and whether each tag that was taken was made, which is told beside them. It
     /// costs what `print_end` of `vic_view` does.
     pub fn views(&self, alloc: Global) -> Result<Printed, NoMemory>
-        requires { IsLawful (group_of self.now.transcript) (history_of self.now.transcript) }
-        ensures text { IfOk result (λ v. v.text ≡ end_text (group_of self.now.transcript) (history_of self.now.transcript) None) }
-        ensures forged { IfOk result (λ v. v.forged ≡ is_forged (group_of self.now.transcript) (history_of self.now.transcript)) }
-        ensures means { IfOk result (λ v. (v.forged ≡ true) ↔ IsForged (group_of self.now.transcript) (history_of self.now.transcript)) }
+        requires { IsLawful (transcript_group self.now.transcript) (transcript_history self.now.transcript) }
+        ensures text { IfOk result (λ v. v.text ≡ end_text (transcript_group self.now.transcript) (transcript_history self.now.transcript) None) }
+        ensures forged { IfOk result (λ v. v.forged ≡ is_forged (transcript_group self.now.transcript) (transcript_history self.now.transcript)) }
+        ensures means { IfOk result (λ v. (v.forged ≡ true) ↔ IsForged (transcript_group self.now.transcript) (transcript_history self.now.transcript)) }
     {
         print_end(alloc, &self.transcript)
     }

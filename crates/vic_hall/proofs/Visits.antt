@@ -13,7 +13,7 @@ use Rattle.vic_ports.specs.Links.{Told, Lines, ComesIn, GoesBack, put_back}
 use Rattle.vic_change.specs.declared.Change.{Change}
 use Rattle.vic_change.specs.Changes.{of_seat}
 use Rattle.vic_order.specs.Order.{Server}
-use Rattle.vic_server.specs.Replay.{Kept, replay}
+use Rattle.vic_server.specs.Replay.{KeptServer, replay}
 use Rattle.vic_turn.specs.Changes.{Each}
 use Rattle.vic_turn.specs.Passes.{LockView, PassView, IsPassOf, IsFresh}
 use Rattle.vic_turn.proofs.Histories.{prefix_self, prefix_trans}
@@ -66,28 +66,28 @@ visited came back (Some was) b c h k e = λ room.
 
 -- ---- workers
 
-chain_number : (fixed : Kept) (known after : Option ℕ) (p q : PassView Kept) (xs : List (Handled ToClient)) → Chain by_hello (HallStep fixed) known p xs after q → q.number ≡ p.number
-chain_number fixed known after p q [] c = ap (λ (r : PassView Kept). r.number) (sym c.0)
+chain_number : (fixed : KeptServer) (known after : Option ℕ) (p q : PassView KeptServer) (xs : List (Handled ToClient)) → Chain by_hello (HallStep fixed) known p xs after q → q.number ≡ p.number
+chain_number fixed known after p q [] c = ap (λ (r : PassView KeptServer). r.number) (sym c.0)
 chain_number fixed known after p q (x ∷ xs) c = chain_number fixed (greeted_after known x.payload x.answer) after c.0 q xs c.1.1.1 ∙ c.1.1.0.1
 
-last_number : (fixed : Kept) (end : WorkEnd) (more : List (List ℕ)) (known : Option ℕ) (p q : PassView Kept) → LastStep by_hello (HallStep fixed) end more known p q → q.number ≡ p.number
-last_number fixed ends.Ended more known p q s = ap (λ (r : PassView Kept). r.number) (sym s)
-last_number fixed ends.LinkFault more known p q s = ap (λ (r : PassView Kept). r.number) (sym s)
-last_number fixed ends.BadFrame more known p q s = ap (λ (r : PassView Kept). r.number) (sym s)
-last_number fixed ends.NoMemory more known p q (inl s) = ap (λ (r : PassView Kept). r.number) (sym s)
+last_number : (fixed : KeptServer) (end : WorkEnd) (more : List (List ℕ)) (known : Option ℕ) (p q : PassView KeptServer) → LastStep by_hello (HallStep fixed) end more known p q → q.number ≡ p.number
+last_number fixed ends.Ended more known p q s = ap (λ (r : PassView KeptServer). r.number) (sym s)
+last_number fixed ends.LinkFault more known p q s = ap (λ (r : PassView KeptServer). r.number) (sym s)
+last_number fixed ends.BadFrame more known p q s = ap (λ (r : PassView KeptServer). r.number) (sym s)
+last_number fixed ends.NoMemory more known p q (inl s) = ap (λ (r : PassView KeptServer). r.number) (sym s)
 last_number fixed ends.NoMemory more known p q (inr s) = s.1.1.1.1
 
-same_seen : (p q : PassView Kept) → p ≡ q → IsPrefix p.seen q.seen
-same_seen p q e = subst (λ (r : PassView Kept). IsPrefix p.seen r.seen) e (prefix_self p.seen)
+same_seen : (p q : PassView KeptServer) → p ≡ q → IsPrefix p.seen q.seen
+same_seen p q e = subst (λ (r : PassView KeptServer). IsPrefix p.seen r.seen) e (prefix_self p.seen)
 
-last_seen : (fixed : Kept) (end : WorkEnd) (more : List (List ℕ)) (known : Option ℕ) (p q : PassView Kept) → LastStep by_hello (HallStep fixed) end more known p q → IsPrefix p.seen q.seen
+last_seen : (fixed : KeptServer) (end : WorkEnd) (more : List (List ℕ)) (known : Option ℕ) (p q : PassView KeptServer) → LastStep by_hello (HallStep fixed) end more known p q → IsPrefix p.seen q.seen
 last_seen fixed ends.Ended more known p q s = same_seen p q s
 last_seen fixed ends.LinkFault more known p q s = same_seen p q s
 last_seen fixed ends.BadFrame more known p q s = same_seen p q s
 last_seen fixed ends.NoMemory more known p q (inl s) = same_seen p q s
 last_seen fixed ends.NoMemory more known p q (inr s) = step_seen fixed p q (asker known) s.0 None s.1.1.1
 
-last_at : (k fixed : Kept) (seat : ℕ) (end : WorkEnd) (more : List (List ℕ)) (known : Option ℕ) (p q : PassView Kept) → fixed.opening ≡ k.opening → p.number ≡ seat
+last_at : (k fixed : KeptServer) (seat : ℕ) (end : WorkEnd) (more : List (List ℕ)) (known : Option ℕ) (p q : PassView KeptServer) → fixed.opening ≡ k.opening → p.number ≡ seat
     → LastStep by_hello (HallStep fixed) end more known p q → IsPrefix q.seen k.changes → LastStep by_hello (answers_at k seat) end more known (place_of p) (place_of q)
 last_at k fixed seat ends.Ended more known p q o n s is = ap place_of s
 last_at k fixed seat ends.LinkFault more known p q o n s is = ap place_of s
@@ -96,7 +96,7 @@ last_at k fixed seat ends.NoMemory more known p q o n (inl s) is = inl (ap place
 last_at k fixed seat ends.NoMemory more known p q o n (inr s) is = inr (s.0, (s.1.0, (s.1.1.0, step_at k fixed seat p q (asker known) s.0 None o n s.1.1.1 is)))
 
 -- a worker whose pass was fresh attends its connection, in the history at the end
-pub attends : (k fixed : Kept) (seat : ℕ) (old new : Told) (end : WorkEnd) (p q : PassView Kept) → fixed.opening ≡ k.opening → p.number ≡ seat → p.seen ≡ [] → p.mine ≡ []
+pub attends : (k fixed : KeptServer) (seat : ℕ) (old new : Told) (end : WorkEnd) (p q : PassView KeptServer) → fixed.opening ≡ k.opening → p.number ≡ seat → p.seen ≡ [] → p.mine ≡ []
     → IsWorked by_hello (HallStep fixed) old p end new q → IsPrefix q.seen k.changes → of_seat q.number k.changes ≡ q.mine → Attends k seat old end new
 attends k fixed seat old new end p q o n seen mine w is own =
     let at_last : w.last.number ≡ seat = chain_number fixed None w.known p w.last w.handled w.chain ∙ n in
@@ -141,7 +141,7 @@ number_at f xs n i x e is =
     omega arith
 
 -- the jobs of a hall, before and after their workers, are a run
-pub is_run : {L : Type 0} (told : L → Told) (hall : LockView Kept) (from to : List (Job L)) (k : Kept) → hall.fixed.opening ≡ k.opening → k.server ≡ replay k.opening k.changes
+pub is_run : {L : Type 0} (told : L → Told) (hall : LockView KeptServer) (from to : List (Job L)) (k : KeptServer) → hall.fixed.opening ≡ k.opening → k.server ≡ replay k.opening k.changes
     → map (λ j. j.pass.number) from ≡ range_with_len 1 hall.count → All (λ j. IsFresh hall j.pass) from → length to ≡ length from
     → ((i : ℕ) (d : Job L) → i < length to → Worked hall.fixed told (get_or from i d) (get_or to i d))
     → All (λ j. of_seat j.pass.number k.changes ≡ j.pass.mine) to → All (λ j. IsPrefix j.pass.seen k.changes) to → Each (λ c. (0 < c.seat) × (c.seat ≤ hall.count)) k.changes
@@ -182,29 +182,29 @@ of_map P f xs ys e all = λ k d h.
     let is : slice_get xs k ≡ Some (get_or xs k d) = slice_get-get_or xs k d h in
     at_place P ys k (f (get_or xs k d)) (ap (λ l. slice_get l k) e ∙ slice_get-map f xs k ∙ ap (option_map f) is) all
 
-pub fresh_jobs : {L : Type 0} (hall : LockView Kept) (jobs : List (Job L)) (ps : List (PassView Kept)) → map (λ j. j.pass) jobs ≡ ps → All (IsFresh hall) ps → All (λ j. IsFresh hall j.pass) jobs
-fresh_jobs {L} hall jobs ps e fresh = of_map (λ (p : PassView Kept). IsFresh hall p) (λ (j : Job L). j.pass) jobs ps (sym e) fresh
+pub fresh_jobs : {L : Type 0} (hall : LockView KeptServer) (jobs : List (Job L)) (ps : List (PassView KeptServer)) → map (λ j. j.pass) jobs ≡ ps → All (IsFresh hall) ps → All (λ j. IsFresh hall j.pass) jobs
+fresh_jobs {L} hall jobs ps e fresh = of_map (λ (p : PassView KeptServer). IsFresh hall p) (λ (j : Job L). j.pass) jobs ps (sym e) fresh
 
-pub own_passes : {L : Type 0} (hall : LockView Kept) (jobs : List (Job L)) (ps : List (PassView Kept)) → ps ≡ map (λ j. j.pass) jobs → All (λ j. IsPassOf hall j.pass) jobs → All (λ p. p.lock ≡ hall.id) ps
+pub own_passes : {L : Type 0} (hall : LockView KeptServer) (jobs : List (Job L)) (ps : List (PassView KeptServer)) → ps ≡ map (λ j. j.pass) jobs → All (λ j. IsPassOf hall j.pass) jobs → All (λ p. p.lock ≡ hall.id) ps
 own_passes {L} hall jobs ps e own =
-    subst (λ (l : List (PassView Kept)). All (λ (p : PassView Kept). p.lock ≡ hall.id) l) (sym e)
-    (All-map (λ (p : PassView Kept). p.lock ≡ hall.id) (λ (j : Job L). j.pass) jobs (λ k d h. (own k d h).0))
+    subst (λ (l : List (PassView KeptServer)). All (λ (p : PassView KeptServer). p.lock ≡ hall.id) l) (sym e)
+    (All-map (λ (p : PassView KeptServer). p.lock ≡ hall.id) (λ (j : Job L). j.pass) jobs (λ k d h. (own k d h).0))
 
 map_twice : {L : Type 0} (jobs : List (Job L)) → map (λ p. p.number) (map (λ j. j.pass) jobs) ≡ map (λ j. j.pass.number) jobs
 map_twice [] = refl
 map_twice (j ∷ js) = ap (λ (l : List ℕ). j.pass.number ∷ l) (map_twice js)
 
-pub numbers_of : {L : Type 0} (jobs : List (Job L)) (ps : List (PassView Kept)) (n m : ℕ) → map (λ j. j.pass) jobs ≡ ps → map (λ p. p.number) ps ≡ range_with_len 1 n → m ≡ n → map (λ j. j.pass.number) jobs ≡ range_with_len 1 m
-numbers_of jobs ps n m e is same = sym (map_twice jobs) ∙ ap (λ (l : List (PassView Kept)). map (λ p. p.number) l) e ∙ is ∙ ap (range_with_len 1) (sym same)
+pub numbers_of : {L : Type 0} (jobs : List (Job L)) (ps : List (PassView KeptServer)) (n m : ℕ) → map (λ j. j.pass) jobs ≡ ps → map (λ p. p.number) ps ≡ range_with_len 1 n → m ≡ n → map (λ j. j.pass.number) jobs ≡ range_with_len 1 m
+numbers_of jobs ps n m e is same = sym (map_twice jobs) ∙ ap (λ (l : List (PassView KeptServer)). map (λ p. p.number) l) e ∙ is ∙ ap (range_with_len 1) (sym same)
 
 pub as_many : {X : Type 0} (f : X → ℕ) (xs : List X) (n : ℕ) → map f xs ≡ range_with_len 1 n → length xs ≡ n
 as_many f xs n e = sym (length-map xs f) ∙ ap length e ∙ length-range_with_len 1 n
 
-pub passes_back : {L : Type 0} (from to : List (Job L)) (ps : List (PassView Kept)) (n : ℕ) → ps ≡ map (λ j. j.pass) to → length to ≡ length from → map (λ j. j.pass.number) from ≡ range_with_len 1 n → length ps ≡ n
+pub passes_back : {L : Type 0} (from to : List (Job L)) (ps : List (PassView KeptServer)) (n : ℕ) → ps ≡ map (λ j. j.pass) to → length to ≡ length from → map (λ j. j.pass.number) from ≡ range_with_len 1 n → length ps ≡ n
 passes_back {L} from to ps n e len numbers = ap length e ∙ length-map to (λ (j : Job L). j.pass) ∙ len ∙ as_many (λ (j : Job L). j.pass.number) from n numbers
 
 -- the jobs of a hall, before and after their workers, the passes and ends that were kept of them, and the server at the end
-pub ran : {L : Type 0} (told : L → Told) (hall : LockView Kept) (from to : List (Job L)) (ps : List (PassView Kept)) (es : List WorkEnd) (k : Kept) → k.opening ≡ hall.fixed.opening → k.server ≡ replay k.opening k.changes
+pub ran : {L : Type 0} (told : L → Told) (hall : LockView KeptServer) (from to : List (Job L)) (ps : List (PassView KeptServer)) (es : List WorkEnd) (k : KeptServer) → k.opening ≡ hall.fixed.opening → k.server ≡ replay k.opening k.changes
     → map (λ j. j.pass.number) from ≡ range_with_len 1 hall.count → All (λ j. IsFresh hall j.pass) from → length to ≡ length from
     → ((i : ℕ) (d : Job L) → i < length to → Worked hall.fixed told (get_or from i d) (get_or to i d))
     → ps ≡ map (λ j. j.pass) to → es ≡ map (λ j. j.end) to
@@ -213,6 +213,6 @@ pub ran : {L : Type 0} (told : L → Told) (hall : LockView Kept) (from to : Lis
 ran {L} told hall from to ps es k o inv numbers fresh len worked kept_passes kept_ends own seen seats =
     let l : Lines = lines (map (λ (j : Job L). told j.link) from) (map (λ (j : Job L). told j.link) to) in
     let base : IsRun hall.count k.opening l (map (λ (j : Job L). j.end) to) k = is_run told hall from to k (sym o) inv numbers fresh len worked
-    (of_map (λ (p : PassView Kept). of_seat p.number k.changes ≡ p.mine) (λ (j : Job L). j.pass) to ps kept_passes own)
-    (of_map (λ (p : PassView Kept). IsPrefix p.seen k.changes) (λ (j : Job L). j.pass) to ps kept_passes seen) seats in
+    (of_map (λ (p : PassView KeptServer). of_seat p.number k.changes ≡ p.mine) (λ (j : Job L). j.pass) to ps kept_passes own)
+    (of_map (λ (p : PassView KeptServer). IsPrefix p.seen k.changes) (λ (j : Job L). j.pass) to ps kept_passes seen) seats in
     subst (λ (x : List WorkEnd). IsRun hall.count hall.fixed.opening l x k) (sym kept_ends) (subst (λ (s : Server). IsRun hall.count s l (map (λ (j : Job L). j.end) to) k) o base)

@@ -31,10 +31,10 @@ pub struct Hall {
 impl Model for Hall {
     ghost use Rattle.std.specs.Coded.{codes};
     ghost use Rattle.vic_server.specs.Keeping.{dictionary_code};
-    ghost use Rattle.vic_server.specs.Replay.{Kept};
+    ghost use Rattle.vic_server.specs.Replay.{KeptServer};
     ghost use Rattle.vic_turn.specs.Passes.{LockView, lock_code};
 
-    ghost Value = { LockView Kept };
+    ghost Value = { LockView KeptServer };
 
     ghost coded = { lock_code (Prim.hlevel (codes, dictionary_code)) };
 

@@ -2,7 +2,7 @@
 
 ghost use Rattle.std.specs.Prelude.{◌≤◌, [], length};
 ghost use Rattle.vic_wire.specs.Messages.{HasSpelling, answer_text};
-ghost use Rattle.vic_server.specs.Replay.{kept};
+ghost use Rattle.vic_server.specs.Replay.{kept_with};
 ghost use Rattle.vic_hall.specs.Recording.{answer_after, recorded_after};
 
 use std::alloc::Global;
@@ -23,7 +23,7 @@ impl Recorded for Recorder {
     /// What the server was before all changes.
     type Fixed = Served;
 
-    ghost fixed = { λ r. kept r.served.opening [] r.served.opening };
+    ghost fixed = { λ r. kept_with r.served.opening [] r.served.opening };
 
     ghost changes = { λ r. r.served.changes };
 

@@ -28,10 +28,10 @@ use Rattle.vic_wire.specs.declared.message.Digest32.{Digest32}
 use Rattle.vic_rules.specs.Objects.{is_content_of}
 use Rattle.vic_rules.specs.declared.state.Own.{Own}
 use Rattle.vic_rules.specs.declared.state.Awaiting.TheVariants as awaits
-use Rattle.vic_rules.specs.Client.{Standing, grown, same_entry, is_awaited, has_form, is_open, is_other, is_reply_to, has_members, is_tagged, has_tags, entries_of, seal_of, goes_on, is_sealed, seal_text_on, keeps_own, shows, shows_open, shows_own, is_proved, is_next, has_turn, has_content, is_wanted, first_failing, verdict_on, is_done, is_write}
+use Rattle.vic_rules.specs.Client.{Standing, path_with_entries, same_entry, is_awaited, has_form, is_open, is_other, is_reply_to, has_members, is_tagged, has_tags, entries_of, seal_of, is_not_older, is_sealed, seal_text_on, keeps_own, has_root, has_open_op, has_own_op, is_proved, is_next, has_turn, has_content, is_wanted, first_failing, verdict_on, is_done, is_write}
 use Rattle.vic_laws.proofs.SameOp.{entry_same_itself}
 use Rattle.vic_laws.proofs.StepKinds.{onto_is}
-use Rattle.vic_order.specs.Order.{Ordered, tagged}
+use Rattle.vic_order.specs.Order.{Ordered, tagged_entry}
 use Rattle.vic_order.specs.Fates.{entries, fate, dictionary_by}
 use Rattle.vic_honest.proofs.Words.{told, newest-told, length-told, length-entries, entries-joined}
 use Rattle.vic_honest.proofs.Standing.{EntryFits}
@@ -122,7 +122,7 @@ all_push test (y ∷ xs) x h e = let p = parts (test y) (list_all test xs) h in 
 
 tags_hold : (g : Group) (log : List Ordered) → AllOn (IsOrdered g) log → list_all (is_tagged g.key) (told log) ≡ true
 tags_hold g [] h = refl
-tags_hold g (o ∷ below) h = all_push (is_tagged g.key) (told below) (tagged o) (tags_hold g below h.1) ((bytes_eq-Decides o.tag.bytes (tag_of g.key (invoke_text o.entry))).1 h.0.tag)
+tags_hold g (o ∷ below) h = all_push (is_tagged g.key) (told below) (tagged_entry o) (tags_hold g below h.1) ((bytes_eq-Decides o.tag.bytes (tag_of g.key (invoke_text o.entry))).1 h.0.tag)
 
 others_hold : (g : Group) (me : ℕ) (log : List Ordered) → AllOn (IsOrdered g) log → NoneOf me log → list_all (is_other g.count me) (entries log) ≡ true
 others_hold g me [] h none = refl
@@ -138,32 +138,32 @@ own_hold n (o ∷ own) h = and_from (nat_lt n o.position) (list_all (λ x. nat_l
 first_ok : (n : ℕ) (b : Bool) (cs : List (ℕ × Bool)) → b ≡ true → first_failing cs ≡ None → first_failing ((n, b) ∷ cs) ≡ None
 first_ok n b cs e h = ap (λ c. if c then first_failing cs else Some n) e ∙ h
 
-none_fails : (g : Group) (me : ℕ) (t : Standing) (m : ToClient) → has_form t m ≡ true → has_members g me t m ≡ true → has_tags g m ≡ true → goes_on t (seal_of m) ≡ true
-    → is_sealed g (grown t (entries_of m)) (seal_of m) ≡ true → keeps_own t (seal_of m) ≡ true → is_proved t m ≡ true → has_turn t m ≡ true → has_content me t m ≡ true → verdict_on g me t (Some m) ≡ None
+none_fails : (g : Group) (me : ℕ) (t : Standing) (m : ToClient) → has_form t m ≡ true → has_members g me t m ≡ true → has_tags g m ≡ true → is_not_older t (seal_of m) ≡ true
+    → is_sealed g (path_with_entries t (entries_of m)) (seal_of m) ≡ true → keeps_own t (seal_of m) ≡ true → is_proved t m ≡ true → has_turn t m ≡ true → has_content me t m ≡ true → verdict_on g me t (Some m) ≡ None
 none_fails g me t m e1 e2 e3 e4 e5 e6 e7 e8 e9 =
     let c9 : List (ℕ × Bool) = (9, has_content me t m) ∷ [] in
     let c8 : List (ℕ × Bool) = (8, has_turn t m) ∷ c9 in
     let c7 : List (ℕ × Bool) = (7, is_proved t m) ∷ c8 in
     let c6 : List (ℕ × Bool) = (6, keeps_own t (seal_of m)) ∷ c7 in
-    let c5 : List (ℕ × Bool) = (5, is_sealed g (grown t (entries_of m)) (seal_of m)) ∷ c6 in
-    let c4 : List (ℕ × Bool) = (4, goes_on t (seal_of m)) ∷ c5 in
+    let c5 : List (ℕ × Bool) = (5, is_sealed g (path_with_entries t (entries_of m)) (seal_of m)) ∷ c6 in
+    let c4 : List (ℕ × Bool) = (4, is_not_older t (seal_of m)) ∷ c5 in
     let c3 : List (ℕ × Bool) = (3, has_tags g m) ∷ c4 in
     let c2 : List (ℕ × Bool) = (2, has_members g me t m) ∷ c3 in
-    first_ok 1 (has_form t m) c2 e1 (first_ok 2 (has_members g me t m) c3 e2 (first_ok 3 (has_tags g m) c4 e3 (first_ok 4 (goes_on t (seal_of m)) c5 e4
-    (first_ok 5 (is_sealed g (grown t (entries_of m)) (seal_of m)) c6 e5 (first_ok 6 (keeps_own t (seal_of m)) c7 e6 (first_ok 7 (is_proved t m) c8 e7 (first_ok 8 (has_turn t m) c9 e8 (first_ok 9 (has_content me t m) [] e9 refl))))))))
+    first_ok 1 (has_form t m) c2 e1 (first_ok 2 (has_members g me t m) c3 e2 (first_ok 3 (has_tags g m) c4 e3 (first_ok 4 (is_not_older t (seal_of m)) c5 e4
+    (first_ok 5 (is_sealed g (path_with_entries t (entries_of m)) (seal_of m)) c6 e5 (first_ok 6 (keeps_own t (seal_of m)) c7 e6 (first_ok 7 (is_proved t m) c8 e7 (first_ok 8 (has_turn t m) c9 e8 (first_ok 9 (has_content me t m) [] e9 refl))))))))
 
 -- ---- the answers
 
 -- the path with the entries of an answer
-pub grown_told : (t : Standing) (between seen : List Ordered) → t.path ≡ entries seen → grown t (told between) ≡ entries (between ++ seen)
+pub grown_told : (t : Standing) (between seen : List Ordered) → t.path ≡ entries seen → path_with_entries t (told between) ≡ entries (between ++ seen)
 grown_told t between seen path =
     onto_is (told between) t.path ∙ ap (λ p. p ++ t.path) (newest-told between) ∙ ap (λ p. entries between ++ p) path ∙ sym (entries-joined between seen)
 
 shown : (g : Group) (base : List Ordered) (bytes : List ℕ) (part : Part) → IsSent (dictionary_by base) bytes part
-    → shows (read_part bytes) (seal_on g base).root.bytes ≡ true
+    → has_root (read_part bytes) (seal_on g base).root.bytes ≡ true
 unfolding root_on
 shown g base bytes part is =
-    ap (λ p. shows p (seal_on g base).root.bytes) is.read ∙ (bytes_eq-Decides (part_root part) (seal_on g base).root.bytes).1 (is.root ∙ sym (seal_on-root g base))
+    ap (λ p. has_root p (seal_on g base).root.bytes) is.read ∙ (bytes_eq-Decides (part_root part) (seal_on g base).root.bytes).1 (is.root ∙ sym (seal_on-root g base))
 
 read_some : (part : List ℕ) (d : Part) → read_part part ≡ Some d → is_some (read_part part) ≡ true
 read_some part d e = ap is_some e
@@ -203,8 +203,8 @@ module _ (g : Group) (made : List (List ℕ)) (me : ℕ) (t : Standing) (seen : 
       (le-leb t.sealed seal.position (omega arith))
       (ap (λ p. is_sealed g p (Some seal)) (grown_told t (o ∷ between) seen path ∙ ap (λ l. entries (o ∷ l)) cut) ∙ seal_holds g (o ∷ over) base)
       (own_hold seal.position t.own (subst (λ k. AllByRecursion (IsAbove k) t.own) (sym pos) own))
-      (and_from (shows (read_part part) seal.root.bytes) (shows_open (read_part part) t.awaiting) (shown g base part (cut_for (tree_of (dictionary_by base)) o.entry.op) is_sent)
-      (ap (λ p. shows_open p t.awaiting) is_part ∙ ap (shows_open (Some (cut_for (tree_of (dictionary_by base)) o.entry.op))) awaiting
+      (and_from (has_root (read_part part) seal.root.bytes) (has_open_op (read_part part) t.awaiting) (shown g base part (cut_for (tree_of (dictionary_by base)) o.entry.op) is_sent)
+      (ap (λ p. has_open_op p t.awaiting) is_part ∙ ap (has_open_op (Some (cut_for (tree_of (dictionary_by base)) o.entry.op))) awaiting
       ∙ ap (reaches (cut_for (tree_of (dictionary_by base)) o.entry.op)) (sym call_is) ∙ for_reaches (dictionary_by base) (proper_by made base fits) o.entry.op))
       refl
       content
@@ -229,8 +229,8 @@ module _ (g : Group) (made : List (List ℕ)) (me : ℕ) (t : Standing) (seen : 
       (le-leb t.sealed seal.position (omega arith))
       (ap (λ p. is_sealed g p (Some seal)) (path ∙ ap entries (split ∙ sym (append_assoc above (o ∷ []) below))) ∙ seal_holds g (above ++ o ∷ []) below)
       (own_hold seal.position t.own (subst (λ k. AllByRecursion (IsAbove k) t.own) (sym pos) own))
-      (and_from (shows (read_part part) seal.root.bytes) (shows_own (read_part part) t.own) (shown g below part is_sent.0 is_sent.1)
-      (ap (λ p. shows_own p t.own) is_part ∙ ap (shows_own (Some is_sent.0)) next ∙ ap (λ b. not (b && is_write o.entry.op) || reaches is_sent.0 o.entry.op) (sym status) ∙ is_sent.2))
+      (and_from (has_root (read_part part) seal.root.bytes) (has_own_op (read_part part) t.own) (shown g below part is_sent.0 is_sent.1)
+      (ap (λ p. has_own_op p t.own) is_part ∙ ap (has_own_op (Some is_sent.0)) next ∙ ap (λ b. not (b && is_write o.entry.op) || reaches is_sent.0 o.entry.op) (sym status) ∙ is_sent.2))
       (ap (is_next (seal.position + 1)) next ∙ eq-eqb (length (o ∷ below)) (seal.position + 1) (omega arith))
       refl
 

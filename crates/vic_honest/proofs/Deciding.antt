@@ -12,7 +12,7 @@ use Rattle.vic_wire.specs.Conflict.{conflicts}
 use Rattle.vic_commute.proofs.Commuting.{Alike, alike_itself, after_same, other_after, reply_alike}
 use Rattle.vic_wire.specs.Parts.{Part, walked}
 use Rattle.vic_rules.specs.declared.state.Own.{Own}
-use Rattle.vic_rules.specs.Client.{Standing, or_this, least_above, is_in_the_way, in_the_way, done_op, laid, decided, decision, is_done}
+use Rattle.vic_rules.specs.Client.{Standing, or_this, least_above, is_in_the_way, in_the_way, done_op, own_calls_over, decided_outcome, decision, is_done}
 use Rattle.vic_order.specs.Order.{Ordered}
 use Rattle.vic_order.specs.Fates.{entries, fate, dictionary_by}
 use Rattle.vic_honest.proofs.Words.{length-entries}
@@ -73,7 +73,7 @@ walk me o (x ∷ over) base free =
     other_step d alike apart true = other_after o x.entry.op d (dictionary_by (over ++ base)) apart alike
     other_step d alike apart false = alike
 
-same_decided : (w : Option ℕ) (d e : Dictionary) (o : Op) → (w ≡ None → reply d o ≡ reply e o) → decided w d o ≡ decided w e o
+same_decided : (w : Option ℕ) (d e : Dictionary) (o : Op) → (w ≡ None → reply d o ≡ reply e o) → decided_outcome w d o ≡ decided_outcome w e o
 same_decided None d e o same = ap outcome.Done (same refl)
 same_decided (Some u) d e o same = refl
 
@@ -92,9 +92,9 @@ pub decides : (me : ℕ) (t : Standing) (x : Ordered) (over base : List Ordered)
     → decision me t (entries (over ++ base)) (length base) part x.entry.op ≡ fate x (over ++ base)
 unfolding decision fate
 decides me t x over base part shows client at_base own =
-    same_decided (in_the_way me x.entry.op (length base) (entries (over ++ base))) (laid t.own (length base) (walked part x.entry.op)) (dictionary_by (over ++ base)) x.entry.op
-    (λ free. reply_alike x.entry.op (laid t.own (length base) (walked part x.entry.op)) (dictionary_by (over ++ base))
+    same_decided (in_the_way me x.entry.op (length base) (entries (over ++ base))) (own_calls_over t.own (length base) (walked part x.entry.op)) (dictionary_by (over ++ base)) x.entry.op
+    (λ free. reply_alike x.entry.op (own_calls_over t.own (length base) (walked part x.entry.op)) (dictionary_by (over ++ base))
     (λ k looks. fold_alike x.entry.op (filter (above (length base)) t.own) (walked part x.entry.op) (dictionary_by base) shows k looks
     ∙ subst (λ xs. Alike x.entry.op (fold done_op (dictionary_by base) xs) (dictionary_by (over ++ base))) (sym own) (walk me x.entry.op over base free) k looks))
-    ∙ ap (λ i. decided (in_the_way i x.entry.op (length base) (entries (over ++ base))) (dictionary_by (over ++ base)) x.entry.op) (sym client)
-    ∙ ap (λ n. decided (in_the_way x.entry.client x.entry.op n (entries (over ++ base))) (dictionary_by (over ++ base)) x.entry.op) (sym at_base)
+    ∙ ap (λ i. decided_outcome (in_the_way i x.entry.op (length base) (entries (over ++ base))) (dictionary_by (over ++ base)) x.entry.op) (sym client)
+    ∙ ap (λ n. decided_outcome (in_the_way x.entry.client x.entry.op n (entries (over ++ base))) (dictionary_by (over ++ base)) x.entry.op) (sym at_base)

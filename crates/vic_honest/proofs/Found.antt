@@ -16,13 +16,13 @@ use Rattle.vic_dict.specs.declared.op.Op.TheVariants as op
 use Rattle.vic_dict.specs.declared.op.Answer.TheVariants as answer
 use Rattle.vic_dict.specs.declared.op.Outcome.{Outcome}
 use Rattle.vic_dict.specs.declared.op.Outcome.TheVariants as outcome
-use Rattle.vic_dict.specs.Dictionary.{Dictionary, nothing, after, reply, found, gone}
+use Rattle.vic_dict.specs.Dictionary.{Dictionary, nothing, after, reply, answer_of_get, answer_of_del}
 use Rattle.vic_wire.specs.declared.message.Digest32.{Digest32}
 use Rattle.vic_rules.specs.declared.object.Phase.{Phase}
 use Rattle.vic_rules.specs.declared.object.Phase.TheVariants as phase
 use Rattle.vic_rules.specs.declared.object.Next.TheVariants as next
-use Rattle.vic_rules.specs.Objects.{Stepped, after_decision, is_reference, hash_in, length_in, reference_text}
-use Rattle.vic_rules.specs.Client.{is_done, decided, in_the_way, finds_reference}
+use Rattle.vic_rules.specs.Objects.{ObjectStep, after_decision, is_reference, hash_in, length_in, reference_text}
+use Rattle.vic_rules.specs.Client.{is_done, decided_outcome, in_the_way, finds_reference}
 use Rattle.vic_order.specs.Order.{Ordered}
 use Rattle.vic_order.specs.Fates.{entries, fate, dictionary_by}
 use Rattle.vic_honest.proofs.Deciding.{dictionary-next}
@@ -64,11 +64,11 @@ got_good contents (o ∷ below) all k v gets = by_done (is_done (fate o below)) 
     by_done true e rest = by_op contents (dictionary_by below) k v o.entry.op all.0 rest e
     by_done false e rest = rest e
 
-pub found_value : (x : Option (List ℕ)) (v : List ℕ) → found x ≡ answer.Found v → x ≡ Some v
+pub found_value : (x : Option (List ℕ)) (v : List ℕ) → answer_of_get x ≡ answer.Found v → x ≡ Some v
 found_value None v e = absurd cc
 found_value (Some w) v e = let same : w ≡ v = cc in ap Some same
 
-gone_not : (x : Option (List ℕ)) (v : List ℕ) → gone x ≡ answer.Found v → ⊥
+gone_not : (x : Option (List ℕ)) (v : List ℕ) → answer_of_del x ≡ answer.Found v → ⊥
 gone_not None v e = absurd cc
 gone_not (Some w) v e = absurd cc
 
@@ -78,7 +78,7 @@ replied_good contents log all (op.Get k) v e = got_good contents log all k v (fo
 replied_good contents log all (op.Del k) v e = absurd (gone_not (map.get (dictionary_by log) k) v e)
 replied_good contents log all (op.List p) v e = absurd cc
 
-decided_good : (contents : List (List ℕ)) (log : List Ordered) → AllByRecursion (λ o. Refers contents o.entry.op) log → (w : Option ℕ) (o : Op) (v : List ℕ) → decided w (dictionary_by log) o ≡ outcome.Done (answer.Found v) → IsGood contents v
+decided_good : (contents : List (List ℕ)) (log : List Ordered) → AllByRecursion (λ o. Refers contents o.entry.op) log → (w : Option ℕ) (o : Op) (v : List ℕ) → decided_outcome w (dictionary_by log) o ≡ outcome.Done (answer.Found v) → IsGood contents v
 decided_good contents log all None o v e = let same : reply (dictionary_by log) o ≡ answer.Found v = cc in replied_good contents log all o v same
 decided_good contents log all (Some u) o v e = absurd cc
 
@@ -130,7 +130,7 @@ after_fetching M contents phase.Calling (outcome.Done (answer.Found v)) old call
     m : M
     m = calling refl
 
-    by_test : (b : Bool) → (if◌then◌else◌ {A = Stepped} b (phase.Fetching (record { bytes = hash_in v }) (length_in v), next.Fetch (record { bytes = hash_in v }) (length_in v)) (phase.Closed, next.Bad)).0 ≡ phase.Fetching h len
+    by_test : (b : Bool) → (if◌then◌else◌ {A = ObjectStep} b (phase.Fetching (record { bytes = hash_in v }) (length_in v), next.Fetch (record { bytes = hash_in v }) (length_in v)) (phase.Closed, next.Bad)).0 ≡ phase.Fetching h len
         → M × IsKept contents h.bytes len
     by_test true k =
         let here : hash_in v ≡ h.bytes = ap hash_of k in

@@ -6,7 +6,7 @@ use Rattle.vic_dict.specs.declared.op.Op.{Op}
 use Rattle.vic_dict.specs.declared.op.Outcome.TheVariants as outcome
 use Rattle.vic_dict.specs.Dictionary.{Dictionary}
 use Rattle.vic_wire.specs.Conflict.{conflicts}
-use Rattle.vic_rules.specs.Client.{is_in_the_way, in_the_way, decided}
+use Rattle.vic_rules.specs.Client.{is_in_the_way, in_the_way, decided_outcome}
 use Rattle.vic_laws.specs.OrderClaims.{PassesAt}
 use Rattle.vic_laws.proofs.SameOp.{least_above_tells}
 use Rattle.vic_order.specs.Order.{Ordered}
@@ -40,7 +40,7 @@ passes o below u h = record {
 }
 
 -- a decision that aborts names what the search found
-found_by : (w : Option ℕ) (d : Dictionary) (o : Op) (u : ℕ) → decided w d o ≡ outcome.Aborted u → w ≡ Some u
+found_by : (w : Option ℕ) (d : Dictionary) (o : Op) (u : ℕ) → decided_outcome w d o ≡ outcome.Aborted u → w ≡ Some u
 found_by None d o u e = absurd cc
 found_by (Some v) d o u e = let same : v ≡ u = cc in ap Some same
 
@@ -51,6 +51,6 @@ aborts_are_conflicts o below u =
       λ e.
           let least = found.0 (found_by (in_the_way o.entry.client o.entry.op o.sealed_then (entries below)) (dictionary_by below) o.entry.op u e) in
           (stands o below u least.above least.passes, λ v less h. least.least v h.unsealed less (passes o below v h)),
-      λ h. ap (λ w. decided w (dictionary_by below) o.entry.op)
+      λ h. ap (λ w. decided_outcome w (dictionary_by below) o.entry.op)
           (found.1 (record { above = h.0.unsealed; passes = passes o below u h.0; least = λ v above less p. h.1 v less (stands o below v above p) })),
     )

@@ -28,13 +28,13 @@ use Rattle.vic_rules.specs.declared.state.Awaiting.TheVariants as awaits
 use Rattle.vic_rules.specs.declared.trace.Input.{Input}
 use Rattle.vic_rules.specs.declared.trace.Input.TheVariants as input
 use Rattle.vic_rules.specs.declared.trace.TraceStep.{TraceStep}
-use Rattle.vic_rules.specs.Client.{Standing, Sending, Invokes, Commits, Polls, Seals, Syncs, Fetches, calls_op, Move, step, IsIdle, request_of, awaits_nothing}
+use Rattle.vic_rules.specs.Client.{Standing, Sending, Invokes, Commits, Polls, Seals, Syncs, Fetches, move_to_call, Move, step, IsIdle, request_of, awaits_nothing}
 use Rattle.vic_rules.specs.History.{standing, Completion, completion, completions, path}
 use Rattle.vic_rules.specs.Trust.{texts_made}
-use Rattle.vic_order.specs.Order.{Ordered, Server, Answered, fresh_server, ready, or_away, member, serve, serve_read}
+use Rattle.vic_order.specs.Order.{Ordered, Server, Answered, fresh_server, ready_member, or_away, member, serve, serve_read}
 use Rattle.vic_order.specs.Fates.{entries}
 use Rattle.vic_order.specs.Serving.{by_rule}
-use Rattle.vic_order.specs.Scenes.{Queue, Scene, opening, queue_of, set_queue, queued, server_at, server_of, steps, served_with, served, serves, taken, takes, unchanged, Event, Asks, Serves, Takes, Flips, Hears, Resends, Copies, Joins, happens, MayAsk}
+use Rattle.vic_order.specs.Scenes.{Queue, Scene, opening, queue_of, set_queue, queue_with, server_at, server_of, after_step, after_serving_with, after_serving_from, after_serving, after_taking_from, after_taking, payload_as_is, Event, Asks, Serves, Takes, Flips, Hears, Resends, Copies, Joins, after_event, MayAsk}
 use Rattle.vic_order.specs.Honest.{MayHonestly, scene_after, AreHonest}
 use Rattle.vic_spellings.proofs.SpelledAnswers.{answer_again}
 use Rattle.vic_spellings.proofs.SpelledRequests.{request_again}
@@ -97,23 +97,23 @@ module _ (s : Scene) (server : Server) (one : HasOne s server) (know : WorldKnow
   v = move s.group (world_of s server) me i
 
   abbrev up : List Queue
-  up = set_queue s.up me (queued (queue_of s.up me) x.sent)
+  up = set_queue s.up me (queue_with (queue_of s.up me) x.sent)
 
   mine : Stands s.group me server v.next v.sends → queue_of s.up me ≡ [] → queue_of down me ≡ [] → ClientKnows s.group me server (standing s.group me (x ∷ s.history)) (queue_of up me) (queue_of down me)
   mine moved up_is down_is =
-      let queue : queue_of up me ≡ queued [] x.sent =
-      queue-set_same s.up me (queued (queue_of s.up me) x.sent) above (omega (arith, upto, one.up_count)) ∙ ap (λ q. queued q x.sent) up_is in
+      let queue : queue_of up me ≡ queue_with [] x.sent =
+      queue-set_same s.up me (queue_with (queue_of s.up me) x.sent) above (omega (arith, upto, one.up_count)) ∙ ap (λ q. queue_with q x.sent) up_is in
       subst (λ t. ClientKnows s.group me server t (queue_of up me) (queue_of down me)) (sym (standing_moved s.group me x s.history refl))
-      (subst (λ u. ClientKnows s.group me server v.next u (queue_of down me)) (sym queue) (subst (λ d. ClientKnows s.group me server v.next (queued [] x.sent) d) (sym down_is) moved))
+      (subst (λ u. ClientKnows s.group me server v.next u (queue_of down me)) (sym queue) (subst (λ d. ClientKnows s.group me server v.next (queue_with [] x.sent) d) (sym down_is) moved))
 
   others : (j : ℕ) → (j ≡ me → ⊥) → 0 < j → j ≤ s.group.count → ClientKnows s.group j server (standing s.group j (x ∷ s.history)) (queue_of up j) (queue_of down j)
   others j apart low high =
       subst (λ t. ClientKnows s.group j server t (queue_of up j) (queue_of down j)) (sym (standing_kept s.group j x s.history (λ e. apart (sym e))))
-      (subst (λ u. ClientKnows s.group j server (standing s.group j s.history) u (queue_of down j)) (sym (queue-set_other s.up me j (queued (queue_of s.up me) x.sent) above low apart))
+      (subst (λ u. ClientKnows s.group j server (standing s.group j s.history) u (queue_of down j)) (sym (queue-set_other s.up me j (queue_with (queue_of s.up me) x.sent) above low apart))
       (subst (λ d. ClientKnows s.group j server (standing s.group j s.history) (queue_of s.up j) d) (sym (same j apart low)) (know.clients j low high)))
 
-  step_knows : Learns s.group me server v → queue_of s.up me ≡ [] → queue_of down me ≡ [] → SceneKnows (steps (record s { down = down }) me i) server
-  unfolding steps
+  step_knows : Learns s.group me server v → queue_of s.up me ≡ [] → queue_of down me ≡ [] → SceneKnows (after_step (record s { down = down }) me i) server
+  unfolding after_step
   step_knows learns up_is down_is = record {
     server = know.server;
     clients = λ j low high. elim (cases_eq j me) [
@@ -174,9 +174,9 @@ module _ (s : Scene) (server : Server) (fit : SceneFits s server) (know : SceneK
 
   -- a client that calls an operation stands well
   op_known : (p : Phase) (o : Op) (load : Bool) → ((h : Digest32) (len : ℕ) → p ≡ phase.Fetching h len → ⊥) → (p ≡ phase.Calling → server.mode ≡ mode.Objects) → (load ≡ true → server.mode ≡ mode.Objects)
-      → (server.mode ≡ mode.Objects → Refers server.contents o) → Fits o → AreBytesIn o → IsIdle here → Learns s.group me server (calls_op here p o load)
+      → (server.mode ≡ mode.Objects → Refers server.contents o) → Fits o → AreBytesIn o → IsIdle here → Learns s.group me server (move_to_call here p o load)
   op_known p o load not_fetching calling loads refers fits bytes idle = record {
-    client = stands_sending s.group me server (calls_op here p o load).next (Invokes (here.calls + 1) o) client.seen client.newer
+    client = stands_sending s.group me server (move_to_call here p o load).next (Invokes (here.calls + 1) o) client.seen client.newer
         (keeps_asking (awaits.Reply (here.calls + 1) o load) p (here.calls + 1) (omega arith) (λ h len e. absurd (not_fetching h len e)))
         (record {
           load = load;
@@ -193,10 +193,10 @@ module _ (s : Scene) (server : Server) (fit : SceneFits s server) (know : SceneK
     ends = tt;
   }
 
-  asked : (i : Input) → IsIdle here → Learns s.group me server (move s.group (world_of s server) me i) → SceneKnows (steps s me i) server
+  asked : (i : Input) → IsIdle here → Learns s.group me server (move s.group (world_of s server) me i) → SceneKnows (after_step s me i) server
   asked i idle learns = let none = nothing_under_way idle in step_knows s server fit.one know me above upto i s.down (λ j apart low. refl) learns none.0 none.1
 
-  asks_know : (i : Input) → MayAsk s me i → SceneKnows (steps s me i) server
+  asks_know : (i : Input) → MayAsk s me i → SceneKnows (after_step s me i) server
   unfolding step
   asks_know (input.Call o) may =
       let ask = may in
@@ -269,7 +269,7 @@ unfolding serve
 served_as {g} s k me above upto t seen newer keeps sending payload does one read =
     subst (λ r. Answers g me s t seen newer (serve_read s me r)) (sym read) (request_answers g s k me above upto t seen newer keeps sending does one)
 
-fresh_member : (n i : ℕ) → i < n → slice_get (replicate n ready) i ≡ Some ready
+fresh_member : (n i : ℕ) → i < n → slice_get (replicate n ready_member) i ≡ Some ready_member
 fresh_member zero i h = absurd (omega arith)
 fresh_member (suc n) zero h = refl
 fresh_member (suc n) (suc i) h = fresh_member n i (omega arith)
@@ -307,7 +307,7 @@ module _ (s : Scene) (server : Server) (fit : SceneFits s server) (know : SceneK
 
   sent_known : OneContent s server → (seen newer : List Ordered) → Keeps me server (standing s.group me s.history) seen newer → (sending : Sending) → (payload : List ℕ)
       → request_text (request_of s.group me (standing s.group me s.history) sending) ≡ payload → queue_of s.up me ≡ payload ∷ [] → queue_of s.down me ≡ []
-      → Does s.group me server (standing s.group me s.history) seen newer (Sends sending) → SceneKnows (served_with s me [] (by_rule server me me payload)) (serve server me payload).next
+      → Does s.group me server (standing s.group me s.history) seen newer (Sends sending) → SceneKnows (after_serving_with s me [] (by_rule server me me payload)) (serve server me payload).next
   sent_known only seen newer keeps sending payload payload_is up_is down_is does =
       let g : Group = s.group in
       let t : Standing = standing g me s.history in
@@ -350,23 +350,23 @@ module _ (s : Scene) (server : Server) (fit : SceneFits s server) (know : SceneK
 
   serves_by : OneContent s server → (queue_of s.up me ≡ [] → ⊥) → (seen newer : List Ordered) → Keeps me server (standing s.group me s.history) seen newer → (doing : Doing)
       → queue_of s.up me ≡ up_by s.group me (standing s.group me s.history) doing → queue_of s.down me ≡ down_by doing
-      → Does s.group me server (standing s.group me s.history) seen newer doing → SceneKnows (serves by_rule s me) (served_next server me (queue_of s.up me))
-  unfolding serves
+      → Does s.group me server (standing s.group me s.history) seen newer doing → SceneKnows (after_serving by_rule s me) (served_next server me (queue_of s.up me))
+  unfolding after_serving
   serves_by only waits seen newer keeps Rests up_is down_is does = absurd (waits up_is)
   serves_by only waits seen newer keeps (Sends sending) up_is down_is does =
       let payload : List ℕ = request_text (request_of s.group me (standing s.group me s.history) sending) in
-      subst (λ q. SceneKnows (served by_rule s me q (server_at s.servers (server_of s.served_by me))) (served_next server me q)) (sym up_is)
-      (subst (λ o. SceneKnows (served by_rule s me (payload ∷ []) o) (serve server me payload).next) (sym (server_is s server fit.one me above upto))
+      subst (λ q. SceneKnows (after_serving_from by_rule s me q (server_at s.servers (server_of s.served_by me))) (served_next server me q)) (sym up_is)
+      (subst (λ o. SceneKnows (after_serving_from by_rule s me (payload ∷ []) o) (serve server me payload).next) (sym (server_is s server fit.one me above upto))
       (sent_known only seen newer keeps sending payload refl up_is down_is does))
   serves_by only waits seen newer keeps (Gets m) up_is down_is does = absurd (waits up_is)
 
-  serves_know : OneContent s server → (queue_of s.up me ≡ [] → ⊥) → SceneKnows (serves by_rule s me) (served_next server me (queue_of s.up me))
+  serves_know : OneContent s server → (queue_of s.up me ≡ [] → ⊥) → SceneKnows (after_serving by_rule s me) (served_next server me (queue_of s.up me))
   serves_know only waits = let c = know.clients me above upto in serves_by only waits c.seen c.newer c.keeps c.doing c.up_is c.down_is c.does
 
   -- ---- taking
 
   got_known : (seen newer : List Ordered) → Keeps me server (standing s.group me s.history) seen newer → (m : ToClient) → HasSpelling m
-      → queue_of s.up me ≡ [] → Does s.group me server (standing s.group me s.history) seen newer (Gets m) → SceneKnows (taken unchanged s me (answer_text m ∷ [])) server
+      → queue_of s.up me ≡ [] → Does s.group me server (standing s.group me s.history) seen newer (Gets m) → SceneKnows (after_taking_from payload_as_is s me (answer_text m ∷ [])) server
   got_known seen newer keeps m spelled up_is does =
       step_knows s server fit.one know me above upto (input.Payload (answer_text m)) (set_queue s.down me []) (λ j apart low. queue-set_other s.down me j [] above low apart)
       (answer_learnt s.group (texts_made s.group s.history) server know.server fit.fits.server.log fit.fits.server.room me (standing s.group me s.history) seen newer keeps (answer_text m) (fit.fits.clients me above upto).fits.phase m (answer_again m spelled) does)
@@ -374,23 +374,23 @@ module _ (s : Scene) (server : Server) (fit : SceneFits s server) (know : SceneK
 
   takes_by : (queue_of s.down me ≡ [] → ⊥) → (seen newer : List Ordered) → Keeps me server (standing s.group me s.history) seen newer → (doing : Doing)
       → queue_of s.up me ≡ up_by s.group me (standing s.group me s.history) doing → queue_of s.down me ≡ down_by doing
-      → IsSpelled doing → Does s.group me server (standing s.group me s.history) seen newer doing → SceneKnows (takes unchanged s me) server
-  unfolding takes
+      → IsSpelled doing → Does s.group me server (standing s.group me s.history) seen newer doing → SceneKnows (after_taking payload_as_is s me) server
+  unfolding after_taking
   takes_by waits seen newer keeps Rests up_is down_is spelled does = absurd (waits down_is)
   takes_by waits seen newer keeps (Sends sending) up_is down_is spelled does = absurd (waits down_is)
-  takes_by waits seen newer keeps (Gets m) up_is down_is spelled does = subst (λ q. SceneKnows (taken unchanged s me q) server) (sym down_is) (got_known seen newer keeps m spelled up_is does)
+  takes_by waits seen newer keeps (Gets m) up_is down_is spelled does = subst (λ q. SceneKnows (after_taking_from payload_as_is s me q) server) (sym down_is) (got_known seen newer keeps m spelled up_is does)
 
-  takes_know : (queue_of s.down me ≡ [] → ⊥) → SceneKnows (takes unchanged s me) server
+  takes_know : (queue_of s.down me ≡ [] → ⊥) → SceneKnows (after_taking payload_as_is s me) server
   takes_know waits = let c = know.clients me above upto in takes_by waits c.seen c.newer c.keeps c.doing c.up_is c.down_is c.spelled c.does
 
-opening_knows : (g : Group) → SceneKnows (opening g) (fresh_server g.mode g.count ready)
+opening_knows : (g : Group) → SceneKnows (opening g) (fresh_server g.mode g.count ready_member)
 unfolding standing completions
 opening_knows g = record {
   server = record {
     over = [];
     base = [];
     is = refl;
-    members = length-replicate g.count ready;
+    members = length-replicate g.count ready_member;
     ordered = tt;
     near = omega arith;
     seals = refl;
@@ -402,7 +402,7 @@ opening_knows g = record {
     referred = λ objects. tt;
   };
   clients = λ j low high.
-      let member_is : member (fresh_server g.mode g.count ready) j ≡ ready = ap or_away (fresh_member g.count (j - 1) (omega arith)) in
+      let member_is : member (fresh_server g.mode g.count ready_member) j ≡ ready_member = ap or_away (fresh_member g.count (j - 1) (omega arith)) in
       record {
         seen = [];
         newer = [];
@@ -431,7 +431,7 @@ opening_knows g = record {
   ends = tt;
 }
 
-happens_known : (s : Scene) (server : Server) → SceneFits s server → OneContent s server → SceneKnows s server → (m : Event) → MayHonestly s m → SceneKnows (happens by_rule s m) (server_next s server m)
+happens_known : (s : Scene) (server : Server) → SceneFits s server → OneContent s server → SceneKnows s server → (m : Event) → MayHonestly s m → SceneKnows (after_event by_rule s m) (server_next s server m)
 happens_known s server fit only know (Asks me i) may = asks_know s server fit know me may.1.0 may.1.1 i may.1.2
 happens_known s server fit only know (Serves me) may = serves_know s server fit know me may.1.0 may.1.1 only may.1.2
 happens_known s server fit only know (Takes me) may = takes_know s server fit know me may.1.0 may.1.1 may.1.2

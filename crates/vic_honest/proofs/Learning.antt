@@ -22,7 +22,7 @@ use Rattle.vic_rules.specs.declared.object.Phase.TheVariants as phase
 use Rattle.vic_rules.specs.declared.object.Next.TheVariants as next
 use Rattle.vic_rules.specs.declared.object.ObjectOutcome.{ObjectOutcome}
 use Rattle.vic_rules.specs.declared.object.ObjectOutcome.TheVariants as ended
-use Rattle.vic_rules.specs.Objects.{Stepped, answered, over_with, ended_by, is_reference, hash_in, length_in, kept_at, after_decision, reference_text}
+use Rattle.vic_rules.specs.Objects.{ObjectStep, step_on_answer, final_outcome, outcome_after_decision, is_reference, hash_in, length_in, step_on_kept, after_decision, reference_text}
 use Rattle.vic_honest.proofs.Referred.{IsKept, Refers}
 use Rattle.vic_honest.proofs.Found.{IsGood, fate_good, finds_ok, after_fetching, reference_long, reference_good}
 use Rattle.vic_wire.specs.declared.message.Seal.{Seal}
@@ -44,12 +44,12 @@ use Rattle.vic_rules.specs.declared.state.Own.{Own}
 use Rattle.vic_rules.specs.declared.state.Awaiting.{Awaiting}
 use Rattle.vic_rules.specs.declared.state.Awaiting.TheVariants as awaits
 use Rattle.vic_rules.specs.declared.trace.Input.TheVariants as input
-use Rattle.vic_rules.specs.Client.{Standing, Sending, Invokes, Commits, Seals, Fetches, Move, calls_op, waited, goes_to, refused_at, finds_reference, loads_reference, has_content, step, payload_of, grown, decision, decided, replied, replied_to, updated, sealed_to, listed_to, new_root, is_write, is_done, taken, taken_or_halts, on_payload, verdict, verdict_on}
+use Rattle.vic_rules.specs.Client.{Standing, Sending, Invokes, Commits, Seals, Fetches, Move, move_to_call, move_on_wait, move_by_object_step, move_on_refusal, finds_reference, loads_reference, has_content, step, payload_of, path_with_entries, decision, decided_outcome, move_on_reply, move_on_outcome, move_on_update, move_to_seal, move_on_entries, new_root, is_write, is_done, move_on_answer, move_on_verdict, move_on_payload, verdict, verdict_on}
 use Rattle.vic_rules.specs.History.{Completion, completion}
 use Rattle.vic_laws.proofs.Words.{all_weaker, all_append}
 use Rattle.vic_order.specs.Order.{Ordered, Server, size, sealed_count}
 use Rattle.vic_order.specs.Fates.{entries, fate, dictionary_by}
-use Rattle.vic_order.specs.Scenes.{queued}
+use Rattle.vic_order.specs.Scenes.{queue_with}
 use Rattle.vic_honest.proofs.Words.{length-entries, told, all-second}
 use Rattle.vic_honest.proofs.Standing.{EntryFits, PhaseHolds, Rests, Sends, Gets}
 use Rattle.vic_honest.proofs.Owns.{AllOn, AllOn-second, NoneOf, NoneOf-first, NoneOf-second, root_on, seal_on, seal_on-position, owns, own_of, owns-mine, owns-others, owns-filter, owns-higher, owns-next, owns-above, above, IsAbove}
@@ -102,7 +102,7 @@ ends_later kind contents more grows (Some (ended.Refused r)) h = h
 
 -- where the client stands once it has moved there and sent that
 abbrev pub Stands : Group → ℕ → Server → Standing → Option Sending → Type 0
-Stands g me s t sends = ClientKnows g me s t (queued [] (payload_of g me t sends)) []
+Stands g me s t sends = ClientKnows g me s t (queue_with [] (payload_of g me t sends)) []
 
 pub record Learns (g : Group) (me : ℕ) (s : Server) (v : Move) : Type 0 where
   pub client : Stands g me s v.next v.sends
@@ -123,7 +123,7 @@ completed_is P me p (outcome.Aborted u) h = (h, tt)
 completed_is P me p (outcome.Refused r) h = tt
 completed_is P me p (outcome.Halted n) h = tt
 
-decided_fine : (w : Option ℕ) (d : Dictionary) (o : Op) → IsFine (Some (decided w d o))
+decided_fine : (w : Option ℕ) (d : Dictionary) (o : Op) → IsFine (Some (decided_outcome w d o))
 decided_fine None d o = tt
 decided_fine (Some u) d o = tt
 
@@ -131,11 +131,11 @@ fate_fine : (o : Ordered) (below : List Ordered) → IsFine (Some (fate o below)
 unfolding fate
 fate_fine o below = decided_fine _ _ _
 
-answered_ends : (kind : Mode) (contents : List (List ℕ)) (a : Answer) → EndsFine kind contents (over_with (answered a).1)
+answered_ends : (kind : Mode) (contents : List (List ℕ)) (a : Answer) → EndsFine kind contents (final_outcome (step_on_answer a).1)
 answered_ends kind contents answer.Stored = tt
 answered_ends kind contents (answer.Found v) = by_test (is_reference v)
   where
-    by_test : (b : Bool) → EndsFine kind contents (over_with (if◌then◌else◌ {A = Stepped} b (phase.Fetching (record { bytes = hash_in v }) (length_in v), next.Fetch (record { bytes = hash_in v }) (length_in v)) (phase.Closed, next.Bad)).1)
+    by_test : (b : Bool) → EndsFine kind contents (final_outcome (if◌then◌else◌ {A = ObjectStep} b (phase.Fetching (record { bytes = hash_in v }) (length_in v), next.Fetch (record { bytes = hash_in v }) (length_in v)) (phase.Closed, next.Bad)).1)
     by_test true = tt
     by_test false = tt
 answered_ends kind contents answer.NotFound = tt
@@ -144,7 +144,7 @@ answered_ends kind contents answer.Absent = tt
 answered_ends kind contents (answer.Names names) = tt
 
 -- a call on objects ends so with a decided call of its own
-outcome_ends : (kind : Mode) (contents : List (List ℕ)) (p : Phase) (x : Outcome) → IsFine (Some x) → EndsFine kind contents (ended_by p x)
+outcome_ends : (kind : Mode) (contents : List (List ℕ)) (p : Phase) (x : Outcome) → IsFine (Some x) → EndsFine kind contents (outcome_after_decision p x)
 outcome_ends kind contents phase.Closed x h = tt
 outcome_ends kind contents (phase.Keeping k d len) x h = tt
 outcome_ends kind contents (phase.Fetching d len) x h = tt
@@ -156,19 +156,19 @@ outcome_ends kind contents phase.Calling (outcome.Halted k) h = tt
 -- ---- moves as equations
 
 step_takes : (g : Group) (me : ℕ) (t : Standing) (payload : List ℕ) (m : ToClient) → t.halted ≡ None → read_answer payload ≡ Some m → verdict_on g me t (Some m) ≡ None
-    → step g me t (input.Payload payload) ≡ taken me t m
+    → step g me t (input.Payload payload) ≡ move_on_answer me t m
 unfolding step verdict
 step_takes g me t payload m going read passes =
-    ap (λ h. on_payload g me t h payload) going ∙ ap (λ r. taken_or_halts me t r (verdict_on g me t r)) read ∙ ap (taken_or_halts me t (Some m)) passes
+    ap (λ h. move_on_payload g me t h payload) going ∙ ap (λ r. move_on_verdict me t r (verdict_on g me t r)) read ∙ ap (move_on_verdict me t (Some m)) passes
 
 abbrev reply_move : Standing → Entry → List Entry → ℕ → ℕ → List ℕ → Op → Outcome → Move
-reply_move t e below long position root o ends = replied_to t (e ∷ below) position root (t.own ++ record { position = long; op = o; done = is_done ends } ∷ []) ends
+reply_move t e below long position root o ends = move_on_outcome t (e ∷ below) position root (t.own ++ record { position = long; op = o; done = is_done ends } ∷ []) ends
 
 reply_moves : (me : ℕ) (t : Standing) (seal : Seal) (p below : List Entry) (e : Entry) (found : Option Part) (part : Part) (a : Awaiting) (n : ℕ) (o : Op) (load : Bool) (long : ℕ) (position : ℕ) (root : List ℕ) (p_op : Op) (ends : Outcome)
     → p ≡ e ∷ below → found ≡ Some part → a ≡ awaits.Reply n o load → length (e ∷ below) ≡ long → seal.position ≡ position → seal.root.bytes ≡ root → o ≡ p_op → decision me t below position part p_op ≡ ends
-    → replied me t seal p found a ≡ reply_move t e below long position root p_op ends
+    → move_on_reply me t seal p found a ≡ reply_move t e below long position root p_op ends
 reply_moves me t seal p below e found part a n o load long position root p_op ends e1 e2 e3 e4 e5 e6 e7 e8 =
-    ap (λ x. replied me t seal x found a) e1 ∙ ap (λ f. replied me t seal (e ∷ below) f a) e2 ∙ ap (replied me t seal (e ∷ below) (Some part)) e3
+    ap (λ x. move_on_reply me t seal x found a) e1 ∙ ap (λ f. move_on_reply me t seal (e ∷ below) f a) e2 ∙ ap (move_on_reply me t seal (e ∷ below) (Some part)) e3
     ∙ ap (λ k. reply_move t e below k seal.position seal.root.bytes o (decision me t below seal.position part o)) e4
     ∙ ap (λ k. reply_move t e below long k seal.root.bytes o (decision me t below k part o)) e5
     ∙ ap (λ r. reply_move t e below long position r o (decision me t below position part o)) e6
@@ -176,9 +176,9 @@ reply_moves me t seal p below e found part a n o load long position root p_op en
     ∙ ap (reply_move t e below long position root p_op) e8
 
 update_moves : (t : Standing) (seal : Seal) (found : Option Part) (part : Part) (first : Own) (rest : List Own) (position : ℕ) (root : List ℕ)
-    → found ≡ Some part → t.own ≡ first ∷ rest → seal.position + 1 ≡ position → new_root first part seal.root.bytes ≡ root → updated t seal found t.own ≡ sealed_to t position root rest
+    → found ≡ Some part → t.own ≡ first ∷ rest → seal.position + 1 ≡ position → new_root first part seal.root.bytes ≡ root → move_on_update t seal found t.own ≡ move_to_seal t position root rest
 update_moves t seal found part first rest position root e1 e2 e3 e4 =
-    ap (λ f. updated t seal f t.own) e1 ∙ ap (updated t seal (Some part)) e2 ∙ ap (λ k. sealed_to t k (new_root first part seal.root.bytes) rest) e3 ∙ ap (λ r. sealed_to t position r rest) e4
+    ap (λ f. move_on_update t seal f t.own) e1 ∙ ap (move_on_update t seal (Some part)) e2 ∙ ap (λ k. move_to_seal t k (new_root first part seal.root.bytes) rest) e3 ∙ ap (λ r. move_to_seal t position r rest) e4
 
 root_chosen : (done : Bool) (o : Op) (d : Dictionary) (part : Part) → IsProper d → AreBytesIn o → IsCut part (tree_of d) → (not (done && is_write o) || reaches part o) ≡ true → (if done && is_write o then root_after part o else dictionary_root d) ≡ dictionary_root (if done then after d o else d)
 root_chosen true (op.Put k v) d part proper bytes cut shown = root-after d (byte_entries d (byte_keys-proper d proper)) part cut (op.Put k v) (byte_words (op.Put k v) bytes) shown
@@ -263,7 +263,7 @@ module _ (g : Group) (made : List (List ℕ)) (s : Server) (k : ServerKnows g s)
   rests_so p fetching calm = stands_resting g me s (record t { awaiting = awaits.Nothing; phase = p }) seen newer (keeps_waiting awaits.Nothing p t.calls (omega arith) fetching) (refl, record { ready = calm.ready; sealed = calm.sealed; others = calm.others })
 
   -- after Wait: a load fetches the content that it found
-  wait_by : (p : Phase) → t.phase ≡ p → PhaseHolds t.calls p → Calm me s t newer → Learns g me s (waited t p)
+  wait_by : (p : Phase) → t.phase ≡ p → PhaseHolds t.calls p → Calm me s t newer → Learns g me s (move_on_wait t p)
   wait_by phase.Closed e holds calm = record { client = rests_so t.phase keeps.fetching calm; fates = tt; fine = tt; ends = tt }
   wait_by (phase.Keeping k h len) e holds calm = record { client = rests_so t.phase keeps.fetching calm; fates = tt; fine = tt; ends = tt }
   wait_by phase.Calling e holds calm = record { client = rests_so t.phase keeps.fetching calm; fates = tt; fine = tt; ends = tt }
@@ -293,8 +293,8 @@ module _ (g : Group) (made : List (List ℕ)) (s : Server) (k : ServerKnows g s)
   refused_fetching r phase.Calling old h len e = absurd cc
   refused_fetching r (phase.Fetching d n) old h len e = old h len e
 
-  refused_by : (r : ℕ) (a : Awaiting) (n : ℕ) (o : Op) (load : Bool) → a ≡ awaits.Reply n o load → (0 < r) × (r ≤ 4) → Calm me s t newer → Learns g me s (refused_at t r a)
-  refused_by r a n o load e limit calm = subst (λ x. Learns g me s (refused_at t r x)) (sym e) (record {
+  refused_by : (r : ℕ) (a : Awaiting) (n : ℕ) (o : Op) (load : Bool) → a ≡ awaits.Reply n o load → (0 < r) × (r ≤ 4) → Calm me s t newer → Learns g me s (move_on_refusal t r a)
+  refused_by r a n o load e limit calm = subst (λ x. Learns g me s (move_on_refusal t r x)) (sym e) (record {
     client = rests_so (after_decision t.phase (outcome.Refused r)) (refused_fetching r t.phase keeps.fetching) calm;
     fates = tt;
     fine = limit;
@@ -313,7 +313,7 @@ module _ (g : Group) (made : List (List ℕ)) (s : Server) (k : ServerKnows g s)
 
     pub keep_refusal_learnt : (r : ℕ) → read_answer payload ≡ Some (say.Refused r) → KeepRefused me s t newer r → Learns g me s (step g me t (input.Payload payload))
     keep_refusal_learnt r read c =
-        subst (Learns g me s) (sym (step_takes g me t payload (say.Refused r) keeps.going read (keep_refusal_passes g me t r c.awaiting) ∙ ap (refused_at t r) c.awaiting))
+        subst (Learns g me s) (sym (step_takes g me t payload (say.Refused r) keeps.going read (keep_refusal_passes g me t r c.awaiting) ∙ ap (move_on_refusal t r) c.awaiting))
         (record { client = rests_so phase.Closed (λ h len e. absurd cc) c.calm; fates = tt; fine = tt; ends = inr c.full })
 
     pub kept_learnt : read_answer payload ≡ Some say.Kept → KeptComes me s t newer → Learns g me s (step g me t (input.Payload payload))
@@ -322,8 +322,8 @@ module _ (g : Group) (made : List (List ℕ)) (s : Server) (k : ServerKnows g s)
         let v : List ℕ = reference_text c.h.bytes c.len in
         let o : Op = op.Put c.key v in
         let n : ℕ = t.calls + 1 in
-        subst (Learns g me s) (sym (step_takes g me t payload say.Kept keeps.going read (kept_passes g me t c.awaiting) ∙ ap (λ p. goes_to t false (kept_at p)) c.at)) (record {
-          client = stands_sending g me s (calls_op t phase.Calling o false).next (Invokes n o) seen newer (keeps_waiting (awaits.Reply n o false) phase.Calling n (omega arith) (λ h len e. absurd cc)) (record {
+        subst (Learns g me s) (sym (step_takes g me t payload say.Kept keeps.going read (kept_passes g me t c.awaiting) ∙ ap (λ p. move_by_object_step t false (step_on_kept p)) c.at)) (record {
+          client = stands_sending g me s (move_to_call t phase.Calling o false).next (Invokes n o) seen newer (keeps_waiting (awaits.Reply n o false) phase.Calling n (omega arith) (λ h len e. absurd cc)) (record {
             load = false;
             objects = record { calling = λ e. c.objects; loads = λ e. absurd cc };
             refers = λ e. reference_good s.contents c.h.bytes c.len w.1.0 (omega (arith, c.small)) c.kept;
@@ -368,13 +368,13 @@ module _ (g : Group) (made : List (List ℕ)) (s : Server) (k : ServerKnows g s)
         let good : s.mode ≡ mode.Objects → (v : List ℕ) → fate o below ≡ outcome.Done (answer.Found v) → IsGood s.contents v =
         λ objects. fate_good s.contents o below (below_refers c.later o below log_is objects) in
         let content : has_content me t message ≡ true =
-        load_content me t (seal_on g base) (grown t (told (o ∷ c.between))) (entries below) o.entry (read_part (part_for (dictionary_by base) o.entry.op)) part t.awaiting c.number c.op c.load (length base) o.entry.op (fate o below)
+        load_content me t (seal_on g base) (path_with_entries t (told (o ∷ c.between))) (entries below) o.entry (read_part (part_for (dictionary_by base) o.entry.op)) part t.awaiting c.number c.op c.load (length base) o.entry.op (fate o below)
         (grown_told t (o ∷ c.between) seen keeps.path) (part_is made base base_fits o.entry.op).read c.awaiting (seal_on-position g base) (sym (ap (λ e. e.op) c.entry)) ends
         (λ loads. finds_ok (fate o below) (λ v e. (good (c.objects.loads loads) v e).0)) in
         let passes = reply_passes g made me t seen keeps.path o c.between c.over base c.number c.op c.load c.cut c.awaiting c.entry (all_on_first (o ∷ c.between) seen ordered) c.others c.sealed_then c.from
         ordered.0.near few base_fits (own_above (length base) c.upto) content in
-        let moved : taken me t message ≡ reply_move t o.entry (entries below) (length (o ∷ below)) (length base) (root_on base) o.entry.op (fate o below) =
-        reply_moves me t (seal_on g base) (grown t (told (o ∷ c.between))) (entries below) o.entry (read_part (part_for (dictionary_by base) o.entry.op)) part t.awaiting c.number c.op c.load
+        let moved : move_on_answer me t message ≡ reply_move t o.entry (entries below) (length (o ∷ below)) (length base) (root_on base) o.entry.op (fate o below) =
+        reply_moves me t (seal_on g base) (path_with_entries t (told (o ∷ c.between))) (entries below) o.entry (read_part (part_for (dictionary_by base) o.entry.op)) part t.awaiting c.number c.op c.load
         (length (o ∷ below)) (length base) (root_on base) o.entry.op (fate o below)
         (grown_told t (o ∷ c.between) seen keeps.path) (part_is made base base_fits o.entry.op).read c.awaiting (ap suc (length-entries below)) (seal_on-position g base) (seal_on-root g base) (sym (ap (λ e. e.op) c.entry)) ends in
         let own : List Own = t.own ++ own_of o below ∷ [] in
@@ -428,7 +428,7 @@ module _ (g : Group) (made : List (List ℕ)) (s : Server) (k : ServerKnows g s)
         let sent = update_is made below below_fits o.entry.op c.done in
         let spelled : IsEntry o.entry = (fits_at (newer ++ c.above) (o ∷ below) (keeps.log ∙ ap (λ l. newer ++ l) c.split ∙ sym (append_assoc newer c.above (o ∷ below)))).0.spelled in
         let passes = update_passes g made me t seen keeps.path c.above o below rest c.done status c.split c.awaiting (omega (arith, keeps.sealed)) few_seen below_fits (own_above (length below) (omega (arith, c.count))) own in
-        let moved : taken me t message ≡ sealed_to t (length (o ∷ below)) (root_on (o ∷ below)) rest =
+        let moved : move_on_answer me t message ≡ move_to_seal t (length (o ∷ below)) (root_on (o ∷ below)) rest =
         update_moves t (seal_on g below) (read_part (update_part (dictionary_by below) o.entry.op c.done)) sent.0 (own_of o below) rest (length (o ∷ below)) (root_on (o ∷ below))
         sent.1.read own (omega (arith, seal_on-position g below))
         (new_root-is g o below sent.0 (proper_by made below below_fits) spelled.op.1 sent.1.cut (ap (λ b. not (b && is_write o.entry.op) || reaches sent.0 o.entry.op) (sym status) ∙ sent.2)) in
@@ -479,9 +479,9 @@ module _ (g : Group) (made : List (List ℕ)) (s : Server) (k : ServerKnows g s)
         let between_others : NoneOf me (c.later ++ c.between) = subst (NoneOf me) c.split c.calm.others in
         let none : NoneOf me c.between = NoneOf-second me c.later c.between between_others in
         let passes = entries_pass g made me t seen keeps.path c.between c.over base c.cut c.awaiting (all_on_first c.between seen ordered) none c.from c.near few (own_above (length base) c.upto) in
-        let moved : taken me t message ≡ listed_to t (entries now) (length base) (root_on base) =
-        ap (λ p. listed_to t p (seal_on g base).position (seal_on g base).root.bytes) (grown_told t c.between seen keeps.path)
-        ∙ ap (λ n. listed_to t (entries now) n (seal_on g base).root.bytes) (seal_on-position g base) ∙ ap (listed_to t (entries now) (length base)) (seal_on-root g base) in
+        let moved : move_on_answer me t message ≡ move_on_entries t (entries now) (length base) (root_on base) =
+        ap (λ p. move_on_entries t p (seal_on g base).position (seal_on g base).root.bytes) (grown_told t c.between seen keeps.path)
+        ∙ ap (λ n. move_on_entries t (entries now) n (seal_on g base).root.bytes) (seal_on-position g base) ∙ ap (move_on_entries t (entries now) (length base)) (seal_on-root g base) in
         let next : Standing = record t { path = entries now; sealed = length base; root = root_on base; awaiting = awaits.Nothing } in
         let next_keeps : Keeps me s next now c.later = record {
           over = c.over;

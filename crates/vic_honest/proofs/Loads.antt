@@ -28,7 +28,7 @@ use Rattle.vic_rules.specs.Objects.{content_hash, reference_of, hash_in, is_cont
 use Rattle.vic_rules.specs.Client.{Standing, Sending, Invokes, Commits, Polls, Seals, Syncs, Keeps, Fetches, step, MayStep, commit_text_on, seal_text_on}
 use Rattle.vic_rules.specs.History.{standing, move_of, IsStep, AreSteps, IsLawful, completions}
 use Rattle.vic_rules.specs.Views.{NoStepOf, AsksFor, Explains, left_by}
-use Rattle.vic_rules.specs.Trust.{texts_made, text_sent, content_sent, taken_by}
+use Rattle.vic_rules.specs.Trust.{texts_made, text_sent, content_sent, answer_unless_halted}
 use Rattle.vic_spellings.proofs.Steps.{ok_is}
 use Rattle.vic_spellings.proofs.Entries.{entry_again}
 use Rattle.vic_laws.specs.ContentClaims.{IsStore}
@@ -231,7 +231,7 @@ loads_are_fated s server events run newer x past is content given =
     let there : IsIn s.history x = subst (λ l. IsIn l x) (sym is) (in_right newer (x ∷ past) x (inl refl)) in
     let kept : (g.mode ≡ mode.Objects) × IsIn server.contents content = all_ends s server events run x there (ended.Content content) given in
     let sent : IsIn (contents_sent g s.history) content = (run_sent s server events run.honest).kept content kept.1 in
-    let f : Fetched (standing g x.client past) (taken_by (move_of g past x).next x.input) content = (phased_at g x past now).content content (sym now.1.object ∙ given) in
+    let f : Fetched (standing g x.client past) (answer_unless_halted (move_of g past x).next x.input) content = (phased_at g x past now).content content (sym now.1.object ∙ given) in
     let b : FoundBy g past x.client f.h f.len = fetching_found g past kept.0 now.0 x.client f.h f.len f.fetching in
     let joined : IsIn (completions g s.history) b.by = subst (λ l. IsIn (completions g l) b.by) (sym is) (completions_stay g newer (x ∷ past) b.by (completion_stays g past x b.by b.there)) in
     let d : StandsAsFated server.log b.by = all_fated s server events run b.by joined in

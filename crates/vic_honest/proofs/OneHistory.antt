@@ -18,10 +18,10 @@ use Rattle.vic_wire.specs.Conflict.{conflicts}
 use Rattle.vic_wire.specs.Hashes.{Group}
 use Rattle.vic_commute.proofs.Commuting.{Alike, alike_itself, after_same, other_after, reply_alike}
 use Rattle.vic_rules.specs.declared.trace.Shown.{Shown}
-use Rattle.vic_rules.specs.Client.{Standing, Invokes, Commits, Polls, Seals, Syncs, least_above, is_in_the_way, in_the_way, decided, is_done, Fetches}
+use Rattle.vic_rules.specs.Client.{Standing, Invokes, Commits, Polls, Seals, Syncs, least_above, is_in_the_way, in_the_way, decided_outcome, is_done, Fetches}
 use Rattle.vic_rules.specs.Client.{Keeps as Contains}
 use Rattle.vic_rules.specs.History.{standing, path, Completion, completions}
-use Rattle.vic_rules.specs.Views.{confirmed, confirmed_calls, last_prefix, view_of, shown_as, left_by, outcome_leaves, Explains, IsLegal}
+use Rattle.vic_rules.specs.Views.{confirmation, confirmed_calls, last_prefix, view_of, shown_as, left_by, outcome_leaves, Explains, IsLegal}
 use Rattle.vic_rules.specs.Trust.{texts_made}
 use Rattle.vic_laws.proofs.Words.{all_at}
 use Rattle.vic_laws.proofs.Agreement.{confirmed_tells}
@@ -46,14 +46,14 @@ use Rattle.vic_honest.proofs.OnePath.{only_calls_at, shows_once, in_order_at}
 -- what confirms an entry has its fate
 abbrev pub Fated : List Completion → List Ordered → Type 0
 Fated cs [] = Unit {0}
-Fated cs (x ∷ low) = ((c : Completion) → confirmed cs (entries (x ∷ low)) ≡ Some c → c.outcome ≡ fate x low) × Fated cs low
+Fated cs (x ∷ low) = ((c : Completion) → confirmation cs (entries (x ∷ low)) ≡ Some c → c.outcome ≡ fate x low) × Fated cs low
 
 -- an entry that isn't confirmed doesn't conflict with the operation
 abbrev pub Quiet : List Completion → Op → List Ordered → Type 0
 Quiet cs o [] = Unit {0}
-Quiet cs o (x ∷ low) = (confirmed cs (entries (x ∷ low)) ≡ None → conflicts x.entry.op o ≡ false) × Quiet cs o low
+Quiet cs o (x ∷ low) = (confirmation cs (entries (x ∷ low)) ≡ None → conflicts x.entry.op o ≡ false) × Quiet cs o low
 
-calls-next : (cs : List Completion) (x : Ordered) (low : List Ordered) → confirmed_calls cs (entries (x ∷ low)) ≡ shown_as x.entry (confirmed cs (entries (x ∷ low))) ++ confirmed_calls cs (entries low)
+calls-next : (cs : List Completion) (x : Ordered) (low : List Ordered) → confirmed_calls cs (entries (x ∷ low)) ≡ shown_as x.entry (confirmation cs (entries (x ∷ low))) ++ confirmed_calls cs (entries low)
 unfolding confirmed_calls
 calls-next cs x low = refl
 
@@ -84,8 +84,8 @@ confirmed_leave cs o (x ∷ low) fated quiet =
     let rest = confirmed_leave cs o low fated.1 quiet.1 in
     let v : List Shown = confirmed_calls cs (entries low) in
     subst (λ w. Alike o (left_by w) (dictionary_by (x ∷ low))) (sym (calls-next cs x low))
-    (subst (Alike o (left_by (shown_as x.entry (confirmed cs (entries (x ∷ low))) ++ v))) (sym (dictionary-next x low))
-    (elim (confirmed cs (entries (x ∷ low))) as (λ c. confirmed cs (entries (x ∷ low)) ≡ c → Alike o (left_by (shown_as x.entry c ++ v)) (if is_done (fate x low) then after (dictionary_by low) x.entry.op else dictionary_by low)) [
+    (subst (Alike o (left_by (shown_as x.entry (confirmation cs (entries (x ∷ low))) ++ v))) (sym (dictionary-next x low))
+    (elim (confirmation cs (entries (x ∷ low))) as (λ c. confirmation cs (entries (x ∷ low)) ≡ c → Alike o (left_by (shown_as x.entry c ++ v)) (if is_done (fate x low) then after (dictionary_by low) x.entry.op else dictionary_by low)) [
       | None ↦ λ e. quiet_step o x.entry.op (left_by v) (dictionary_by low) (is_done (fate x low)) (quiet.0 e) rest
       | Some c ↦ λ e.
           let y : Shown = record { entry = x.entry; outcome = c.outcome } in
@@ -102,7 +102,7 @@ abbrev pub Clear : List Completion → List Ordered → Type 0
 Clear cs [] = Unit {0}
 Clear cs (x ∷ low) = (in_the_way x.entry.client x.entry.op x.sealed_then (entries low) ≡ None → Quiet cs x.entry.op low) × Clear cs low
 
-explained : (w : Option ℕ) (d e : Dictionary) (x : Shown) → (w ≡ None → reply e x.entry.op ≡ reply d x.entry.op) → Explains d x (decided w e x.entry.op)
+explained : (w : Option ℕ) (d e : Dictionary) (x : Shown) → (w ≡ None → reply e x.entry.op ≡ reply d x.entry.op) → Explains d x (decided_outcome w e x.entry.op)
 explained None d e x same = same refl
 explained (Some u) d e x same = tt
 
@@ -117,7 +117,7 @@ confirmed_legal cs (x ∷ low) fated clear =
     let rest = confirmed_legal cs low fated.1 clear.1 in
     let v : List Shown = confirmed_calls cs (entries low) in
     subst IsLegal (sym (calls-next cs x low))
-    (elim (confirmed cs (entries (x ∷ low))) as (λ c. confirmed cs (entries (x ∷ low)) ≡ c → IsLegal (shown_as x.entry c ++ v)) [
+    (elim (confirmation cs (entries (x ∷ low))) as (λ c. confirmation cs (entries (x ∷ low)) ≡ c → IsLegal (shown_as x.entry c ++ v)) [
       | None ↦ λ e. rest
       | Some c ↦ λ e. (
         rest,
@@ -189,7 +189,7 @@ unseen_open g me s t seen newer above u between low (Gets (say.Content c)) d e f
 unseen_open g me s t seen newer above u between low (Gets say.Gone) d e f mine = absurd d
 unseen_open g me s t seen newer above u between low (Gets say.Absent) d e f mine = absurd d
 
-own_one_at : (cs : List Completion) (me : ℕ) (above : List Entry) (e : Entry) (p : List Entry) → OwnOnes cs me (above ++ e ∷ p) → e.client ≡ me → (c : Completion) × (confirmed cs (e ∷ p) ≡ Some c)
+own_one_at : (cs : List Completion) (me : ℕ) (above : List Entry) (e : Entry) (p : List Entry) → OwnOnes cs me (above ++ e ∷ p) → e.client ≡ me → (c : Completion) × (confirmation cs (e ∷ p) ≡ Some c)
 own_one_at cs me [] e p h mine = h.0 mine
 own_one_at cs me (x ∷ above) e p h mine = own_one_at cs me above e p h.1 mine
 
@@ -209,7 +209,7 @@ module _ (g : Group) (w : World) (fit : WorldFits g w) (know : WorldKnows g w) w
   cs = completions g w.history
 
   -- an entry that isn't confirmed is its client's open call
-  unconfirmed_open : (above : List Ordered) (u : Ordered) (low : List Ordered) → w.server.log ≡ above ++ u ∷ low → confirmed cs (entries (u ∷ low)) ≡ None → IsOpen u.entry.client w.server above u low
+  unconfirmed_open : (above : List Ordered) (u : Ordered) (low : List Ordered) → w.server.log ≡ above ++ u ∷ low → confirmation cs (entries (u ∷ low)) ≡ None → IsOpen u.entry.client w.server above u low
   unconfirmed_open above u low is none =
       let me : ℕ = u.entry.client in
       let entry : EntryFits (texts_made g w.history) u = (all-second (EntryFits (texts_made g w.history)) above (u ∷ low) (subst (AllByRecursion (EntryFits (texts_made g w.history))) is fit.server.log)).0 in

@@ -9,7 +9,7 @@ use Rattle.vic_wire.specs.Hashes.{Group}
 use Rattle.vic_rules.specs.declared.trace.TraceStep.{TraceStep}
 use Rattle.vic_rules.specs.declared.trace.Shown.{Shown}
 use Rattle.vic_rules.specs.History.{standing, path, move_of, AreSteps, Completion, completions}
-use Rattle.vic_rules.specs.Views.{confirmed, confirmed_calls, IsSameCall, IsAnswered, IsCompleted, is_call, ReturnedBefore, Earlier, IsInRealTime, ShowsOnlyCalls}
+use Rattle.vic_rules.specs.Views.{confirmation, confirmed_calls, IsSameCall, IsAnswered, IsCompleted, is_call, ReturnedBefore, Earlier, IsInRealTime, ShowsOnlyCalls}
 use Rattle.vic_rules.specs.Trust.{IsForged}
 use Rattle.vic_laws.specs.OrderClaims.{CompletedAs}
 use Rattle.vic_laws.proofs.Words.{in_right}
@@ -77,7 +77,7 @@ shows_once g h steps e o c p grown =
     let cs : List Completion = completions g h in
     let x : Shown = record { entry = e; outcome = o } in
     let place : p ≡ grown.0 ++ e ∷ c.below = grown.1 ∙ ap (λ (q : List Entry). grown.0 ++ q) c.is in
-    let by : confirmed cs (e ∷ c.below) ≡ Some c.by = confirmed_by g h steps (e ∷ c.below) c.by c.there c.is in
+    let by : confirmation cs (e ∷ c.below) ≡ Some c.by = confirmed_by g h steps (e ∷ c.below) c.by c.there c.is in
     let more : confirmed_calls cs (e ∷ c.below) ≡ x ∷ confirmed_calls cs c.below =
     confirmed_more cs e c.below c.by by ∙ ap (shown_with e (confirmed_calls cs c.below)) c.ends in
     let below : (newer : List Shown) × (confirmed_calls cs (grown.0 ++ e ∷ c.below) ≡ newer ++ confirmed_calls cs (e ∷ c.below)) = confirmed_below cs grown.0 (e ∷ c.below) in

@@ -22,10 +22,10 @@ use Rattle.vic_rules.specs.Objects.{content_hash}
 use Rattle.std.specs.List.{sum_by}
 use Rattle.vic_rules.specs.History.{standing}
 use Rattle.vic_rules.specs.Trust.{texts_made}
-use Rattle.vic_order.specs.Order.{Ordered, Server, Answered, says, becomes, guarded, is_kept, unless_refused, sealed_count, serve, serve_read}
+use Rattle.vic_order.specs.Order.{Ordered, Server, Answered, answer_alone, answer_with_change, answer_by_tests, is_kept, answer_unless_refused, sealed_count, serve, serve_read}
 use Rattle.vic_spellings.proofs.SpelledRequests.{request_again}
 use Rattle.vic_laws.proofs.Words.{some_same}
-use Rattle.vic_honest.specs.Claims.{limit, RefusedAtLimit, has_room_for, ContentRefused, IsKeptSo, IsFetchedSo, IsOrderedBy}
+use Rattle.vic_honest.specs.Claims.{passed_limit, RefusedAtLimit, has_room_for, ContentRefused, IsKeptSo, IsFetchedSo, IsOrderedBy}
 use Rattle.vic_honest.proofs.Standing.{World, world_of, WorldFits, ClientFits, Doing, Rests, Sends, Gets, up_by}
 use Rattle.vic_honest.proofs.Worlds.{room_left}
 use Rattle.vic_honest.proofs.Referred.{has, found_in}
@@ -53,7 +53,7 @@ not_refused g me s t seen newer a waits r answers refused awaiting apart from_ke
     ]
 
 -- a content is refused where it is new and there is no room
-keep_refused : (s : Server) (c : List ℕ) (b full : Bool) (r : ℕ) → (if b then says s say.Kept else guarded s ((7, full) ∷ []) (becomes (record s { contents = c ∷ s.contents }) say.Kept)).answer ≡ say.Refused r
+keep_refused : (s : Server) (c : List ℕ) (b full : Bool) (r : ℕ) → (if b then answer_alone s say.Kept else answer_by_tests s ((7, full) ∷ []) (answer_with_change (record s { contents = c ∷ s.contents }) say.Kept)).answer ≡ say.Refused r
     → (b ≡ false) × ((full ≡ false) × (r ≡ 7))
 keep_refused s c true full r e = absurd cc
 keep_refused s c false true r e = absurd cc
@@ -61,7 +61,7 @@ keep_refused s c false false r e = let number : r ≡ 7 = cc in (refl, (refl, nu
 
 -- a content that is to be kept, by whether one of its hash is there and whether there is room
 keep_by : (s : Server) (c : List ℕ) (b room : Bool) → is_kept s.contents (content_hash c) ≡ b → has_room_for s c ≡ room
-    → IsKeptSo s c (if b then says s say.Kept else guarded s ((7, room) ∷ []) (becomes (record s { contents = c ∷ s.contents }) say.Kept))
+    → IsKeptSo s c (if b then answer_alone s say.Kept else answer_by_tests s ((7, room) ∷ []) (answer_with_change (record s { contents = c ∷ s.contents }) say.Kept))
 keep_by s c true room e f = record {
   there = λ x. (refl, refl);
   added = λ x y. absurd (true≢false (sym e ∙ x));
@@ -88,7 +88,7 @@ record IsSent (g : Group) (w : World) (me : ℕ) (payload : List ℕ) : Type 0 w
   read : read_request payload ≡ Some (request_of g me (standing g me w.history) sending)
 
 -- what only a guard at a limit can refuse
-refused_at : (s : Server) (o : Option ℕ) (a : Answered) (r : ℕ) → ((k : ℕ) → a.answer ≡ say.Refused k → ⊥) → (unless_refused s o a).answer ≡ say.Refused r → o ≡ Some r
+refused_at : (s : Server) (o : Option ℕ) (a : Answered) (r : ℕ) → ((k : ℕ) → a.answer ≡ say.Refused k → ⊥) → (answer_unless_refused s o a).answer ≡ say.Refused r → o ≡ Some r
 refused_at s (Some k) a r apart e = cc
 refused_at s None a r apart e = absurd (apart r e)
 
@@ -99,8 +99,8 @@ hash_asked _ = []
 
 -- what a request is answered, if it is a call
 abbrev called : Server → ℕ → ToServer → Answered
-called s me (ask.Invoke known seq o tag) = unless_refused s (limit s known o) (ordered_by s me known seq o tag)
-called s me _ = says s say.Wait
+called s me (ask.Invoke known seq o tag) = answer_unless_refused s (passed_limit s known o) (ordered_by s me known seq o tag)
+called s me _ = answer_alone s say.Wait
 
 module _ (g : Group) (w : World) (fit : WorldFits g w) (know : WorldKnows g w) (me : ℕ) (above : 0 < me) (upto : me ≤ g.count) where
   abbrev t : Standing
@@ -141,7 +141,7 @@ module _ (g : Group) (w : World) (fit : WorldFits g w) (know : WorldKnows g w) (
     op = o;
     tag = _;
     is = read;
-    limit_is = refused_at w.server (limit w.server (length t.path) o) (ordered_by w.server me (length t.path) n o (tag_for g (invoke_text (record { client = me; seq = n; op = o })))) r (λ k e. cc)
+    limit_is = refused_at w.server (passed_limit w.server (length t.path) o) (ordered_by w.server me (length t.path) n o (tag_for g (invoke_text (record { client = me; seq = n; op = o })))) r (λ k e. cc)
         (ap (λ a. a.answer) (sym (invoke_is g w.server know.server me above upto t seen newer keeps n o d)) ∙ refused);
   })
   refused_by seen newer keeps (Commits done) d r refused payload read =
@@ -179,7 +179,7 @@ module _ (g : Group) (w : World) (fit : WorldFits g w) (know : WorldKnows g w) (
 
   -- a call that lies in a queue is refused at a limit, and else it is ordered
   world_calls : (payload : List ℕ) (rest : List (List ℕ)) → w.up me ≡ payload ∷ rest → (known seq : ℕ) (o : Op) (tag : Digest32) → read_request payload ≡ Some (ask.Invoke known seq o tag)
-      → serve w.server me payload ≡ unless_refused w.server (limit w.server known o) (ordered_by w.server me known seq o tag)
+      → serve w.server me payload ≡ answer_unless_refused w.server (passed_limit w.server known o) (ordered_by w.server me known seq o tag)
   world_calls payload rest up_is known seq o tag read =
       let x : IsSent g w me payload = sent_by payload rest up_is in
       let same : request_of g me t x.sending ≡ ask.Invoke known seq o tag = some_same (sym x.read ∙ read) in
@@ -271,19 +271,19 @@ refusals_are_limits s server events run me above upto payload rest up_is r refus
 
 pub limits_are_refused : (s : Scene) (server : Server) (events : List Event) → IsSafeRun s server events → (me : ℕ) → 0 < me → me ≤ s.group.count → (payload : List ℕ) (rest : List (List ℕ)) → queue_of s.up me ≡ payload ∷ rest
     → (known seq : ℕ) (o : Op) (tag : Digest32) → read_request payload ≡ Some (ask.Invoke known seq o tag)
-    → (r : ℕ) → limit server known o ≡ Some r → (serve server me payload).answer ≡ say.Refused r
+    → (r : ℕ) → passed_limit server known o ≡ Some r → (serve server me payload).answer ≡ say.Refused r
 limits_are_refused s server events run me above upto payload rest up_is known seq o tag read r at =
     let a : Answered = ordered_by server me known seq o tag in
     ap (λ x. x.answer) (world_calls s.group (world_of s server) (run_fits s server events run.honest).fits (run_knows s server events run) me above upto payload rest up_is known seq o tag read)
-    ∙ ap (λ l. (unless_refused server l a).answer) at
+    ∙ ap (λ l. (answer_unless_refused server l a).answer) at
 
 pub calls_are_ordered : (s : Scene) (server : Server) (events : List Event) → IsSafeRun s server events → (me : ℕ) → 0 < me → me ≤ s.group.count → (payload : List ℕ) (rest : List (List ℕ)) → queue_of s.up me ≡ payload ∷ rest
     → (known seq : ℕ) (o : Op) (tag : Digest32) → read_request payload ≡ Some (ask.Invoke known seq o tag)
-    → limit server known o ≡ None → IsOrderedBy server me seq o tag (serve server me payload)
+    → passed_limit server known o ≡ None → IsOrderedBy server me seq o tag (serve server me payload)
 calls_are_ordered s server events run me above upto payload rest up_is known seq o tag read none =
     let a : Answered = ordered_by server me known seq o tag in
     let is : serve server me payload ≡ a =
-    world_calls s.group (world_of s server) (run_fits s server events run.honest).fits (run_knows s server events run) me above upto payload rest up_is known seq o tag read ∙ ap (λ l. unless_refused server l a) none in
+    world_calls s.group (world_of s server) (run_fits s server events run.honest).fits (run_knows s server events run) me above upto payload rest up_is known seq o tag read ∙ ap (λ l. answer_unless_refused server l a) none in
     subst (IsOrderedBy server me seq o tag) (sym is) (record {
       newest = record { entry = record { client = me; seq = seq; op = o }; tag = tag; sealed_then = sealed_count server };
       log = refl;

@@ -23,7 +23,7 @@ use Rattle.vic_rules.specs.declared.state.Awaiting.TheVariants as awaits
 use Rattle.vic_rules.specs.declared.trace.Input.{Input}
 use Rattle.vic_rules.specs.declared.trace.Input.TheVariants as input
 use Rattle.vic_rules.specs.declared.trace.TraceStep.{TraceStep}
-use Rattle.vic_rules.specs.Client.{Standing, Move, step, grown, decision, decided, replied, taken, taken_or_halts, on_payload, verdict, refused_at, MayStep}
+use Rattle.vic_rules.specs.Client.{Standing, Move, step, path_with_entries, decision, decided_outcome, move_on_reply, move_on_answer, move_on_verdict, move_on_payload, verdict, move_on_refusal, MayStep}
 use Rattle.vic_rules.specs.History.{standing, move_of, AreSteps, IsStep, completion, completions}
 use Rattle.vic_laws.proofs.Words.{some_same, in_right, all_at}
 use Rattle.vic_laws.proofs.Steps.{Kind, is_quiet, is_called, is_replied, is_updated, is_listed, Replied, call_of}
@@ -45,22 +45,22 @@ use Rattle.vic_honest.proofs.Runs.{run_fits, run_knows, never_halted, all_fated}
 abbrev Halts : Option Outcome → Type 0
 Halts returned = (k : ℕ) × (returned ≡ Some (outcome.Halted k))
 
-answer_passes : (me : ℕ) (t : Standing) (found : Option ToClient) (failed : Option ℕ) (m : ToClient) → found ≡ Some m → (Halts (taken_or_halts me t found failed).returns → ⊥) → taken_or_halts me t found failed ≡ taken me t m
+answer_passes : (me : ℕ) (t : Standing) (found : Option ToClient) (failed : Option ℕ) (m : ToClient) → found ≡ Some m → (Halts (move_on_verdict me t found failed).returns → ⊥) → move_on_verdict me t found failed ≡ move_on_answer me t m
 answer_passes me t found (Some k) m e goes = absurd (goes (k, refl))
-answer_passes me t (Some n) None m e goes = ap (taken me t) (some_same e)
+answer_passes me t (Some n) None m e goes = ap (move_on_answer me t) (some_same e)
 answer_passes me t None None m e goes = absurd cc
 
-payload_passes : (g : Group) (me : ℕ) (t : Standing) (halted : Option ℕ) (payload : List ℕ) (m : ToClient) → read_answer payload ≡ Some m → (Halts (on_payload g me t halted payload).returns → ⊥)
-    → on_payload g me t halted payload ≡ taken me t m
+payload_passes : (g : Group) (me : ℕ) (t : Standing) (halted : Option ℕ) (payload : List ℕ) (m : ToClient) → read_answer payload ≡ Some m → (Halts (move_on_payload g me t halted payload).returns → ⊥)
+    → move_on_payload g me t halted payload ≡ move_on_answer me t m
 payload_passes g me t (Some k) payload m read goes = absurd (goes (k, refl))
 payload_passes g me t None payload m read goes = answer_passes me t (read_answer payload) (verdict g me t payload) m read goes
 
 step_passes : (g : Group) (me : ℕ) (t : Standing) (payload : List ℕ) (m : ToClient) → read_answer payload ≡ Some m → (Halts (step g me t (input.Payload payload)).returns → ⊥)
-    → step g me t (input.Payload payload) ≡ taken me t m
+    → step g me t (input.Payload payload) ≡ move_on_answer me t m
 unfolding step
 step_passes g me t payload m read goes = payload_passes g me t t.halted payload m read goes
 
-payload_alive : (g : Group) (me : ℕ) (t : Standing) (halted : Option ℕ) (payload : List ℕ) → (Halts (on_payload g me t halted payload).returns → ⊥) → halted ≡ None
+payload_alive : (g : Group) (me : ℕ) (t : Standing) (halted : Option ℕ) (payload : List ℕ) → (Halts (move_on_payload g me t halted payload).returns → ⊥) → halted ≡ None
 payload_alive g me t (Some k) payload goes = absurd (goes (k, refl))
 payload_alive g me t None payload goes = refl
 
@@ -80,7 +80,7 @@ module _ (s : Scene) (server : Server) (events : List Event) (run : IsSafeRun s 
       let there : IsIn s.history x = subst (λ l. IsIn l x) (sym is) (in_right newer (x ∷ past) x (inl refl)) in
       never_halted x.returned h.0 (all_at (λ y. IsFine y.returned) s.history x (run_knows s server events run).fine there) (step_is.returned ∙ h.1)
 
-  taken_here : move_of s.group past x ≡ taken x.client (standing s.group x.client past) m
+  taken_here : move_of s.group past x ≡ move_on_answer x.client (standing s.group x.client past) m
   taken_here =
       let as_payload : move_of s.group past x ≡ step s.group x.client (standing s.group x.client past) (input.Payload payload) = ap (step s.group x.client (standing s.group x.client past)) input_is in
       as_payload ∙ step_passes s.group x.client (standing s.group x.client past) payload m read (λ h. goes_on (h.0, ap (λ v. v.returns) as_payload ∙ h.1))
@@ -114,7 +114,7 @@ kept_objects g h steps me alive e =
     may.1.0
 
 -- a refusal is returned, by what was awaited
-returned_by : (g : Group) (t : Standing) (x : TraceStep) (r : ℕ) (a : Awaiting) → t.awaiting ≡ a → (t.awaiting ≡ awaits.Kept → g.mode ≡ mode.Objects) → x.returned ≡ (refused_at t r a).returns → x.object ≡ (refused_at t r a).object → RefusalIsReturned g t x r
+returned_by : (g : Group) (t : Standing) (x : TraceStep) (r : ℕ) (a : Awaiting) → t.awaiting ≡ a → (t.awaiting ≡ awaits.Kept → g.mode ≡ mode.Objects) → x.returned ≡ (move_on_refusal t r a).returns → x.object ≡ (move_on_refusal t r a).object → RefusalIsReturned g t x r
 returned_by g t x r awaits.Kept e objects returned object = inr (record { objects = objects e; awaited = e; returned = returned; object = object })
 returned_by g t x r awaits.Nothing e objects returned object = inl (record { other = λ k. let f = sym e ∙ k in absurd cc; returned = returned; object = object })
 returned_by g t x r (awaits.Reply n o load) e objects returned object = inl (record { other = λ k. let f = sym e ∙ k in absurd cc; returned = returned; object = object })
@@ -137,9 +137,9 @@ record Decides (returned : Option Outcome) : Type 0 where
   blocking : Option ℕ
   dictionary : Dictionary
   op : Op
-  decided_so : returned ≡ Some (decided blocking dictionary op)
+  decided_so : returned ≡ Some (decided_outcome blocking dictionary op)
 
-reply_decides : (me : ℕ) (t : Standing) (seal : Seal) (p : List Entry) (part : Option Part) (a : Awaiting) → (Halts (replied me t seal p part a).returns → ⊥) → Decides (replied me t seal p part a).returns
+reply_decides : (me : ℕ) (t : Standing) (seal : Seal) (p : List Entry) (part : Option Part) (a : Awaiting) → (Halts (move_on_reply me t seal p part a).returns → ⊥) → Decides (move_on_reply me t seal p part a).returns
 unfolding decision
 reply_decides me t seal [] part a goes = absurd (goes (1, refl))
 reply_decides me t seal (x ∷ below) None a goes = absurd (goes (1, refl))
@@ -150,7 +150,7 @@ reply_decides me t seal (x ∷ below) (Some part) awaits.Entries goes = absurd (
 reply_decides me t seal (x ∷ below) (Some part) awaits.Kept goes = absurd (goes (1, refl))
 reply_decides me t seal (x ∷ below) (Some part) (awaits.Content hash len) goes = absurd (goes (1, refl))
 
-decided_completes : (me : ℕ) (p : List Entry) (blocking : Option ℕ) (d : Dictionary) (o : Op) → completion me p (Some (decided blocking d o)) ≡ [] → ⊥
+decided_completes : (me : ℕ) (p : List Entry) (blocking : Option ℕ) (d : Dictionary) (o : Op) → completion me p (Some (decided_outcome blocking d o)) ≡ [] → ⊥
 decided_completes me p None d o e = absurd cc
 decided_completes me p (Some u) d o e = absurd cc
 
@@ -194,8 +194,8 @@ replies_return s server events run newer x past is payload input_is seal told pa
     let t : Standing = standing s.group x.client past in
     let m : ToClient = say.Reply seal told part in
     let step_so : IsStep s.group past x = step_is s server events run newer x past is payload input_is m read in
-    let taken_so : move_of s.group past x ≡ replied x.client t seal (grown t told) (read_part part) t.awaiting = taken_here s server events run newer x past is payload input_is m read in
-    let goes : Halts (replied x.client t seal (grown t told) (read_part part) t.awaiting).returns → ⊥ =
+    let taken_so : move_of s.group past x ≡ move_on_reply x.client t seal (path_with_entries t told) (read_part part) t.awaiting = taken_here s server events run newer x past is payload input_is m read in
+    let goes : Halts (move_on_reply x.client t seal (path_with_entries t told) (read_part part) t.awaiting).returns → ⊥ =
     λ h. goes_on s server events run newer x past is payload input_is m read (h.0, ap (λ v. v.returns) taken_so ∙ h.1) in
-    let ends : Decides (move_of s.group past x).returns = subst (λ v. Decides v.returns) (sym taken_so) (reply_decides x.client t seal (grown t told) (read_part part) t.awaiting goes) in
+    let ends : Decides (move_of s.group past x).returns = subst (λ v. Decides v.returns) (sym taken_so) (reply_decides x.client t seal (path_with_entries t told) (read_part part) t.awaiting goes) in
     replied_fated s server events run newer x past is step_so (decides_replied s.group x.client t x.input (move_of s.group past x) (kind_of s.group past x step_so) ends)

@@ -23,9 +23,9 @@ use Rattle.vic_honest.proofs.Referred.{has, kept_by, found_in, IsKept, Refers, r
 use Rattle.vic_laws.proofs.Words.{all_weaker}
 use Rattle.vic_order.specs.declared.Stage.{Stage}
 use Rattle.vic_order.specs.declared.Stage.TheVariants as stage
-use Rattle.vic_order.specs.Order.{Ordered, Server, Member, Answered, says, becomes, guarded, unless_refused, size, sealed_count, seal_at_position, top_seal, ordered_at, commit_at, member, set_stage, is_ready, is_open_at, is_inside, is_put, is_member, op_weight, weight, entries_above, turn, with_commit, with_seal, owns_committed, applied_to, ordered_next, same_mode, is_kept, content_with, serve_read}
+use Rattle.vic_order.specs.Order.{Ordered, Server, Member, Answered, answer_alone, answer_with_change, answer_by_tests, answer_unless_refused, size, sealed_count, seal_at_position, top_seal, ordered_at, commit_at, member, set_stage, is_ready, is_open_at, is_inside, is_put, is_member, op_weight, weight, entries_above, turn, with_commit, with_seal, owns_committed, applied_to, ordered_next, same_mode, is_kept, content_with, serve_read}
 use Rattle.vic_order.specs.Fates.{entries, fate, dictionary_by}
-use Rattle.vic_honest.specs.Claims.{limit}
+use Rattle.vic_honest.specs.Claims.{passed_limit}
 use Rattle.vic_honest.proofs.Words.{length-entries, told, above-told}
 use Rattle.vic_honest.proofs.Standing.{Sends, Gets}
 use Rattle.vic_honest.proofs.Serving.{passed, test_passed, seal_text-joined}
@@ -36,12 +36,12 @@ use Rattle.vic_honest.proofs.Frame.{same_server, member-same, member-other}
 use Rattle.vic_honest.proofs.Answering.{Answers, count_is, top_is, base_is, seal_at-is, ordered_at-is, turn_does}
 
 -- a test that passes refuses nothing
-pub guard_ok : (s : Server) (n : ℕ) (b : Bool) (a : Answered) → b ≡ true → guarded s ((n, b) ∷ []) a ≡ a
-guard_ok s n b a e = ap (λ c. unless_refused s (if c then None else Some n) a) e
+pub guard_ok : (s : Server) (n : ℕ) (b : Bool) (a : Answered) → b ≡ true → answer_by_tests s ((n, b) ∷ []) a ≡ a
+guard_ok s n b a e = ap (λ c. answer_unless_refused s (if c then None else Some n) a) e
 
 -- what a call that is ordered leaves and is answered
 abbrev pub ordered_by : Server → ℕ → ℕ → ℕ → Op → Digest32 → Answered
-ordered_by s me known n o tag = becomes (ordered_next s me n o tag) (say.Reply (top_seal s) (entries_above known (ordered_next s me n o tag).log) (part_for s.dictionary o))
+ordered_by s me known n o tag = answer_with_change (ordered_next s me n o tag) (say.Reply (top_seal s) (entries_above known (ordered_next s me n o tag).log) (part_for s.dictionary o))
 
 -- the status that a log gives its newest entry
 abbrev status_of : List Ordered → Bool
@@ -97,7 +97,7 @@ module _ (g : Group) (s : Server) (k : ServerKnows g s) (me : ℕ) (above : 0 < 
 
   poll_answers : t.awaiting ≡ awaits.Turn → Calm me s t newer → Gives (serve_read s me (Some (request_of g me t Polls)))
   poll_answers awaiting calm =
-      let a : Answered = says s (turn s me) in
+      let a : Answered = answer_alone s (turn s me) in
       subst Gives (sym (guard_ok s 6 (is_member s me) _ (is_inside-here stage.Ready calm.ready refl) ∙ guard_ok s 5 (is_ready (member s me).stage) a (ap is_ready calm.ready))) (record {
         new = [];
         knows = k;
@@ -114,7 +114,7 @@ module _ (g : Group) (s : Server) (k : ServerKnows g s) (me : ℕ) (above : 0 < 
       let tag : Digest32 = tag_for g (commit_text_on g t.path done) in
       let mid : Server = with_commit s (length t.path) done tag in
       let next : Server = set_stage mid me stage.Ready in
-      let a : Answered = becomes next (turn next me) in
+      let a : Answered = answer_with_change next (turn next me) in
       let now : Member = record (member s me) { stage = stage.Ready } in
       let member_is : member next me ≡ now = member-same mid me now above within in
       let opened : is_open_at (length t.path) (member s me).stage ≡ true = ap (is_open_at (length t.path)) go.stage ∙ eq-eqb (length seen) (length t.path) (sym length-path) in
@@ -185,7 +185,7 @@ module _ (g : Group) (s : Server) (k : ServerKnows g s) (me : ℕ) (above : 0 < 
       let o : Ordered = go.o in
       let below : List Ordered = go.below in
       let next : Server = with_seal s x in
-      let a : Answered = becomes next (turn next me) in
+      let a : Answered = answer_with_change next (turn next me) in
       let own_base : keeps.base ≡ o ∷ below = same_end keeps.over keeps.base go.above (o ∷ below) (sym keeps.cut ∙ go.split) (sym keeps.sealed ∙ go.position) in
       let in_log : s.log ≡ (newer ++ go.above) ++ o ∷ below = keeps.log ∙ ap (λ l. newer ++ l) go.split ∙ sym (append_assoc newer go.above (o ∷ below)) in
       let base_below : k.base ≡ below = base_is g s k ((newer ++ go.above) ++ o ∷ []) below (in_log ∙ sym (append_assoc (newer ++ go.above) (o ∷ []) below)) go.count in
@@ -271,7 +271,7 @@ module _ (g : Group) (s : Server) (k : ServerKnows g s) (me : ℕ) (above : 0 < 
       let few : past ≤ length newer = omega (arith, length-path, length-log) in
       let between : List Ordered = drop past newer in
       let later : List Ordered = take past newer in
-      let a : Answered = says s (say.Entries x (entries_above (length t.path) (front e s.log))) in
+      let a : Answered = answer_alone s (say.Entries x (entries_above (length t.path) (front e s.log))) in
       let long : length (between ++ seen) ≡ e = omega (arith, length-append between seen, length-drop past newer, length-path, length-log) in
       let c : Cut (between ++ seen) n = cut_at (between ++ seen) n (omega (arith, long)) in
       let d : Cut k.base n = cut_at k.base n (omega (arith, count)) in
@@ -327,7 +327,7 @@ module _ (g : Group) (s : Server) (k : ServerKnows g s) (me : ℕ) (above : 0 < 
       let told_is : entries_above (length t.path) (x ∷ s.log) ≡ told (x ∷ newer) =
       ap (λ m. entries_above m (x ∷ s.log)) length-path ∙ ap (λ l. entries_above (length seen) (x ∷ l)) keeps.log ∙ above-told (x ∷ newer) seen in
       subst Gives (sym (guard_ok s 6 (is_member s me) _ (is_inside-here stage.Ready go.calm.ready refl)))
-      (passed Gives s (first_failing ((5, b5) ∷ rest)) (becomes next answer)
+      (passed Gives s (first_failing ((5, b5) ∷ rest)) (answer_with_change next answer)
       (λ r e. record {
         new = [];
         knows = k;
@@ -428,15 +428,15 @@ module _ (g : Group) (s : Server) (k : ServerKnows g s) (me : ℕ) (above : 0 < 
 
   -- a call of a client that stands well is refused at a limit, and else it is ordered
   pub invoke_is : (n : ℕ) (o : Op) → InvokeGoes me s t newer n o
-      → serve_read s me (Some (request_of g me t (Invokes n o))) ≡ unless_refused s (limit s (length t.path) o) (ordered_by s me (length t.path) n o (tag_for g (invoke_text (record { client = me; seq = n; op = o }))))
+      → serve_read s me (Some (request_of g me t (Invokes n o))) ≡ answer_unless_refused s (passed_limit s (length t.path) o) (ordered_by s me (length t.path) n o (tag_for g (invoke_text (record { client = me; seq = n; op = o }))))
   invoke_is n o go =
       let tag : Digest32 = tag_for g (invoke_text (record { client = me; seq = n; op = o })) in
-      let rest : Option ℕ = limit s (length t.path) o in
+      let rest : Option ℕ = passed_limit s (length t.path) o in
       let test : (is_ready (member s me).stage && (nat_lt (member s me).last n && nat_le (length t.path) (size s))) ≡ true =
       and_from (is_ready (member s me).stage) (nat_lt (member s me).last n && nat_le (length t.path) (size s)) (ap is_ready go.calm.ready)
       (and_from (nat_lt (member s me).last n) (nat_le (length t.path) (size s)) (lt-ltb (member s me).last n go.new) (le-leb (length t.path) (size s) (omega (arith, length-path, length-log)))) in
       guard_ok s 6 (is_member s me) _ (is_inside-here stage.Ready go.calm.ready refl)
-      ∙ ap (λ b. unless_refused s (if b then rest else Some 5) (ordered_by s me (length t.path) n o tag)) test
+      ∙ ap (λ b. answer_unless_refused s (if b then rest else Some 5) (ordered_by s me (length t.path) n o tag)) test
 
   -- ---- Keep and Fetch
 
@@ -461,14 +461,14 @@ module _ (g : Group) (s : Server) (k : ServerKnows g s) (me : ℕ) (above : 0 < 
   keep_answers : (c : List ℕ) → KeepGoes me s t newer c → ((x : List ℕ) → kept_by s.contents (content_hash c) ≡ Some x → x ≡ c) → Gives (serve_read s me (Some (request_of g me t (Contains c))))
   keep_answers c go one =
       let full : Bool = not (nat_le 1048576 (length s.contents)) && nat_le (sum_by length s.contents + length c) 1073741824 in
-      let a : Answered = if is_kept s.contents (content_hash c) then says s say.Kept else guarded s ((7, full) ∷ []) (becomes (record s { contents = c ∷ s.contents }) say.Kept) in
+      let a : Answered = if is_kept s.contents (content_hash c) then answer_alone s say.Kept else answer_by_tests s ((7, full) ∷ []) (answer_with_change (record s { contents = c ∷ s.contents }) say.Kept) in
       subst Gives (sym (guard_ok s 6 (is_member s me) _ (is_inside-here stage.Ready go.calm.ready refl)
       ∙ guard_ok s 5 (is_ready (member s me).stage && same_mode s.mode mode.Objects) a (objects_ok go.calm.ready go.objects))) (by_tests (is_kept s.contents (content_hash c)) full refl)
     where
-      stays_so : Does g me s t seen newer (Gets say.Kept) → Gives (says s say.Kept)
+      stays_so : Does g me s t seen newer (Gets say.Kept) → Gives (answer_alone s say.Kept)
       stays_so does = record { new = []; knows = k; keeps = keeps; does = does; still_kept = λ c i. i; others = λ j higher apart. same_server j s }
 
-      by_tests : (b full : Bool) → is_kept s.contents (content_hash c) ≡ b → Gives (if b then says s say.Kept else guarded s ((7, full) ∷ []) (becomes (record s { contents = c ∷ s.contents }) say.Kept))
+      by_tests : (b full : Bool) → is_kept s.contents (content_hash c) ≡ b → Gives (if b then answer_alone s say.Kept else answer_by_tests s ((7, full) ∷ []) (answer_with_change (record s { contents = c ∷ s.contents }) say.Kept))
       by_tests true full e =
           let found = found_there (has (content_hash c)) s.contents e in
           stays_so (kept_does s c go refl refl refl (record { content = found.0; found = found.1; long = ap length (one found.0 found.1) }))
@@ -531,10 +531,10 @@ module _ (g : Group) (s : Server) (k : ServerKnows g s) (me : ℕ) (above : 0 < 
 
   fetch_answers : (h : List ℕ) → FetchGoes me s t newer h → Gives (serve_read s me (Some (request_of g me t (Fetches h))))
   fetch_answers h go =
-      let a : Answered = says s (content_with s.contents h) in
+      let a : Answered = answer_alone s (content_with s.contents h) in
       subst Gives (sym (guard_ok s 6 (is_member s me) _ (is_inside-here stage.Ready go.calm.ready refl)
       ∙ guard_ok s 5 (is_ready (member s me).stage && same_mode s.mode mode.Objects) a (objects_ok go.calm.ready go.objects)
-      ∙ ap (λ o. says s (elim o [ Some c ↦ say.Content c | None ↦ say.Absent ])) go.kept.found)) (record {
+      ∙ ap (λ o. answer_alone s (elim o [ Some c ↦ say.Content c | None ↦ say.Absent ])) go.kept.found)) (record {
         new = [];
         knows = k;
         keeps = keeps;
@@ -553,17 +553,17 @@ module _ (g : Group) (s : Server) (k : ServerKnows g s) (me : ℕ) (above : 0 < 
 
   -- what they are answered
   pub keep_is : (c : List ℕ) → KeepGoes me s t newer c → serve_read s me (Some (request_of g me t (Contains c)))
-      ≡ (if is_kept s.contents (content_hash c) then says s say.Kept
-      else guarded s ((7, not (nat_le 1048576 (length s.contents)) && nat_le (sum_by length s.contents + length c) 1073741824) ∷ []) (becomes (record s { contents = c ∷ s.contents }) say.Kept))
+      ≡ (if is_kept s.contents (content_hash c) then answer_alone s say.Kept
+      else answer_by_tests s ((7, not (nat_le 1048576 (length s.contents)) && nat_le (sum_by length s.contents + length c) 1073741824) ∷ []) (answer_with_change (record s { contents = c ∷ s.contents }) say.Kept))
   keep_is c go =
       guard_ok s 6 (is_member s me) _ (is_inside-here stage.Ready go.calm.ready refl)
       ∙ guard_ok s 5 (is_ready (member s me).stage && same_mode s.mode mode.Objects) _ (objects_ok go.calm.ready go.objects)
 
-  pub fetch_is : (h : List ℕ) (go : FetchGoes me s t newer h) → serve_read s me (Some (request_of g me t (Fetches h))) ≡ says s (say.Content go.kept.content)
+  pub fetch_is : (h : List ℕ) (go : FetchGoes me s t newer h) → serve_read s me (Some (request_of g me t (Fetches h))) ≡ answer_alone s (say.Content go.kept.content)
   fetch_is h go =
       guard_ok s 6 (is_member s me) _ (is_inside-here stage.Ready go.calm.ready refl)
-      ∙ guard_ok s 5 (is_ready (member s me).stage && same_mode s.mode mode.Objects) (says s (content_with s.contents h)) (objects_ok go.calm.ready go.objects)
-      ∙ ap (λ o. says s (elim o [ Some c ↦ say.Content c | None ↦ say.Absent ])) go.kept.found
+      ∙ guard_ok s 5 (is_ready (member s me).stage && same_mode s.mode mode.Objects) (answer_alone s (content_with s.contents h)) (objects_ok go.calm.ready go.objects)
+      ∙ ap (λ o. answer_alone s (elim o [ Some c ↦ say.Content c | None ↦ say.Absent ])) go.kept.found
 
   -- of a content that is sent the server keeps no other with its hash
   abbrev pub IsOne : Sending → Type 0

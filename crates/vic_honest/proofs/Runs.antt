@@ -11,7 +11,7 @@ use Rattle.vic_dict.specs.declared.op.Outcome.TheVariants as outcome
 use Rattle.vic_dict.specs.Dictionary.{Dictionary, after}
 use Rattle.vic_wire.specs.Trees.{dictionary_root}
 use Rattle.vic_rules.specs.declared.trace.Shown.{Shown}
-use Rattle.vic_rules.specs.Client.{is_done, decided, in_the_way}
+use Rattle.vic_rules.specs.Client.{is_done, decided_outcome, in_the_way}
 use Rattle.vic_rules.specs.History.{completions, Completion, IsLawful}
 use Rattle.vic_rules.specs.Views.{left_by, outcome_leaves, Explains}
 use Rattle.vic_laws.proofs.Words.{all_at}
@@ -107,7 +107,7 @@ aborts_leave_nothing o below e = dictionary-next o below ∙ ap (λ b. if b then
 
 -- ---- one legal history
 
-decided_explains : (w : Option ℕ) (d : Dictionary) (x : Shown) → Explains d x (decided w d x.entry.op)
+decided_explains : (w : Option ℕ) (d : Dictionary) (x : Shown) → Explains d x (decided_outcome w d x.entry.op)
 decided_explains None d x = refl
 decided_explains (Some u) d x = tt
 

@@ -24,9 +24,9 @@ use Rattle.vic_rules.specs.Client.{Standing, Sending, Invokes, Commits, Polls, S
 use Rattle.vic_rules.specs.History.{standing}
 use Rattle.vic_rules.specs.Trust.{content_sent, texts_made}
 use Rattle.vic_order.specs.declared.Stage.TheVariants as stage
-use Rattle.vic_order.specs.Order.{Ordered, Server, Answered, says, becomes, guarded, unless_refused, size, sealed_count, weight, op_weight, member, is_member, is_ready, is_open_at, is_put, same_mode, owns_committed, ordered_at, commit_at, seal_at_position, is_kept, content_with, set_stage, with_commit, with_seal, turn, top_seal, entries_above, ordered_next, fresh_server, ready, serve_read, serve}
+use Rattle.vic_order.specs.Order.{Ordered, Server, Answered, answer_alone, answer_with_change, answer_by_tests, answer_unless_refused, size, sealed_count, weight, op_weight, member, is_member, is_ready, is_open_at, is_put, same_mode, owns_committed, ordered_at, commit_at, seal_at_position, is_kept, content_with, set_stage, with_commit, with_seal, turn, top_seal, entries_above, ordered_next, fresh_server, ready_member, serve_read, serve}
 use Rattle.vic_order.specs.Serving.{by_rule}
-use Rattle.vic_order.specs.Scenes.{Queue, Scene, opening, queue_of, set_queue, queued, server_at, server_of, steps, served_with, served, serves, taken, takes, unchanged, Event, Asks, Serves, Takes, Flips, Hears, Resends, Copies, Joins, happens, MayAsk}
+use Rattle.vic_order.specs.Scenes.{Queue, Scene, opening, queue_of, set_queue, queue_with, server_at, server_of, after_step, after_serving_with, after_serving_from, after_serving, after_taking_from, after_taking, payload_as_is, Event, Asks, Serves, Takes, Flips, Hears, Resends, Copies, Joins, after_event, MayAsk}
 use Rattle.vic_order.specs.Honest.{MayHonestly, scene_after, AreHonest}
 use Rattle.vic_spellings.proofs.SpelledRequests.{request_again}
 use Rattle.vic_laws.proofs.Words.{in_left, in_right}
@@ -64,7 +64,7 @@ abbrev head_or : List (List ℕ) → List ℕ
 head_or [] = []
 head_or (x ∷ xs) = x
 
-queue_keep : (g : Group) (me : ℕ) (t : Standing) (sends : Option Sending) (c : List ℕ) (rest : List (List ℕ)) → queued [] (payload_of g me t sends) ≡ request_text (ask.Keep c) ∷ rest → IsIn (content_sent sends) c
+queue_keep : (g : Group) (me : ℕ) (t : Standing) (sends : Option Sending) (c : List ℕ) (rest : List (List ℕ)) → queue_with [] (payload_of g me t sends) ≡ request_text (ask.Keep c) ∷ rest → IsIn (content_sent sends) c
 queue_keep g me t None c rest e = absurd cc
 queue_keep g me t (Some sending) c rest e = sent_keep g me t sending c (ap head_or e)
 
@@ -77,18 +77,18 @@ pub record IsSent (g : Group) (w : World) : Type 0 where
 abbrev pub SceneSent : Scene → Server → Type 0
 SceneSent s server = IsSent s.group (world_of s server)
 
-step_sent : (s : Scene) (server : Server) → HasOne s server → (me : ℕ) → 0 < me → me ≤ s.group.count → (i : Input) (down : List Queue) → SceneSent s server → queue_of s.up me ≡ [] → SceneSent (steps (record s { down = down }) me i) server
-unfolding steps
+step_sent : (s : Scene) (server : Server) → HasOne s server → (me : ℕ) → 0 < me → me ≤ s.group.count → (i : Input) (down : List Queue) → SceneSent s server → queue_of s.up me ≡ [] → SceneSent (after_step (record s { down = down }) me i) server
+unfolding after_step
 step_sent s server one me above upto i down sent nothing =
     let g : Group = s.group in
     let w : World = world_of s server in
     let v : Move = move g w me i in
-    let joined : Queue = queued (queue_of s.up me) (payload_of g me v.next v.sends) in
+    let joined : Queue = queue_with (queue_of s.up me) (payload_of g me v.next v.sends) in
     record {
       waits = λ j low high c rest at. subst (λ l. IsIn l c) (sym (sent_more g w me i)) (elim (cases_eq j me) [
         | inl mine ↦
-            let queue : queued [] (payload_of g me v.next v.sends) ≡ request_text (ask.Keep c) ∷ rest =
-            sym (ap (queue_of (set_queue s.up me joined)) mine ∙ queue-set_same s.up me joined above (omega (arith, upto, one.up_count)) ∙ ap (λ q. queued q (payload_of g me v.next v.sends)) nothing) ∙ at in
+            let queue : queue_with [] (payload_of g me v.next v.sends) ≡ request_text (ask.Keep c) ∷ rest =
+            sym (ap (queue_of (set_queue s.up me joined)) mine ∙ queue-set_same s.up me joined above (omega (arith, upto, one.up_count)) ∙ ap (λ q. queue_with q (payload_of g me v.next v.sends)) nothing) ∙ at in
             in_left (content_sent v.sends) (contents_sent g w.history) c (queue_keep g me v.next v.sends c rest queue)
         | inr apart ↦
             in_right (content_sent v.sends) (contents_sent g w.history) c
@@ -105,18 +105,18 @@ record Adds (s : Server) (m : ToServer) (a : Answered) : Type 0 where
 adds_none : (s : Server) (m : ToServer) (a : Answered) → a.next.contents ≡ s.contents → Adds s m a
 adds_none s m a e = record { adds = λ x i. inl (subst (λ l. IsIn l x) e i) }
 
-unless_adds : (s : Server) (m : ToServer) (failing : Option ℕ) (a : Answered) → Adds s m a → Adds s m (unless_refused s failing a)
-unless_adds s m (Some r) a h = adds_none s m (says s (say.Refused r)) refl
+unless_adds : (s : Server) (m : ToServer) (failing : Option ℕ) (a : Answered) → Adds s m a → Adds s m (answer_unless_refused s failing a)
+unless_adds s m (Some r) a h = adds_none s m (answer_alone s (say.Refused r)) refl
 unless_adds s m None a h = h
 
-keep_adds : (s : Server) (c : List ℕ) (b full : Bool) → Adds s (ask.Keep c) (if b then says s say.Kept else guarded s ((7, full) ∷ []) (becomes (record s { contents = c ∷ s.contents }) say.Kept))
-keep_adds s c true full = adds_none s (ask.Keep c) (says s say.Kept) refl
+keep_adds : (s : Server) (c : List ℕ) (b full : Bool) → Adds s (ask.Keep c) (if b then answer_alone s say.Kept else answer_by_tests s ((7, full) ∷ []) (answer_with_change (record s { contents = c ∷ s.contents }) say.Kept))
+keep_adds s c true full = adds_none s (ask.Keep c) (answer_alone s say.Kept) refl
 keep_adds s c false true = record { adds = λ x i. elim i [ inl e ↦ inr (ap ask.Keep e) | inr k ↦ inl k ] }
-keep_adds s c false false = adds_none s (ask.Keep c) (says s (say.Refused 7)) refl
+keep_adds s c false false = adds_none s (ask.Keep c) (answer_alone s (say.Refused 7)) refl
 
 -- a client that has come in, and the tests of its request
-both_adds : (s : Server) (me : ℕ) (m : ToServer) (tests : List (ℕ × Bool)) (a : Answered) → Adds s m a → Adds s m (guarded s ((6, is_member s me) ∷ []) (guarded s tests a))
-both_adds s me m tests a h = unless_adds s m (first_failing ((6, is_member s me) ∷ [])) (guarded s tests a) (unless_adds s m (first_failing tests) a h)
+both_adds : (s : Server) (me : ℕ) (m : ToServer) (tests : List (ℕ × Bool)) (a : Answered) → Adds s m a → Adds s m (answer_by_tests s ((6, is_member s me) ∷ []) (answer_by_tests s tests a))
+both_adds s me m tests a h = unless_adds s m (first_failing ((6, is_member s me) ∷ [])) (answer_by_tests s tests a) (unless_adds s m (first_failing tests) a h)
 
 read_adds : (s : Server) (me : ℕ) (g : Group) (t : Standing) (sending : Sending) → Adds s (request_of g me t sending) (serve_read s me (Some (request_of g me t sending)))
 read_adds s me g t (Invokes n o) =
@@ -124,25 +124,25 @@ read_adds s me g t (Invokes n o) =
     let next : Server = ordered_next s me n o tag in
     both_adds s me (ask.Invoke (length t.path) n o tag) ((5, is_ready (member s me).stage && (nat_lt (member s me).last n && nat_le (length t.path) (size s)))
     ∷ (4, not (nat_eq (size s) 1048576)) ∷ (2, not (nat_eq (size s - sealed_count s) 1024)) ∷ (3, not (is_put o) || nat_le (weight s + op_weight o) 8388608) ∷ (1, nat_le ((size s + 1) - length t.path) 8192) ∷ [])
-    (becomes next (say.Reply (top_seal s) (entries_above (length t.path) next.log) (part_for s.dictionary o))) (adds_none s _ (becomes next (say.Reply (top_seal s) (entries_above (length t.path) next.log) (part_for s.dictionary o))) refl)
+    (answer_with_change next (say.Reply (top_seal s) (entries_above (length t.path) next.log) (part_for s.dictionary o))) (adds_none s _ (answer_with_change next (say.Reply (top_seal s) (entries_above (length t.path) next.log) (part_for s.dictionary o))) refl)
 read_adds s me g t (Commits done) =
     let next : Server = set_stage (with_commit s (length t.path) done (tag_for g (commit_text_on g t.path done))) me stage.Ready in
-    both_adds s me (request_of g me t (Commits done)) ((5, is_open_at (length t.path) (member s me).stage) ∷ []) (becomes next (turn next me)) (adds_none s (request_of g me t (Commits done)) (becomes next (turn next me)) refl)
-read_adds s me g t Polls = both_adds s me ask.Poll ((5, is_ready (member s me).stage) ∷ []) (says s (turn s me)) (adds_none s ask.Poll (says s (turn s me)) refl)
+    both_adds s me (request_of g me t (Commits done)) ((5, is_open_at (length t.path) (member s me).stage) ∷ []) (answer_with_change next (turn next me)) (adds_none s (request_of g me t (Commits done)) (answer_with_change next (turn next me)) refl)
+read_adds s me g t Polls = both_adds s me ask.Poll ((5, is_ready (member s me).stage) ∷ []) (answer_alone s (turn s me)) (adds_none s ask.Poll (answer_alone s (turn s me)) refl)
 read_adds s me g t Seals =
     let x : Seal = record { position = t.sealed; root = digest t.root; tag = tag_for g (seal_text_on g t.path t.sealed t.root) } in
     let next : Server = with_seal s x in
     both_adds s me (request_of g me t Seals) ((5, is_ready (member s me).stage && (nat_eq t.sealed (sealed_count s + 1) && owns_committed me (ordered_at s t.sealed) (commit_at s t.sealed))) ∷ [])
-    (becomes next (turn next me)) (adds_none s (request_of g me t Seals) (becomes next (turn next me)) refl)
+    (answer_with_change next (turn next me)) (adds_none s (request_of g me t Seals) (answer_with_change next (turn next me)) refl)
 read_adds s me g t Syncs =
     let e : ℕ = min (size s) (length t.path + 8192) in
-    let a : Answered = says s (say.Entries (seal_at_position s (min (sealed_count s) e)) (entries_above (length t.path) (front e s.log))) in
+    let a : Answered = answer_alone s (say.Entries (seal_at_position s (min (sealed_count s) e)) (entries_above (length t.path) (front e s.log))) in
     both_adds s me (request_of g me t Syncs) ((5, is_ready (member s me).stage && nat_le (length t.path) (size s)) ∷ []) a (adds_none s (request_of g me t Syncs) a refl)
 read_adds s me g t (Keeps c) =
     both_adds s me (ask.Keep c) ((5, is_ready (member s me).stage && same_mode s.mode mode.Objects) ∷ []) _
     (keep_adds s c (is_kept s.contents (content_hash c)) (not (nat_le 1048576 (length s.contents)) && nat_le (sum_by length s.contents + length c) 1073741824))
 read_adds s me g t (Fetches h) =
-    let a : Answered = says s (content_with s.contents h) in
+    let a : Answered = answer_alone s (content_with s.contents h) in
     both_adds s me (request_of g me t (Fetches h)) ((5, is_ready (member s me).stage && same_mode s.mode mode.Objects) ∷ []) a (adds_none s (request_of g me t (Fetches h)) a refl)
 
 serve_adds : (s : Server) (me : ℕ) (g : Group) (t : Standing) (sending : Sending) → HasRequestSpelling (request_of g me t sending) → Adds s (request_of g me t sending) (serve s me (request_text (request_of g me t sending)))
@@ -160,14 +160,14 @@ module _ (s : Scene) (server : Server) (fit : SceneFits s server) (sent : SceneS
   abbrev here : Standing
   here = standing s.group me s.history
 
-  asks_sent : (i : Input) → MayAsk s me i → SceneSent (steps s me i) server
+  asks_sent : (i : Input) → MayAsk s me i → SceneSent (after_step s me i) server
   asks_sent i may =
       let c : ClientFits s.group (texts_made s.group s.history) me server.log here (queue_of s.up me) (queue_of s.down me) = fit.fits.clients me above upto in
       step_sent s server fit.one me above upto i s.down sent
       (idle_rests s.group me here (queue_of s.up me) (queue_of s.down me) c.doing (and_parts (awaits_nothing here.awaiting) (is_none here.halted) (ask_idle s me i may)).0 c.busy c.up_is c.down_is).0
 
   sent_sent : (sending : Sending) → HasRequestSpelling (request_of s.group me here sending) → (payload : List ℕ) → request_text (request_of s.group me here sending) ≡ payload → queue_of s.up me ≡ payload ∷ []
-      → SceneSent (served_with s me [] (by_rule server me me payload)) (serve server me payload).next
+      → SceneSent (after_serving_with s me [] (by_rule server me me payload)) (serve server me payload).next
   sent_sent sending spelled payload payload_is up_is = record {
     waits = λ j low high c rest at. elim (cases_eq j me) [
       | inl mine ↦
@@ -183,30 +183,30 @@ module _ (s : Scene) (server : Server) (fit : SceneFits s server) (sent : SceneS
   }
 
   serves_by : (queue_of s.up me ≡ [] → ⊥) → (seen newer : List Ordered) (doing : Doing) → queue_of s.up me ≡ up_by s.group me here doing
-      → Does s.group (texts_made s.group s.history) me server.log here seen newer doing → SceneSent (serves by_rule s me) (served_next server me (queue_of s.up me))
-  unfolding serves
+      → Does s.group (texts_made s.group s.history) me server.log here seen newer doing → SceneSent (after_serving by_rule s me) (served_next server me (queue_of s.up me))
+  unfolding after_serving
   serves_by waits seen newer Rests up_is does = absurd (waits up_is)
   serves_by waits seen newer (Gets m) up_is does = absurd (waits up_is)
   serves_by waits seen newer (Sends sending) up_is does =
       let payload : List ℕ = request_text (request_of s.group me here sending) in
-      subst (λ q. SceneSent (served by_rule s me q (server_at s.servers (server_of s.served_by me))) (served_next server me q)) (sym up_is)
-      (subst (λ o. SceneSent (served by_rule s me (payload ∷ []) o) (serve server me payload).next) (sym (server_is s server fit.one me above upto))
+      subst (λ q. SceneSent (after_serving_from by_rule s me q (server_at s.servers (server_of s.served_by me))) (served_next server me q)) (sym up_is)
+      (subst (λ o. SceneSent (after_serving_from by_rule s me (payload ∷ []) o) (serve server me payload).next) (sym (server_is s server fit.one me above upto))
       (sent_sent sending does.spelled payload refl up_is))
 
-  serves_sent : (queue_of s.up me ≡ [] → ⊥) → SceneSent (serves by_rule s me) (served_next server me (queue_of s.up me))
+  serves_sent : (queue_of s.up me ≡ [] → ⊥) → SceneSent (after_serving by_rule s me) (served_next server me (queue_of s.up me))
   serves_sent waits = let c = fit.fits.clients me above upto in serves_by waits c.seen c.newer c.doing c.up_is c.does
 
-  takes_by : (queue_of s.down me ≡ [] → ⊥) → (doing : Doing) → queue_of s.up me ≡ up_by s.group me here doing → queue_of s.down me ≡ down_by doing → SceneSent (takes unchanged s me) server
-  unfolding takes
+  takes_by : (queue_of s.down me ≡ [] → ⊥) → (doing : Doing) → queue_of s.up me ≡ up_by s.group me here doing → queue_of s.down me ≡ down_by doing → SceneSent (after_taking payload_as_is s me) server
+  unfolding after_taking
   takes_by waits Rests up_is down_is = absurd (waits down_is)
   takes_by waits (Sends sending) up_is down_is = absurd (waits down_is)
   takes_by waits (Gets m) up_is down_is =
-      subst (λ q. SceneSent (taken unchanged s me q) server) (sym down_is) (step_sent s server fit.one me above upto (input.Payload (answer_text m)) (set_queue s.down me []) sent up_is)
+      subst (λ q. SceneSent (after_taking_from payload_as_is s me q) server) (sym down_is) (step_sent s server fit.one me above upto (input.Payload (answer_text m)) (set_queue s.down me []) sent up_is)
 
-  takes_sent : (queue_of s.down me ≡ [] → ⊥) → SceneSent (takes unchanged s me) server
+  takes_sent : (queue_of s.down me ≡ [] → ⊥) → SceneSent (after_taking payload_as_is s me) server
   takes_sent waits = let c = fit.fits.clients me above upto in takes_by waits c.doing c.up_is c.down_is
 
-happens_sent : (s : Scene) (server : Server) → SceneFits s server → SceneSent s server → (m : Event) → MayHonestly s m → SceneSent (happens by_rule s m) (server_next s server m)
+happens_sent : (s : Scene) (server : Server) → SceneFits s server → SceneSent s server → (m : Event) → MayHonestly s m → SceneSent (after_event by_rule s m) (server_next s server m)
 happens_sent s server fit sent (Asks me i) may = asks_sent s server fit sent me may.1.0 may.1.1 i may.1.2
 happens_sent s server fit sent (Serves me) may = serves_sent s server fit sent me may.1.0 may.1.1 may.1.2
 happens_sent s server fit sent (Takes me) may = takes_sent s server fit sent me may.1.0 may.1.1 may.1.2
@@ -216,7 +216,7 @@ happens_sent s server fit sent (Resends me) may = absurd may.0
 happens_sent s server fit sent (Copies n t) may = absurd may.0
 happens_sent s server fit sent (Joins me n) may = absurd may.0
 
-opening_sent : (g : Group) → SceneSent (opening g) (fresh_server g.mode g.count ready)
+opening_sent : (g : Group) → SceneSent (opening g) (fresh_server g.mode g.count ready_member)
 opening_sent g = record {
   waits = λ me low high c rest at. let none : ◌≡◌ {A = List (List ℕ)} [] (request_text (ask.Keep c) ∷ rest) = sym (queue-fresh g.count me) ∙ at in absurd cc;
   kept = λ c i. absurd i;
@@ -258,28 +258,28 @@ record SendsMore (g : Group) (h : List TraceStep) (k : Group) (l : List TraceSte
   same : k ≡ g
   more : (c : List ℕ) → IsIn (contents_sent g h) c → IsIn (contents_sent k l) c
 
-step_more : (s : Scene) (me : ℕ) (i : Input) → SendsMore s.group s.history (steps s me i).group (steps s me i).history
-unfolding steps contents_sent
+step_more : (s : Scene) (me : ℕ) (i : Input) → SendsMore s.group s.history (after_step s me i).group (after_step s me i).history
+unfolding after_step contents_sent
 step_more s me i = record { same = refl; more = λ c h. in_right _ (contents_sent s.group s.history) c h }
 
-served_more : (s : Scene) (me : ℕ) (q : Queue) (o : Option Server) → SendsMore s.group s.history (served by_rule s me q o).group (served by_rule s me q o).history
+served_more : (s : Scene) (me : ℕ) (q : Queue) (o : Option Server) → SendsMore s.group s.history (after_serving_from by_rule s me q o).group (after_serving_from by_rule s me q o).history
 served_more s me [] o = record { same = refl; more = λ c h. h }
 served_more s me (payload ∷ rest) None = record { same = refl; more = λ c h. h }
 served_more s me (payload ∷ rest) (Some server) = record { same = refl; more = λ c h. h }
 
-serves_more : (s : Scene) (me : ℕ) → SendsMore s.group s.history (serves by_rule s me).group (serves by_rule s me).history
-unfolding serves
+serves_more : (s : Scene) (me : ℕ) → SendsMore s.group s.history (after_serving by_rule s me).group (after_serving by_rule s me).history
+unfolding after_serving
 serves_more s me = served_more s me (queue_of s.up me) (server_at s.servers (server_of s.served_by me))
 
-taken_more : (s : Scene) (me : ℕ) (q : Queue) → SendsMore s.group s.history (taken unchanged s me q).group (taken unchanged s me q).history
+taken_more : (s : Scene) (me : ℕ) (q : Queue) → SendsMore s.group s.history (after_taking_from payload_as_is s me q).group (after_taking_from payload_as_is s me q).history
 taken_more s me [] = record { same = refl; more = λ c h. h }
 taken_more s me (payload ∷ rest) = step_more (record s { down = set_queue s.down me rest }) me (input.Payload payload)
 
-takes_more : (s : Scene) (me : ℕ) → SendsMore s.group s.history (takes unchanged s me).group (takes unchanged s me).history
-unfolding takes
+takes_more : (s : Scene) (me : ℕ) → SendsMore s.group s.history (after_taking payload_as_is s me).group (after_taking payload_as_is s me).history
+unfolding after_taking
 takes_more s me = taken_more s me (queue_of s.down me)
 
-event_more : (s : Scene) (m : Event) → MayHonestly s m → SendsMore s.group s.history (happens by_rule s m).group (happens by_rule s m).history
+event_more : (s : Scene) (m : Event) → MayHonestly s m → SendsMore s.group s.history (after_event by_rule s m).group (after_event by_rule s m).history
 event_more s (Asks me i) may = step_more s me i
 event_more s (Serves me) may = serves_more s me
 event_more s (Takes me) may = takes_more s me
@@ -289,7 +289,7 @@ event_more s (Resends me) may = absurd may.0
 event_more s (Copies n t) may = absurd may.0
 event_more s (Joins me n) may = absurd may.0
 
-pub apart_front : (s : Scene) (m : Event) → MayHonestly s m → IsApart (happens by_rule s m) → IsApart s
+pub apart_front : (s : Scene) (m : Event) → MayHonestly s m → IsApart (after_event by_rule s m) → IsApart s
 apart_front s m may apart objects k =
     let more = event_more s m may in
     apart (ap (λ g. g.mode) more.same ∙ objects) (record {

@@ -28,7 +28,7 @@ use Rattle.vic_roots.proofs.Proper.{proper-after}
 use Rattle.vic_honest.proofs.SentParts.{sent_for, sent_update}
 use Rattle.vic_laws.proofs.Words.{all_weaker, all_append, in_either}
 use Rattle.vic_order.specs.declared.Stage.TheVariants as stage
-use Rattle.vic_order.specs.Order.{Ordered, Server, Answered, says, becomes, guarded, unless_refused, size, sealed_count, no_seal, seal_at_position, top_seal, ordered_at, commit_at, member, set_stage, is_ready, is_open_at, is_put, is_member, op_weight, weight, tagged, entries_above, turn, turn_on, update_part, with_commit, with_seal, owns_committed, applied_to, ordered_next, is_kept, content_with, same_mode, on_request, serve_read, serve}
+use Rattle.vic_order.specs.Order.{Ordered, Server, Answered, answer_alone, answer_with_change, answer_by_tests, answer_unless_refused, size, sealed_count, no_seal, seal_at_position, top_seal, ordered_at, commit_at, member, set_stage, is_ready, is_open_at, is_put, is_member, op_weight, weight, tagged_entry, entries_above, turn, turn_on, update_part, with_commit, with_seal, owns_committed, applied_to, ordered_next, is_kept, content_with, same_mode, on_request, serve_read, serve}
 use Rattle.vic_order.specs.Fates.{entries}
 use Rattle.vic_honest.proofs.Words.{front-entries, length-entries, told, above-told, length-told, all-first, all-drop, newest_seal, all-newest, AreMade}
 use Rattle.vic_honest.proofs.Spoken.{TaggedBytes, seal_bytes, entries_bytes, tag_bytes}
@@ -69,7 +69,7 @@ first_seal_fits g made log = record {
 -- ---- guarded answers
 
 module _ (P : Answered → Type 0) (s : Server) where
-  pub passed : (first : Option ℕ) (a : Answered) → ((r : ℕ) → first ≡ Some r → P (says s (say.Refused r))) → (first ≡ None → P a) → P (unless_refused s first a)
+  pub passed : (first : Option ℕ) (a : Answered) → ((r : ℕ) → first ≡ Some r → P (answer_alone s (say.Refused r))) → (first ≡ None → P a) → P (answer_unless_refused s first a)
   passed (Some r) a refuses goes = refuses r refl
   passed None a refuses goes = goes refl
 
@@ -100,11 +100,11 @@ pub record Served (g : Group) (made : List (List ℕ)) (log seen newer : List Or
 
 tagged_told : (made : List (List ℕ)) (new : List Ordered) → AllByRecursion (EntryFits made) new → AllByRecursion IsTagged (told new)
 tagged_told made [] h = tt
-tagged_told made (o ∷ new) h = all_append IsTagged (told new) (tagged o ∷ []) (tagged_told made new h.1) (record { entry = h.0.spelled; tag = h.0.tag }, tt)
+tagged_told made (o ∷ new) h = all_append IsTagged (told new) (tagged_entry o ∷ []) (tagged_told made new h.1) (record { entry = h.0.spelled; tag = h.0.tag }, tt)
 
 bytes_told : (made : List (List ℕ)) (new : List Ordered) → AllByRecursion (EntryFits made) new → AllByRecursion TaggedBytes (told new)
 bytes_told made [] h = tt
-bytes_told made (o ∷ new) h = all_append TaggedBytes (told new) (tagged o ∷ []) (bytes_told made new h.1) (record { entry = h.0.spelled; tag = h.0.tag_bytes }, tt)
+bytes_told made (o ∷ new) h = all_append TaggedBytes (told new) (tagged_entry o ∷ []) (bytes_told made new h.1) (record { entry = h.0.spelled; tag = h.0.tag_bytes }, tt)
 
 abbrev text_of : Tagged → List ℕ
 text_of t = invoke_text t.entry
@@ -112,7 +112,7 @@ text_of t = invoke_text t.entry
 made_told : (made : List (List ℕ)) (new : List Ordered) → AllByRecursion (EntryFits made) new → AreMade made (map text_of (told new))
 made_told made [] h text i = absurd i
 made_told made (o ∷ new) h text i =
-    elim (in_either (map text_of (told new)) (text_of (tagged o) ∷ []) text (subst (λ texts. IsIn texts text) (map-append text_of (told new) (tagged o ∷ [])) i)) [
+    elim (in_either (map text_of (told new)) (text_of (tagged_entry o) ∷ []) text (subst (λ texts. IsIn texts text) (map-append text_of (told new) (tagged_entry o ∷ [])) i)) [
       | inl a ↦ made_told made new h.1 text a
       | inr b ↦ elim b [ inl e ↦ subst (IsIn made) e h.0.text | inr c ↦ absurd c ]
     ]
@@ -214,10 +214,10 @@ module _ (g : Group) (group : IsGroup g) (made : List (List ℕ)) (s : Server) (
   Gives a = Served g made s.log seen newer a
 
   -- it answers, and stays as it is
-  stays : (m : ToClient) → AnswerComes g made s.log seen newer m → Gives (says s m)
+  stays : (m : ToClient) → AnswerComes g made s.log seen newer m → Gives (answer_alone s m)
   stays m comes = record { new = []; is = refl; server = stands; answer = comes }
 
-  refuses : (tests : List (ℕ × Bool)) (a : Answered) → AreReasons tests → (first_failing tests ≡ None → Gives a) → Gives (guarded s tests a)
+  refuses : (tests : List (ℕ × Bool)) (a : Answered) → AreReasons tests → (first_failing tests ≡ None → Gives a) → Gives (answer_by_tests s tests a)
   refuses tests a reasons goes = passed Gives s (first_failing tests) a
       (λ r e. let limit = reason_is tests r reasons e in
       stays (say.Refused r) (plain_comes g made s.log seen newer (say.Refused r) refl refl limit (bytes-cons 0x46 (r ∷ []) (omega arith) (bytes-cons r [] (omega (arith, limit.1)) bytes-nil))))
@@ -255,7 +255,7 @@ module _ (g : Group) (group : IsGroup g) (made : List (List ℕ)) (s : Server) (
         tag_bytes = tag_bytes g.key (invoke_text (record { client = me; seq = n; op = o }));
         text = goes.texts (invoke_text (record { client = me; seq = n; op = o })) (inl refl);
       } in
-      refuses tests (becomes next answer)
+      refuses tests (answer_with_change next answer)
       ((omega arith, omega arith), ((omega arith, omega arith), ((omega arith, omega arith), ((omega arith, omega arith), ((omega arith, omega arith), tt)))))
       (λ ok.
       let p5 = test_passed (is_ready (member s me).stage && (nat_lt (member s me).last n && nat_le (length t.path) (size s))) 5 _ ok in
@@ -291,11 +291,11 @@ module _ (g : Group) (group : IsGroup g) (made : List (List ℕ)) (s : Server) (
   commit_served done =
       let next : Server = set_stage (with_commit s (length t.path) done (tag_for g (commit_text_on g t.path done))) me stage.Ready in
       let fit : ServerFits g made next = record { log = stands.log; seals = stands.seals; dictionary = stands.dictionary; room = stands.room; contents = stands.contents } in
-      refuses ((5, is_open_at (length t.path) (member s me).stage) ∷ []) (becomes next (turn next me)) ((omega arith, omega arith), tt)
+      refuses ((5, is_open_at (length t.path) (member s me).stage) ∷ []) (answer_with_change next (turn next me)) ((omega arith, omega arith), tt)
       (λ ok. record { new = []; is = refl; server = fit; answer = turn_comes g made next me seen newer fit })
 
   poll_served : Gives (on_request s me (request_of g me t Polls))
-  poll_served = refuses ((5, is_ready (member s me).stage) ∷ []) (says s (turn s me)) ((omega arith, omega arith), tt) (λ ok. stays (turn s me) (turn_comes g made s me seen newer stands))
+  poll_served = refuses ((5, is_ready (member s me).stage) ∷ []) (answer_alone s (turn s me)) ((omega arith, omega arith), tt) (λ ok. stays (turn s me) (turn_comes g made s me seen newer stands))
 
   seal_served : RequestGoes g made me t Seals → Gives (on_request s me (request_of g me t Seals))
   seal_served goes =
@@ -325,7 +325,7 @@ module _ (g : Group) (group : IsGroup g) (made : List (List ℕ)) (s : Server) (
         contents = stands.contents;
       } in
       refuses ((5, is_ready (member s me).stage && (nat_eq t.sealed (sealed_count s + 1) && owns_committed me (ordered_at s t.sealed) (commit_at s t.sealed))) ∷ [])
-      (becomes next (turn next me)) ((omega arith, omega arith), tt)
+      (answer_with_change next (turn next me)) ((omega arith, omega arith), tt)
       (λ ok. record { new = []; is = refl; server = fit; answer = turn_comes g made next me seen newer fit })
 
   sync_served : Gives (on_request s me (request_of g me t Syncs))
@@ -338,7 +338,7 @@ module _ (g : Group) (group : IsGroup g) (made : List (List ℕ)) (s : Server) (
       ap (λ n. entries_above n (drop k s.log)) length-path
       ∙ ap (λ l. entries_above (length seen) l) (ap (drop k) is ∙ drop-append-le k newer seen few)
       ∙ above-told (drop k newer) seen in
-      refuses ((5, is_ready (member s me).stage && nat_le (length t.path) (size s)) ∷ []) (says s (say.Entries x (entries_above (length t.path) (front e s.log)))) ((omega arith, omega arith), tt)
+      refuses ((5, is_ready (member s me).stage && nat_le (length t.path) (size s)) ∷ []) (answer_alone s (say.Entries x (entries_above (length t.path) (front e s.log)))) ((omega arith, omega arith), tt)
       (λ ok. stays (say.Entries x (entries_above (length t.path) (front e s.log)))
       (subst (λ ts. AnswerComes g made s.log seen newer (say.Entries x ts)) (sym told_is)
       (entries_come g made s.log seen newer (take k newer) (drop k newer) x (sym (take-append-drop k newer)) (seal_fits g made s (min (sealed_count s) e) stands)
@@ -346,10 +346,10 @@ module _ (g : Group) (group : IsGroup g) (made : List (List ℕ)) (s : Server) (
 
   -- a content is kept, or was, or there is no room
   kept_is : (content : List ℕ) → AreBytes content → length content ≤ 8388608 → (b c : Bool)
-      → Gives (if b then says s say.Kept else guarded s ((7, c) ∷ []) (becomes (record s { contents = content ∷ s.contents }) say.Kept))
+      → Gives (if b then answer_alone s say.Kept else answer_by_tests s ((7, c) ∷ []) (answer_with_change (record s { contents = content ∷ s.contents }) say.Kept))
   kept_is content bytes small true c = stays say.Kept (plain_comes g made s.log seen newer say.Kept refl refl tt (bytes-cons 0x47 [] (omega arith) bytes-nil))
   kept_is content bytes small false c =
-      refuses ((7, c) ∷ []) (becomes (record s { contents = content ∷ s.contents }) say.Kept) ((omega arith, omega arith), tt)
+      refuses ((7, c) ∷ []) (answer_with_change (record s { contents = content ∷ s.contents }) say.Kept) ((omega arith, omega arith), tt)
       (λ ok. record {
         new = [];
         is = refl;
@@ -364,7 +364,7 @@ module _ (g : Group) (group : IsGroup g) (made : List (List ℕ)) (s : Server) (
 
   fetch_served : (h : List ℕ) → Gives (on_request s me (request_of g me t (Fetches h)))
   fetch_served h =
-      refuses ((5, is_ready (member s me).stage && same_mode s.mode mode.Objects) ∷ []) (says s (content_with s.contents h)) ((omega arith, omega arith), tt)
+      refuses ((5, is_ready (member s me).stage && same_mode s.mode mode.Objects) ∷ []) (answer_alone s (content_with s.contents h)) ((omega arith, omega arith), tt)
       (λ ok. stays (content_with s.contents h) (by_found (find (λ c. bytes_eq (hash (content_text c)) h) s.contents) (found_all (λ c. bytes_eq (hash (content_text c)) h) s.contents stands.contents)))
     where
       found_all : (f : List ℕ → Bool) (xs : List (List ℕ)) → AllByRecursion IsContent xs → (c : List ℕ) → find f xs ≡ Some c → IsContent c

@@ -17,7 +17,7 @@ use Rattle.vic_wire.specs.declared.message.Digest32.{Digest32}
 use Rattle.vic_rules.specs.declared.object.Phase.{Phase}
 use Rattle.vic_rules.specs.declared.object.Phase.TheVariants as phase
 use Rattle.vic_rules.specs.declared.object.Next.TheVariants as next
-use Rattle.vic_rules.specs.Objects.{Stepped, answered, kept_at, after_decision, is_reference, hash_in, length_in}
+use Rattle.vic_rules.specs.Objects.{ObjectStep, step_on_answer, step_on_kept, after_decision, is_reference, hash_in, length_in}
 use Rattle.vic_wire.specs.declared.message.Seal.{Seal}
 use Rattle.vic_wire.specs.declared.message.Tagged.{Tagged}
 use Rattle.vic_wire.specs.declared.message.ToClient.{ToClient}
@@ -32,11 +32,11 @@ use Rattle.vic_rules.specs.declared.state.Own.{Own}
 use Rattle.vic_rules.specs.declared.state.Awaiting.{Awaiting}
 use Rattle.vic_rules.specs.declared.state.Awaiting.TheVariants as awaits
 use Rattle.vic_rules.specs.declared.trace.Input.TheVariants as input
-use Rattle.vic_rules.specs.Client.{Standing, Sending, Invokes, Commits, Seals, Fetches, Move, calls_op, waited, goes_to, refused_at, step, request_of, payload_of, awaits_nothing, seal_text_on, newest_first, grown, replied, updated, taken, taken_or_halts, on_payload, verdict, new_root, is_write, is_done, decision}
-use Rattle.vic_rules.specs.Trust.{taken_by, checked_texts, seal_texts, text_sent}
+use Rattle.vic_rules.specs.Client.{Standing, Sending, Invokes, Commits, Seals, Fetches, Move, move_to_call, move_on_wait, move_by_object_step, move_on_refusal, step, request_of, payload_of, awaits_nothing, seal_text_on, newest_first, path_with_entries, move_on_reply, move_on_update, move_on_answer, move_on_verdict, move_on_payload, verdict, new_root, is_write, is_done, decision}
+use Rattle.vic_rules.specs.Trust.{answer_unless_halted, checked_texts, seal_texts, text_sent}
 use Rattle.vic_order.specs.Order.{Ordered}
 use Rattle.vic_order.specs.Fates.{entries}
-use Rattle.vic_order.specs.Scenes.{queued}
+use Rattle.vic_order.specs.Scenes.{queue_with}
 use Rattle.vic_spellings.proofs.Bytes.{bytes-sha256}
 use Rattle.vic_laws.proofs.Words.{all_weaker, all_append, in_either, in_left}
 use Rattle.vic_laws.proofs.Steps.{PhaseFits, Kind, Quiet, Called, Replied, Updated, Listed, call_of, is_quiet, is_called, is_replied, is_updated, is_listed}
@@ -90,7 +90,7 @@ FetchesOne v = (h : Digest32) × (len : ℕ) × (v.sends ≡ Some (Fetches h.byt
 abbrev Loud : Move → Type 0
 Loud v = (v.sends ≡ None) ⊎ (((done : Bool) × (v.sends ≡ Some (Commits done))) ⊎ ((v.sends ≡ Some Seals) ⊎ (((n : ℕ) × (o : Op) × (v.sends ≡ Some (Invokes n o))) ⊎ FetchesOne v)))
 
-replied_loud : (me : ℕ) (t : Standing) (seal : Seal) (path : List Entry) (part : Option Part) (a : Awaiting) → Loud (replied me t seal path part a)
+replied_loud : (me : ℕ) (t : Standing) (seal : Seal) (path : List Entry) (part : Option Part) (a : Awaiting) → Loud (move_on_reply me t seal path part a)
 replied_loud me t seal [] part a = inl refl
 replied_loud me t seal (e ∷ below) None a = inl refl
 replied_loud me t seal (e ∷ below) (Some part) (awaits.Reply n o load) = inr (inl (_, refl))
@@ -100,24 +100,24 @@ replied_loud me t seal (e ∷ below) (Some part) awaits.Entries = inl refl
 replied_loud me t seal (e ∷ below) (Some part) awaits.Kept = inl refl
 replied_loud me t seal (e ∷ below) (Some part) (awaits.Content h n) = inl refl
 
-updated_loud : (t : Standing) (seal : Seal) (part : Option Part) (own : List Own) → Loud (updated t seal part own)
+updated_loud : (t : Standing) (seal : Seal) (part : Option Part) (own : List Own) → Loud (move_on_update t seal part own)
 updated_loud t seal None own = inl refl
 updated_loud t seal (Some part) [] = inl refl
 updated_loud t seal (Some part) (o ∷ others) = inr (inr (inl refl))
 
-waited_loud : (t : Standing) (p : Phase) → PhaseHolds t.calls p → Loud (waited t p)
+waited_loud : (t : Standing) (p : Phase) → PhaseHolds t.calls p → Loud (move_on_wait t p)
 waited_loud t phase.Closed f = inl refl
 waited_loud t (phase.Keeping k h len) f = inl refl
 waited_loud t phase.Calling f = inl refl
 waited_loud t (phase.Fetching h len) f = inr (inr (inr (inr (h, len, refl, f, refl))))
 
-kept_loud : (t : Standing) (p : Phase) → Loud (goes_to t false (kept_at p))
+kept_loud : (t : Standing) (p : Phase) → Loud (move_by_object_step t false (step_on_kept p))
 kept_loud t phase.Closed = inl refl
 kept_loud t (phase.Keeping k h len) = inr (inr (inr (inl (_, _, refl))))
 kept_loud t phase.Calling = inl refl
 kept_loud t (phase.Fetching h len) = inl refl
 
-refused_loud : (t : Standing) (r : ℕ) (a : Awaiting) → Loud (refused_at t r a)
+refused_loud : (t : Standing) (r : ℕ) (a : Awaiting) → Loud (move_on_refusal t r a)
 refused_loud t r awaits.Kept = inl refl
 refused_loud t r awaits.Nothing = inl refl
 refused_loud t r (awaits.Reply n o load) = inl refl
@@ -125,9 +125,9 @@ refused_loud t r awaits.Turn = inl refl
 refused_loud t r awaits.Entries = inl refl
 refused_loud t r (awaits.Content h len) = inl refl
 
-taken_loud : (me : ℕ) (t : Standing) (m : ToClient) → PhaseHolds t.calls t.phase → Loud (taken me t m)
+taken_loud : (me : ℕ) (t : Standing) (m : ToClient) → PhaseHolds t.calls t.phase → Loud (move_on_answer me t m)
 taken_loud me t say.Hi f = inl refl
-taken_loud me t (say.Reply seal ts part) f = replied_loud me t seal (grown t ts) (read_part part) t.awaiting
+taken_loud me t (say.Reply seal ts part) f = replied_loud me t seal (path_with_entries t ts) (read_part part) t.awaiting
 taken_loud me t say.Wait f = waited_loud t t.phase f
 taken_loud me t (say.Update seal part) f = updated_loud t seal (read_part part) t.own
 taken_loud me t (say.Entries seal ts) f = inl refl
@@ -137,12 +137,12 @@ taken_loud me t (say.Content c) f = inl refl
 taken_loud me t say.Gone f = inl refl
 taken_loud me t say.Absent f = inl refl
 
-or_halts_loud : (me : ℕ) (t : Standing) (m : Option ToClient) (k : Option ℕ) → PhaseHolds t.calls t.phase → Loud (taken_or_halts me t m k)
+or_halts_loud : (me : ℕ) (t : Standing) (m : Option ToClient) (k : Option ℕ) → PhaseHolds t.calls t.phase → Loud (move_on_verdict me t m k)
 or_halts_loud me t m (Some k) f = inl refl
 or_halts_loud me t (Some m) None f = taken_loud me t m f
 or_halts_loud me t None None f = inl refl
 
-on_payload_loud : (g : Group) (me : ℕ) (t : Standing) (k : Option ℕ) (payload : List ℕ) → PhaseHolds t.calls t.phase → Loud (on_payload g me t k payload)
+on_payload_loud : (g : Group) (me : ℕ) (t : Standing) (k : Option ℕ) (payload : List ℕ) → PhaseHolds t.calls t.phase → Loud (move_on_payload g me t k payload)
 on_payload_loud g me t (Some k) payload f = inl refl
 on_payload_loud g me t None payload f = or_halts_loud me t (read_answer payload) (verdict g me t payload) f
 
@@ -164,12 +164,12 @@ silent g me v (inr (inr (inr (inr e)))) nothing = inr e
 hash_long : (v : List ℕ) → is_reference v ≡ true → length (hash_in v) ≡ 32
 hash_long v e = let long : length v ≡ 36 = eqb-true (length v) 36 e in omega (arith, length-take 32 v, long)
 
-answered_holds : (calls : ℕ) (a : Answer) → PhaseHolds calls (answered a).0
+answered_holds : (calls : ℕ) (a : Answer) → PhaseHolds calls (step_on_answer a).0
 answered_holds calls answer.Stored = tt
 answered_holds calls (answer.Found v) = by_test (is_reference v) refl
   where
     by_test : (b : Bool) → is_reference v ≡ b
-        → PhaseHolds calls (if◌then◌else◌ {A = Stepped} b (phase.Fetching (record { bytes = hash_in v }) (length_in v), next.Fetch (record { bytes = hash_in v }) (length_in v)) (phase.Closed, next.Bad)).0
+        → PhaseHolds calls (if◌then◌else◌ {A = ObjectStep} b (phase.Fetching (record { bytes = hash_in v }) (length_in v), next.Fetch (record { bytes = hash_in v }) (length_in v)) (phase.Closed, next.Bad)).0
     by_test true e = hash_long v e
     by_test false e = tt
 answered_holds calls answer.NotFound = tt
@@ -189,7 +189,7 @@ decided_holds calls phase.Calling (outcome.Halted k) f = tt
 abbrev Holds : Move → Type 0
 Holds v = PhaseHolds v.next.calls v.next.phase
 
-replied_holds : (me : ℕ) (t : Standing) (seal : Seal) (path : List Entry) (part : Option Part) (a : Awaiting) → PhaseHolds t.calls t.phase → Holds (replied me t seal path part a)
+replied_holds : (me : ℕ) (t : Standing) (seal : Seal) (path : List Entry) (part : Option Part) (a : Awaiting) → PhaseHolds t.calls t.phase → Holds (move_on_reply me t seal path part a)
 replied_holds me t seal [] part a f = f
 replied_holds me t seal (e ∷ below) None a f = f
 replied_holds me t seal (e ∷ below) (Some part) (awaits.Reply n o load) f = decided_holds t.calls t.phase (decision me t below seal.position part o) f
@@ -199,24 +199,24 @@ replied_holds me t seal (e ∷ below) (Some part) awaits.Entries f = f
 replied_holds me t seal (e ∷ below) (Some part) awaits.Kept f = f
 replied_holds me t seal (e ∷ below) (Some part) (awaits.Content h n) f = f
 
-updated_holds : (t : Standing) (seal : Seal) (part : Option Part) (own : List Own) → PhaseHolds t.calls t.phase → Holds (updated t seal part own)
+updated_holds : (t : Standing) (seal : Seal) (part : Option Part) (own : List Own) → PhaseHolds t.calls t.phase → Holds (move_on_update t seal part own)
 updated_holds t seal None own f = f
 updated_holds t seal (Some part) [] f = f
 updated_holds t seal (Some part) (o ∷ others) f = f
 
-waited_holds : (t : Standing) (p : Phase) → PhaseHolds t.calls t.phase → Holds (waited t p)
+waited_holds : (t : Standing) (p : Phase) → PhaseHolds t.calls t.phase → Holds (move_on_wait t p)
 waited_holds t phase.Closed f = f
 waited_holds t (phase.Keeping k h len) f = f
 waited_holds t phase.Calling f = f
 waited_holds t (phase.Fetching h len) f = f
 
-kept_holds : (t : Standing) (p : Phase) → PhaseHolds t.calls t.phase → Holds (goes_to t false (kept_at p))
+kept_holds : (t : Standing) (p : Phase) → PhaseHolds t.calls t.phase → Holds (move_by_object_step t false (step_on_kept p))
 kept_holds t phase.Closed f = f
 kept_holds t (phase.Keeping k h len) f = tt
 kept_holds t phase.Calling f = f
 kept_holds t (phase.Fetching h len) f = f
 
-refused_holds : (t : Standing) (r : ℕ) (a : Awaiting) → PhaseHolds t.calls t.phase → Holds (refused_at t r a)
+refused_holds : (t : Standing) (r : ℕ) (a : Awaiting) → PhaseHolds t.calls t.phase → Holds (move_on_refusal t r a)
 refused_holds t r awaits.Kept f = tt
 refused_holds t r awaits.Nothing f = decided_holds t.calls t.phase (outcome.Refused r) f
 refused_holds t r (awaits.Reply n o load) f = decided_holds t.calls t.phase (outcome.Refused r) f
@@ -224,9 +224,9 @@ refused_holds t r awaits.Turn f = decided_holds t.calls t.phase (outcome.Refused
 refused_holds t r awaits.Entries f = decided_holds t.calls t.phase (outcome.Refused r) f
 refused_holds t r (awaits.Content h len) f = decided_holds t.calls t.phase (outcome.Refused r) f
 
-taken_holds : (me : ℕ) (t : Standing) (m : ToClient) → PhaseHolds t.calls t.phase → Holds (taken me t m)
+taken_holds : (me : ℕ) (t : Standing) (m : ToClient) → PhaseHolds t.calls t.phase → Holds (move_on_answer me t m)
 taken_holds me t say.Hi f = f
-taken_holds me t (say.Reply seal ts part) f = replied_holds me t seal (grown t ts) (read_part part) t.awaiting f
+taken_holds me t (say.Reply seal ts part) f = replied_holds me t seal (path_with_entries t ts) (read_part part) t.awaiting f
 taken_holds me t say.Wait f = waited_holds t t.phase f
 taken_holds me t (say.Update seal part) f = updated_holds t seal (read_part part) t.own f
 taken_holds me t (say.Entries seal ts) f = f
@@ -236,12 +236,12 @@ taken_holds me t (say.Content c) f = tt
 taken_holds me t say.Gone f = f
 taken_holds me t say.Absent f = f
 
-or_halts_holds : (me : ℕ) (t : Standing) (m : Option ToClient) (k : Option ℕ) → PhaseHolds t.calls t.phase → Holds (taken_or_halts me t m k)
+or_halts_holds : (me : ℕ) (t : Standing) (m : Option ToClient) (k : Option ℕ) → PhaseHolds t.calls t.phase → Holds (move_on_verdict me t m k)
 or_halts_holds me t m (Some k) f = f
 or_halts_holds me t (Some m) None f = taken_holds me t m f
 or_halts_holds me t None None f = f
 
-on_payload_holds : (g : Group) (me : ℕ) (t : Standing) (k : Option ℕ) (payload : List ℕ) → PhaseHolds t.calls t.phase → Holds (on_payload g me t k payload)
+on_payload_holds : (g : Group) (me : ℕ) (t : Standing) (k : Option ℕ) (payload : List ℕ) → PhaseHolds t.calls t.phase → Holds (move_on_payload g me t k payload)
 on_payload_holds g me t (Some k) payload f = f
 on_payload_holds g me t None payload f = or_halts_holds me t (read_answer payload) (verdict g me t payload) f
 
@@ -259,7 +259,7 @@ fits_of calls (phase.Fetching h len) f = tt
 
 -- where the client stands once it has moved there and sent that
 abbrev pub Moved : Group → List (List ℕ) → ℕ → List Ordered → Standing → Option Sending → Type 0
-Moved g made me log t sends = ClientFits g (text_sent g me t sends ++ made) me log t (queued [] (payload_of g me t sends)) []
+Moved g made me log t sends = ClientFits g (text_sent g me t sends ++ made) me log t (queue_with [] (payload_of g me t sends)) []
 
 module _ (g : Group) (made : List (List ℕ)) (me : ℕ) (log : List Ordered) where
   pub now_sends : (t : Standing) (sending : Sending) (seen newer : List Ordered) → log ≡ newer ++ seen → t.path ≡ entries seen → StandingFits t → awaits_nothing t.awaiting ≡ false
@@ -293,7 +293,7 @@ module _ (g : Group) (made : List (List ℕ)) (me : ℕ) (log : List Ordered) wh
 
 -- ---- a payload
 
-taken_is : (after : Standing) (payload : List ℕ) (m n : ToClient) → read_answer payload ≡ Some m → taken_by after (input.Payload payload) ≡ Some n → m ≡ n
+taken_is : (after : Standing) (payload : List ℕ) (m n : ToClient) → read_answer payload ≡ Some m → answer_unless_halted after (input.Payload payload) ≡ Some n → m ≡ n
 taken_is after payload m n read takes =
     elim (is_none after.halted) as (λ b. (if b then read_answer payload else None) ≡ Some n → m ≡ n) [
       | true ↦ λ e. let f = sym read ∙ e in cc
@@ -326,7 +326,7 @@ module _ (g : Group) (made : List (List ℕ)) (me : ℕ) (log seen newer : List 
   -- what is shown of a move
   pub record Takes (v : Move) : Type 0 where
     pub client : Moved g made me log v.next v.sends
-    pub texts : AreMade made (checked_texts g v.next.path (taken_by v.next (input.Payload payload)))
+    pub texts : AreMade made (checked_texts g v.next.path (answer_unless_halted v.next (input.Payload payload)))
 
   quiet_takes : (v : Move) → Loud v → Holds v → Quiet g me t (input.Payload payload) v → Takes v
   quiet_takes v loud holds q =
@@ -352,7 +352,7 @@ module _ (g : Group) (made : List (List ℕ)) (me : ℕ) (log seen newer : List 
   called_takes room v holds c =
       let few : t.calls + 1 < 2 ^ 32 = c.few (fits_of t.calls t.phase fits.phase) in
       let fit = c.fits (fits_of t.calls t.phase fits.phase) in
-      let next : Standing = (calls_op t c.turned c.op c.load).next in
+      let next : Standing = (move_to_call t c.turned c.op c.load).next in
       let next_fits : StandingFits next = record {
         sealed = fits.sealed;
         own = fits.own;
@@ -364,7 +364,7 @@ module _ (g : Group) (made : List (List ℕ)) (me : ℕ) (log seen newer : List 
       record {
         client = subst (λ w. Moved g made me log w.next w.sends) (sym c.moved)
             (now_sends g made me log next (Invokes (t.calls + 1) c.op) seen newer is path next_fits refl (room, ((omega arith, few), (fit, length-tag _ _))) tt);
-        texts = by_kept (taken_by v.next (input.Payload payload)) c.takes;
+        texts = by_kept (answer_unless_halted v.next (input.Payload payload)) c.takes;
       }
     where
       by_kept : (o : Option ToClient) → ((n : ToClient) → o ≡ Some n → n ≡ say.Kept) → AreMade made (checked_texts g v.next.path o)
@@ -389,10 +389,10 @@ module _ (g : Group) (made : List (List ℕ)) (me : ℕ) (log seen newer : List 
       ]
 
   -- the texts that were checked where the client took an answer
-  checked_made : (v : Move) (p : List Entry) (n : ToClient) → v.next.path ≡ p → taken_by v.next (input.Payload payload) ≡ Some n → AreMade made (checked_texts g p (Some n))
-      → AreMade made (checked_texts g v.next.path (taken_by v.next (input.Payload payload)))
+  checked_made : (v : Move) (p : List Entry) (n : ToClient) → v.next.path ≡ p → answer_unless_halted v.next (input.Payload payload) ≡ Some n → AreMade made (checked_texts g p (Some n))
+      → AreMade made (checked_texts g v.next.path (answer_unless_halted v.next (input.Payload payload)))
   checked_made v p n at takes h =
-      subst (λ q. AreMade made (checked_texts g q (taken_by v.next (input.Payload payload)))) (sym at) (subst (λ o. AreMade made (checked_texts g p o)) (sym takes) h)
+      subst (λ q. AreMade made (checked_texts g q (answer_unless_halted v.next (input.Payload payload)))) (sym at) (subst (λ o. AreMade made (checked_texts g p o)) (sym takes) h)
 
   replied_takes : (v : Move) → Replied g me t (input.Payload payload) v → Takes v
   replied_takes v r =

@@ -22,18 +22,18 @@ use Rattle.vic_rules.specs.declared.state.Own.{Own}
 use Rattle.vic_rules.specs.declared.trace.Input.{Input}
 use Rattle.vic_rules.specs.declared.trace.Input.TheVariants as input
 use Rattle.vic_rules.specs.declared.trace.TraceStep.{TraceStep}
-use Rattle.vic_rules.specs.Client.{Standing, Move, IsIdle, step, grown, decision, decided, replied, updated, taken, taken_or_halts, on_payload, verdict, waited, goes_to, refused_at}
+use Rattle.vic_rules.specs.Client.{Standing, Move, IsIdle, step, path_with_entries, decision, decided_outcome, move_on_reply, move_on_update, move_on_answer, move_on_verdict, move_on_payload, verdict, move_on_wait, move_by_object_step, move_on_refusal}
 use Rattle.vic_rules.specs.declared.object.Phase.{Phase}
 use Rattle.vic_rules.specs.declared.object.Phase.TheVariants as phase
 use Rattle.vic_rules.specs.declared.object.ObjectCall.TheVariants as object
 use Rattle.vic_rules.specs.declared.object.ObjectOutcome.TheVariants as ended
 use Rattle.vic_rules.specs.declared.object.Next.TheVariants as next
-use Rattle.vic_rules.specs.Objects.{Stepped, kept_at, answered, over_with, ended_by, is_reference, hash_in, length_in}
+use Rattle.vic_rules.specs.Objects.{ObjectStep, step_on_kept, step_on_answer, final_outcome, outcome_after_decision, is_reference, hash_in, length_in}
 use Rattle.vic_honest.proofs.Sent.{IsApart, apart_front}
 use Rattle.vic_rules.specs.History.{standing}
 use Rattle.vic_order.specs.Order.{Server, serve}
 use Rattle.vic_order.specs.Serving.{by_rule}
-use Rattle.vic_order.specs.Scenes.{Queue, Scene, queue_of, set_queue, server_at, steps, served, serves, taken as taking, takes, unchanged, Event, Asks, Serves, Takes, Flips, Hears, Resends, Copies, Joins, happens, MayAsk}
+use Rattle.vic_order.specs.Scenes.{Queue, Scene, queue_of, set_queue, server_at, after_step, after_serving_from, after_serving, after_taking_from, after_taking, payload_as_is, Event, Asks, Serves, Takes, Flips, Hears, Resends, Copies, Joins, after_event, MayAsk}
 use Rattle.vic_order.specs.Honest.{MayHonestly, scene_after, AreHonest}
 use Rattle.vic_spellings.proofs.SpelledAnswers.{answer_again}
 use Rattle.vic_laws.proofs.Words.{some_same}
@@ -49,11 +49,11 @@ use Rattle.vic_honest.proofs.Refusals.{world_refuses, world_awaits, world_keeps}
 
 -- ---- a client returns a refusal only where it takes one
 
-decided_not : (u : Option ℕ) (d : Dictionary) (o : Op) (r : ℕ) → Some (decided u d o) ≡ Some (outcome.Refused r) → ⊥
+decided_not : (u : Option ℕ) (d : Dictionary) (o : Op) (r : ℕ) → Some (decided_outcome u d o) ≡ Some (outcome.Refused r) → ⊥
 decided_not None d o r e = absurd cc
 decided_not (Some u) d o r e = absurd cc
 
-replied_not : (me : ℕ) (t : Standing) (seal : Seal) (p : List Entry) (part : Option Part) (a : Awaiting) (r : ℕ) → (replied me t seal p part a).returns ≡ Some (outcome.Refused r) → ⊥
+replied_not : (me : ℕ) (t : Standing) (seal : Seal) (p : List Entry) (part : Option Part) (a : Awaiting) (r : ℕ) → (move_on_reply me t seal p part a).returns ≡ Some (outcome.Refused r) → ⊥
 unfolding decision
 replied_not me t seal [] part a r e = absurd cc
 replied_not me t seal (x ∷ below) None a r e = absurd cc
@@ -64,18 +64,18 @@ replied_not me t seal (x ∷ below) (Some part) awaits.Entries r e = absurd cc
 replied_not me t seal (x ∷ below) (Some part) awaits.Kept r e = absurd cc
 replied_not me t seal (x ∷ below) (Some part) (awaits.Content hash len) r e = absurd cc
 
-updated_not : (t : Standing) (seal : Seal) (part : Option Part) (own : List Own) (r : ℕ) → (updated t seal part own).returns ≡ Some (outcome.Refused r) → ⊥
+updated_not : (t : Standing) (seal : Seal) (part : Option Part) (own : List Own) (r : ℕ) → (move_on_update t seal part own).returns ≡ Some (outcome.Refused r) → ⊥
 updated_not t seal None own r e = absurd cc
 updated_not t seal (Some part) [] r e = absurd cc
 updated_not t seal (Some part) (o ∷ others) r e = absurd cc
 
-waited_not : (t : Standing) (p : Phase) (r : ℕ) → (waited t p).returns ≡ Some (outcome.Refused r) → ⊥
+waited_not : (t : Standing) (p : Phase) (r : ℕ) → (move_on_wait t p).returns ≡ Some (outcome.Refused r) → ⊥
 waited_not t phase.Closed r e = absurd cc
 waited_not t (phase.Keeping k h len) r e = absurd cc
 waited_not t phase.Calling r e = absurd cc
 waited_not t (phase.Fetching h len) r e = absurd cc
 
-kept_not : (t : Standing) (p : Phase) (r : ℕ) → (goes_to t false (kept_at p)).returns ≡ Some (outcome.Refused r) → ⊥
+kept_not : (t : Standing) (p : Phase) (r : ℕ) → (move_by_object_step t false (step_on_kept p)).returns ≡ Some (outcome.Refused r) → ⊥
 kept_not t phase.Closed r e = absurd cc
 kept_not t (phase.Keeping k h len) r e = absurd cc
 kept_not t phase.Calling r e = absurd cc
@@ -85,7 +85,7 @@ kept_not t (phase.Fetching h len) r e = absurd cc
 abbrev Tells : Standing → Option ToClient → ℕ → Type 0
 Tells t m r = (m ≡ Some (say.Refused r)) × (t.awaiting ≡ awaits.Kept → ⊥)
 
-refused_tells : (t : Standing) (k r : ℕ) (a : Awaiting) → t.awaiting ≡ a → (refused_at t k a).returns ≡ Some (outcome.Refused r) → Tells t (Some (say.Refused k)) r
+refused_tells : (t : Standing) (k r : ℕ) (a : Awaiting) → t.awaiting ≡ a → (move_on_refusal t k a).returns ≡ Some (outcome.Refused r) → Tells t (Some (say.Refused k)) r
 refused_tells t k r awaits.Kept at e = absurd cc
 refused_tells t k r awaits.Nothing at e = let same : k ≡ r = cc in (ap (λ n. Some (say.Refused n)) same, λ x. let other = sym at ∙ x in absurd cc)
 refused_tells t k r (awaits.Reply n o load) at e = let same : k ≡ r = cc in (ap (λ n. Some (say.Refused n)) same, λ x. let other = sym at ∙ x in absurd cc)
@@ -93,9 +93,9 @@ refused_tells t k r awaits.Turn at e = let same : k ≡ r = cc in (ap (λ n. Som
 refused_tells t k r awaits.Entries at e = let same : k ≡ r = cc in (ap (λ n. Some (say.Refused n)) same, λ x. let other = sym at ∙ x in absurd cc)
 refused_tells t k r (awaits.Content h len) at e = let same : k ≡ r = cc in (ap (λ n. Some (say.Refused n)) same, λ x. let other = sym at ∙ x in absurd cc)
 
-taken_refused : (me : ℕ) (t : Standing) (m : ToClient) (r : ℕ) → (taken me t m).returns ≡ Some (outcome.Refused r) → Tells t (Some m) r
+taken_refused : (me : ℕ) (t : Standing) (m : ToClient) (r : ℕ) → (move_on_answer me t m).returns ≡ Some (outcome.Refused r) → Tells t (Some m) r
 taken_refused me t say.Hi r e = absurd cc
-taken_refused me t (say.Reply seal entries part) r e = absurd (replied_not me t seal (grown t entries) (read_part part) t.awaiting r e)
+taken_refused me t (say.Reply seal entries part) r e = absurd (replied_not me t seal (path_with_entries t entries) (read_part part) t.awaiting r e)
 taken_refused me t say.Wait r e = absurd (waited_not t t.phase r e)
 taken_refused me t (say.Update seal part) r e = absurd (updated_not t seal (read_part part) t.own r e)
 taken_refused me t (say.Entries seal entries) r e = absurd cc
@@ -105,12 +105,12 @@ taken_refused me t (say.Content c) r e = absurd cc
 taken_refused me t say.Gone r e = absurd cc
 taken_refused me t say.Absent r e = absurd cc
 
-taken_or_refused : (me : ℕ) (t : Standing) (m : Option ToClient) (k : Option ℕ) (r : ℕ) → (taken_or_halts me t m k).returns ≡ Some (outcome.Refused r) → Tells t m r
+taken_or_refused : (me : ℕ) (t : Standing) (m : Option ToClient) (k : Option ℕ) (r : ℕ) → (move_on_verdict me t m k).returns ≡ Some (outcome.Refused r) → Tells t m r
 taken_or_refused me t m (Some k) r e = absurd cc
 taken_or_refused me t (Some m) None r e = taken_refused me t m r e
 taken_or_refused me t None None r e = absurd cc
 
-payload_refused : (g : Group) (me : ℕ) (t : Standing) (halted : Option ℕ) (payload : List ℕ) (r : ℕ) → (on_payload g me t halted payload).returns ≡ Some (outcome.Refused r) → Tells t (read_answer payload) r
+payload_refused : (g : Group) (me : ℕ) (t : Standing) (halted : Option ℕ) (payload : List ℕ) (r : ℕ) → (move_on_payload g me t halted payload).returns ≡ Some (outcome.Refused r) → Tells t (read_answer payload) r
 payload_refused g me t (Some k) payload r e = absurd cc
 payload_refused g me t None payload r e = taken_or_refused me t (read_answer payload) (verdict g me t payload) r e
 
@@ -120,12 +120,12 @@ take_refused g me t payload r e = payload_refused g me t t.halted payload r e
 
 -- ---- a call on objects ends refused with its call, or where its content is refused
 
-answered_ends : (a : Answer) (r : ℕ) → over_with (answered a).1 ≡ Some (ended.Refused r) → ⊥
+answered_ends : (a : Answer) (r : ℕ) → final_outcome (step_on_answer a).1 ≡ Some (ended.Refused r) → ⊥
 answered_ends answer.Stored r e = absurd cc
 answered_ends (answer.Found v) r e = by_test (is_reference v) e
   where
     by_test : (b : Bool)
-        → over_with (if◌then◌else◌ {A = Stepped} b (phase.Fetching (record { bytes = hash_in v }) (length_in v), next.Fetch (record { bytes = hash_in v }) (length_in v)) (phase.Closed, next.Bad)).1 ≡ Some (ended.Refused r) → ⊥
+        → final_outcome (if◌then◌else◌ {A = ObjectStep} b (phase.Fetching (record { bytes = hash_in v }) (length_in v), next.Fetch (record { bytes = hash_in v }) (length_in v)) (phase.Closed, next.Bad)).1 ≡ Some (ended.Refused r) → ⊥
     by_test true e = absurd cc
     by_test false e = absurd cc
 answered_ends answer.NotFound r e = absurd cc
@@ -133,7 +133,7 @@ answered_ends answer.Removed r e = absurd cc
 answered_ends answer.Absent r e = absurd cc
 answered_ends (answer.Names names) r e = absurd cc
 
-decided_ends : (p : Phase) (u : Option ℕ) (d : Dictionary) (o : Op) (r : ℕ) → ended_by p (decided u d o) ≡ Some (ended.Refused r) → ⊥
+decided_ends : (p : Phase) (u : Option ℕ) (d : Dictionary) (o : Op) (r : ℕ) → outcome_after_decision p (decided_outcome u d o) ≡ Some (ended.Refused r) → ⊥
 decided_ends phase.Closed u d o r e = absurd cc
 decided_ends (phase.Keeping k h len) u d o r e = absurd cc
 decided_ends (phase.Fetching h len) u d o r e = absurd cc
@@ -141,13 +141,13 @@ decided_ends phase.Calling None d o r e = answered_ends (reply d o) r e
 decided_ends phase.Calling (Some u) d o r e = absurd cc
 
 -- a refusal ends a call on objects with its call
-refused_ends : (p : Phase) (k r : ℕ) → ended_by p (outcome.Refused k) ≡ Some (ended.Refused r) → k ≡ r
+refused_ends : (p : Phase) (k r : ℕ) → outcome_after_decision p (outcome.Refused k) ≡ Some (ended.Refused r) → k ≡ r
 refused_ends phase.Closed k r e = absurd cc
 refused_ends (phase.Keeping q h len) k r e = absurd cc
 refused_ends (phase.Fetching h len) k r e = absurd cc
 refused_ends phase.Calling k r e = cc
 
-replied_ends : (me : ℕ) (t : Standing) (seal : Seal) (p : List Entry) (part : Option Part) (a : Awaiting) (r : ℕ) → (replied me t seal p part a).object ≡ Some (ended.Refused r) → ⊥
+replied_ends : (me : ℕ) (t : Standing) (seal : Seal) (p : List Entry) (part : Option Part) (a : Awaiting) (r : ℕ) → (move_on_reply me t seal p part a).object ≡ Some (ended.Refused r) → ⊥
 unfolding decision
 replied_ends me t seal [] part a r e = absurd cc
 replied_ends me t seal (x ∷ below) None a r e = absurd cc
@@ -158,18 +158,18 @@ replied_ends me t seal (x ∷ below) (Some part) awaits.Entries r e = absurd cc
 replied_ends me t seal (x ∷ below) (Some part) awaits.Kept r e = absurd cc
 replied_ends me t seal (x ∷ below) (Some part) (awaits.Content hash len) r e = absurd cc
 
-updated_ends : (t : Standing) (seal : Seal) (part : Option Part) (own : List Own) (r : ℕ) → (updated t seal part own).object ≡ Some (ended.Refused r) → ⊥
+updated_ends : (t : Standing) (seal : Seal) (part : Option Part) (own : List Own) (r : ℕ) → (move_on_update t seal part own).object ≡ Some (ended.Refused r) → ⊥
 updated_ends t seal None own r e = absurd cc
 updated_ends t seal (Some part) [] r e = absurd cc
 updated_ends t seal (Some part) (o ∷ others) r e = absurd cc
 
-waited_ends : (t : Standing) (p : Phase) (r : ℕ) → (waited t p).object ≡ Some (ended.Refused r) → ⊥
+waited_ends : (t : Standing) (p : Phase) (r : ℕ) → (move_on_wait t p).object ≡ Some (ended.Refused r) → ⊥
 waited_ends t phase.Closed r e = absurd cc
 waited_ends t (phase.Keeping k h len) r e = absurd cc
 waited_ends t phase.Calling r e = absurd cc
 waited_ends t (phase.Fetching h len) r e = absurd cc
 
-kept_ends : (t : Standing) (p : Phase) (r : ℕ) → (goes_to t false (kept_at p)).object ≡ Some (ended.Refused r) → ⊥
+kept_ends : (t : Standing) (p : Phase) (r : ℕ) → (move_by_object_step t false (step_on_kept p)).object ≡ Some (ended.Refused r) → ⊥
 kept_ends t phase.Closed r e = absurd cc
 kept_ends t (phase.Keeping k h len) r e = absurd cc
 kept_ends t phase.Calling r e = absurd cc
@@ -179,20 +179,20 @@ kept_ends t (phase.Fetching h len) r e = absurd cc
 abbrev Ends : Standing → Option ToClient → Move → ℕ → Type 0
 Ends t m v r = (v.returns ≡ Some (outcome.Refused r)) ⊎ ((m ≡ Some (say.Refused r)) × (t.awaiting ≡ awaits.Kept))
 
-with_call : (t : Standing) (k r : ℕ) (v : Move) → v.returns ≡ Some (outcome.Refused k) → v.object ≡ ended_by t.phase (outcome.Refused k) → v.object ≡ Some (ended.Refused r) → Ends t (Some (say.Refused k)) v r
+with_call : (t : Standing) (k r : ℕ) (v : Move) → v.returns ≡ Some (outcome.Refused k) → v.object ≡ outcome_after_decision t.phase (outcome.Refused k) → v.object ≡ Some (ended.Refused r) → Ends t (Some (say.Refused k)) v r
 with_call t k r v returns object e = inl (returns ∙ ap (λ n. Some (outcome.Refused n)) (refused_ends t.phase k r (sym object ∙ e)))
 
-refused_object : (t : Standing) (k r : ℕ) (a : Awaiting) → t.awaiting ≡ a → (refused_at t k a).object ≡ Some (ended.Refused r) → Ends t (Some (say.Refused k)) (refused_at t k a) r
+refused_object : (t : Standing) (k r : ℕ) (a : Awaiting) → t.awaiting ≡ a → (move_on_refusal t k a).object ≡ Some (ended.Refused r) → Ends t (Some (say.Refused k)) (move_on_refusal t k a) r
 refused_object t k r awaits.Kept at e = let same : k ≡ r = cc in inr (ap (λ n. Some (say.Refused n)) same, at)
-refused_object t k r awaits.Nothing at e = with_call t k r (refused_at t k awaits.Nothing) refl refl e
-refused_object t k r (awaits.Reply n o load) at e = with_call t k r (refused_at t k (awaits.Reply n o load)) refl refl e
-refused_object t k r awaits.Turn at e = with_call t k r (refused_at t k awaits.Turn) refl refl e
-refused_object t k r awaits.Entries at e = with_call t k r (refused_at t k awaits.Entries) refl refl e
-refused_object t k r (awaits.Content h len) at e = with_call t k r (refused_at t k (awaits.Content h len)) refl refl e
+refused_object t k r awaits.Nothing at e = with_call t k r (move_on_refusal t k awaits.Nothing) refl refl e
+refused_object t k r (awaits.Reply n o load) at e = with_call t k r (move_on_refusal t k (awaits.Reply n o load)) refl refl e
+refused_object t k r awaits.Turn at e = with_call t k r (move_on_refusal t k awaits.Turn) refl refl e
+refused_object t k r awaits.Entries at e = with_call t k r (move_on_refusal t k awaits.Entries) refl refl e
+refused_object t k r (awaits.Content h len) at e = with_call t k r (move_on_refusal t k (awaits.Content h len)) refl refl e
 
-taken_object : (me : ℕ) (t : Standing) (m : ToClient) (r : ℕ) → (taken me t m).object ≡ Some (ended.Refused r) → Ends t (Some m) (taken me t m) r
+taken_object : (me : ℕ) (t : Standing) (m : ToClient) (r : ℕ) → (move_on_answer me t m).object ≡ Some (ended.Refused r) → Ends t (Some m) (move_on_answer me t m) r
 taken_object me t say.Hi r e = absurd cc
-taken_object me t (say.Reply seal entries part) r e = absurd (replied_ends me t seal (grown t entries) (read_part part) t.awaiting r e)
+taken_object me t (say.Reply seal entries part) r e = absurd (replied_ends me t seal (path_with_entries t entries) (read_part part) t.awaiting r e)
 taken_object me t say.Wait r e = absurd (waited_ends t t.phase r e)
 taken_object me t (say.Update seal part) r e = absurd (updated_ends t seal (read_part part) t.own r e)
 taken_object me t (say.Entries seal entries) r e = absurd cc
@@ -202,12 +202,12 @@ taken_object me t (say.Content c) r e = absurd cc
 taken_object me t say.Gone r e = absurd cc
 taken_object me t say.Absent r e = absurd cc
 
-taken_or_object : (me : ℕ) (t : Standing) (m : Option ToClient) (k : Option ℕ) (r : ℕ) → (taken_or_halts me t m k).object ≡ Some (ended.Refused r) → Ends t m (taken_or_halts me t m k) r
+taken_or_object : (me : ℕ) (t : Standing) (m : Option ToClient) (k : Option ℕ) (r : ℕ) → (move_on_verdict me t m k).object ≡ Some (ended.Refused r) → Ends t m (move_on_verdict me t m k) r
 taken_or_object me t m (Some k) r e = absurd cc
 taken_or_object me t (Some m) None r e = taken_object me t m r e
 taken_or_object me t None None r e = absurd cc
 
-payload_object : (g : Group) (me : ℕ) (t : Standing) (halted : Option ℕ) (payload : List ℕ) (r : ℕ) → (on_payload g me t halted payload).object ≡ Some (ended.Refused r) → Ends t (read_answer payload) (on_payload g me t halted payload) r
+payload_object : (g : Group) (me : ℕ) (t : Standing) (halted : Option ℕ) (payload : List ℕ) (r : ℕ) → (move_on_payload g me t halted payload).object ≡ Some (ended.Refused r) → Ends t (read_answer payload) (move_on_payload g me t halted payload) r
 payload_object g me t (Some k) payload r e = absurd cc
 payload_object g me t None payload r e = taken_or_object me t (read_answer payload) (verdict g me t payload) r e
 
@@ -342,8 +342,8 @@ module _ (events : List Event) (s : Scene) (server : Server) (at_events : scene_
   step_told : (m : Event) (i : Input) (down : List Queue) → ((j : ℕ) → (j ≡ me → ⊥) → 0 < j → queue_of down j ≡ queue_of s.down j) → queue_of down me ≡ []
       → ((r : ℕ) → (step s.group me (standing s.group me s.history) i).returns ≡ Some (outcome.Refused r) → WasRefused s.group events me (standing s.group me s.history) r)
       → ((r : ℕ) → (step s.group me (standing s.group me s.history) i).object ≡ Some (ended.Refused r)
-      → ((step s.group me (standing s.group me s.history) i).returns ≡ Some (outcome.Refused r)) ⊎ StoreWasRefused s.group events me (standing s.group me s.history) r) → IsTold (m ∷ events) (steps (record s { down = down }) me i)
-  unfolding steps
+      → ((step s.group me (standing s.group me s.history) i).returns ≡ Some (outcome.Refused r)) ⊎ StoreWasRefused s.group events me (standing s.group me s.history) r) → IsTold (m ∷ events) (after_step (record s { down = down }) me i)
+  unfolding after_step
   step_told m i down same none new new_store = record {
     steps = (
       told_still s.group m events s.history told.steps,
@@ -357,12 +357,12 @@ module _ (events : List Event) (s : Scene) (server : Server) (at_events : scene_
     ];
   }
 
-  asks_told : (i : Input) → MayAsk s me i → IsTold (Asks me i ∷ events) (steps s me i)
+  asks_told : (i : Input) → MayAsk s me i → IsTold (Asks me i ∷ events) (after_step s me i)
   asks_told i may =
       let none = nothing_under_way s server fit know me above upto (ask_idle s me i may) in
       step_told (Asks me i) i s.down (λ j apart low. refl) none.1 (λ r e. absurd (ask_refused s me i may r e)) (λ r e. absurd (ask_object s me i may r e))
 
-  taken_told : (q : Queue) → queue_of s.down me ≡ q → (q ≡ [] → ⊥) → IsTold (Takes me ∷ events) (taking unchanged s me q)
+  taken_told : (q : Queue) → queue_of s.down me ≡ q → (q ≡ [] → ⊥) → IsTold (Takes me ∷ events) (after_taking_from payload_as_is s me q)
   taken_told [] at some = absurd (some refl)
   taken_told (payload ∷ rest) at some =
       let c = know.clients me above upto in
@@ -374,8 +374,8 @@ module _ (events : List Event) (s : Scene) (server : Server) (at_events : scene_
         | inr kept ↦ inr ((told.waits me above upto payload rest at r kept.0).1 kept.1)
       ])
 
-  takes_told : (queue_of s.down me ≡ [] → ⊥) → IsTold (Takes me ∷ events) (takes unchanged s me)
-  unfolding takes
+  takes_told : (queue_of s.down me ≡ [] → ⊥) → IsTold (Takes me ∷ events) (after_taking payload_as_is s me)
+  unfolding after_taking
   takes_told some = taken_told (queue_of s.down me) refl some
 
   -- the server answers a request
@@ -427,7 +427,7 @@ module _ (events : List Event) (s : Scene) (server : Server) (at_events : scene_
       one_then : server_at (scene_after s.group events).servers 1 ≡ Some server
       one_then = ap (λ (t : Scene). server_at t.servers 1) at_events ∙ ap (λ l. server_at l 1) fit.one.only
 
-  served_told : (q : Queue) → queue_of s.up me ≡ q → (q ≡ [] → ⊥) → IsTold (Serves me ∷ events) (served by_rule s me q (Some server))
+  served_told : (q : Queue) → queue_of s.up me ≡ q → (q ≡ [] → ⊥) → IsTold (Serves me ∷ events) (after_serving_from by_rule s me q (Some server))
   served_told [] at some = absurd (some refl)
   served_told (payload ∷ rest) at some =
       let c = know.clients me above upto in
@@ -452,13 +452,13 @@ module _ (events : List Event) (s : Scene) (server : Server) (at_events : scene_
         ];
       }
 
-  serves_told : (queue_of s.up me ≡ [] → ⊥) → IsTold (Serves me ∷ events) (serves by_rule s me)
-  unfolding serves
+  serves_told : (queue_of s.up me ≡ [] → ⊥) → IsTold (Serves me ∷ events) (after_serving by_rule s me)
+  unfolding after_serving
   serves_told some =
-      subst (λ o. IsTold (Serves me ∷ events) (served by_rule s me (queue_of s.up me) o)) (sym (server_is s server fit.one me above upto)) (served_told (queue_of s.up me) refl some)
+      subst (λ o. IsTold (Serves me ∷ events) (after_serving_from by_rule s me (queue_of s.up me) o)) (sym (server_is s server fit.one me above upto)) (served_told (queue_of s.up me) refl some)
 
 happens_told : (events : List Event) (s : Scene) (server : Server) → scene_after s.group events ≡ s → SceneFits s server → SceneKnows s server → IsTold events s → (m : Event) → MayHonestly s m
-    → IsTold (m ∷ events) (happens by_rule s m)
+    → IsTold (m ∷ events) (after_event by_rule s m)
 happens_told events s server at fit know told (Asks me i) may = asks_told events s server at fit know told me may.1.0 may.1.1 i may.1.2
 happens_told events s server at fit know told (Serves me) may = serves_told events s server at fit know told me may.1.0 may.1.1 may.1.2
 happens_told events s server at fit know told (Takes me) may = takes_told events s server at fit know told me may.1.0 may.1.1 may.1.2

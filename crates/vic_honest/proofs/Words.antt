@@ -10,7 +10,7 @@ use Rattle.vic_dict.specs.declared.op.Entry.{Entry}
 use Rattle.vic_wire.specs.declared.message.Seal.{Seal}
 use Rattle.vic_wire.specs.declared.message.Tagged.{Tagged}
 use Rattle.vic_rules.specs.Client.{onto, newest_first}
-use Rattle.vic_order.specs.Order.{Ordered, tagged, entries_above, or_no_seal, no_seal}
+use Rattle.vic_order.specs.Order.{Ordered, tagged_entry, entries_above, or_no_seal, no_seal}
 use Rattle.vic_order.specs.Fates.{entries}
 
 -- ---- fronts
@@ -36,19 +36,19 @@ front-entries n new old within =
 -- entries with their tags, the oldest first
 abbrev pub told : List Ordered → List Tagged
 told [] = []
-told (o ∷ below) = told below ++ tagged o ∷ []
+told (o ∷ below) = told below ++ tagged_entry o ∷ []
 
 above-all : (n : ℕ) (log : List Ordered) → length log ≤ n → entries_above n log ≡ []
 unfolding entries_above
 above-all n [] h = refl
-above-all n (o ∷ log) h = ap (λ b. if b then entries_above n log ++ tagged o ∷ [] else []) (le-ltb n (length (o ∷ log)) h)
+above-all n (o ∷ log) h = ap (λ b. if b then entries_above n log ++ tagged_entry o ∷ [] else []) (le-ltb n (length (o ∷ log)) h)
 
 pub above-told : (new old : List Ordered) → entries_above (length old) (new ++ old) ≡ told new
 unfolding entries_above
 above-told [] old = above-all (length old) old (omega arith)
 above-told (o ∷ new) old =
-    ap (λ b. if b then entries_above (length old) (new ++ old) ++ tagged o ∷ [] else []) (lt-ltb (length old) (length (o ∷ (new ++ old))) (omega (arith, length-append new old)))
-    ∙ ap (λ ts. ts ++ tagged o ∷ []) (above-told new old)
+    ap (λ b. if b then entries_above (length old) (new ++ old) ++ tagged_entry o ∷ [] else []) (lt-ltb (length old) (length (o ∷ (new ++ old))) (omega (arith, length-append new old)))
+    ∙ ap (λ ts. ts ++ tagged_entry o ∷ []) (above-told new old)
 
 onto-last : (ts : List Tagged) (t : Tagged) (p : List Entry) → onto (ts ++ t ∷ []) p ≡ t.entry ∷ onto ts p
 onto-last [] t p = refl
@@ -56,11 +56,11 @@ onto-last (x ∷ ts) t p = onto-last ts t (x.entry ∷ p)
 
 pub newest-told : (new : List Ordered) → newest_first (told new) ≡ entries new
 newest-told [] = refl
-newest-told (o ∷ new) = onto-last (told new) (tagged o) [] ∙ ap (λ p. o.entry ∷ p) (newest-told new)
+newest-told (o ∷ new) = onto-last (told new) (tagged_entry o) [] ∙ ap (λ p. o.entry ∷ p) (newest-told new)
 
 pub length-told : (new : List Ordered) → length (told new) ≡ length new
 length-told [] = refl
-length-told (o ∷ new) = length-append (told new) (tagged o ∷ []) ∙ omega (arith, length-told new)
+length-told (o ∷ new) = length-append (told new) (tagged_entry o ∷ []) ∙ omega (arith, length-told new)
 
 -- ---- items
 

@@ -22,12 +22,12 @@ use Rattle.vic_rules.specs.declared.state.Awaiting.TheVariants as awaits
 use Rattle.vic_rules.specs.declared.trace.Input.{Input}
 use Rattle.vic_rules.specs.declared.trace.Input.TheVariants as input
 use Rattle.vic_rules.specs.declared.trace.TraceStep.{TraceStep}
-use Rattle.vic_rules.specs.Client.{Standing, Sending, Invokes, Polls, Syncs, Keeps, calls_op, Move, step, MayStep, IsIdle, request_of, payload_of, awaits_nothing, seal_of}
+use Rattle.vic_rules.specs.Client.{Standing, Sending, Invokes, Polls, Syncs, Keeps, move_to_call, Move, step, MayStep, IsIdle, request_of, payload_of, awaits_nothing, seal_of}
 use Rattle.vic_rules.specs.History.{standing}
-use Rattle.vic_rules.specs.Trust.{IsForged, texts_made, text_sent, checked_texts, taken_by, took}
-use Rattle.vic_order.specs.Order.{Ordered, Server, Answered, fresh_server, ready, serve}
+use Rattle.vic_rules.specs.Trust.{IsForged, texts_made, text_sent, checked_texts, answer_unless_halted, answer_taken}
+use Rattle.vic_order.specs.Order.{Ordered, Server, Answered, fresh_server, ready_member, serve}
 use Rattle.vic_order.specs.Serving.{by_rule}
-use Rattle.vic_order.specs.Scenes.{Queue, Scene, opening, queue_of, set_queue, queued, server_at, set_server, server_of, steps, served_with, served, serves, taken, takes, unchanged, Event, Asks, Serves, Takes, Flips, Hears, Resends, Copies, Joins, happens, MayAsk}
+use Rattle.vic_order.specs.Scenes.{Queue, Scene, opening, queue_of, set_queue, queue_with, server_at, set_server, server_of, after_step, after_serving_with, after_serving_from, after_serving, after_taking_from, after_taking, payload_as_is, Event, Asks, Serves, Takes, Flips, Hears, Resends, Copies, Joins, after_event, MayAsk}
 use Rattle.vic_order.specs.Fates.{entries}
 use Rattle.vic_order.specs.Honest.{MayHonestly, scene_after, AreHonest}
 use Rattle.vic_spellings.proofs.Bytes.{bytes-sha256}
@@ -107,9 +107,9 @@ made_more : (g : Group) (w : World) (me : ℕ) (i : Input) → texts_made g (ste
 unfolding texts_made
 made_more g w me i = refl
 
-not_forged : (g : Group) (w : World) (me : ℕ) (i : Input) → AreMade (texts_made g w.history) (checked_texts g (move g w me i).next.path (taken_by (move g w me i).next i)) → (IsForged g w.history → ⊥)
+not_forged : (g : Group) (w : World) (me : ℕ) (i : Input) → AreMade (texts_made g w.history) (checked_texts g (move g w me i).next.path (answer_unless_halted (move g w me i).next i)) → (IsForged g w.history → ⊥)
     → IsForged g (step_of g w me i ∷ w.history) → ⊥
-unfolding took
+unfolding answer_taken
 not_forged g w me i made honest (inl before) = honest before
 not_forged g w me i made honest (inr now) = now.2 (made now.0 now.1)
 
@@ -131,7 +131,7 @@ module _ (s : Scene) (server : Server) (fit : SceneFits s server) (me : ℕ) (ab
   v = move g w me i
 
   abbrev up : List Queue
-  up = set_queue s.up me (queued (queue_of s.up me) x.sent)
+  up = set_queue s.up me (queue_with (queue_of s.up me) x.sent)
 
   keeps : Stays (texts_made g w.history) made
   keeps text h = subst (λ l. IsIn l text) (sym (made_more g w me i)) (in_right (text_sent g me v.next v.sends) (texts_made g w.history) text h)
@@ -139,25 +139,25 @@ module _ (s : Scene) (server : Server) (fit : SceneFits s server) (me : ℕ) (ab
   mine : Moved g (texts_made g w.history) me w.server.log v.next v.sends → w.up me ≡ [] → queue_of down me ≡ []
       → ClientFits g made me w.server.log (standing g me (x ∷ w.history)) (queue_of up me) (queue_of down me)
   mine happens up_is down_is =
-      let queue : queue_of up me ≡ queued [] x.sent =
-      queue-set_same s.up me (queued (queue_of s.up me) x.sent) above (omega (arith, upto, fit.one.up_count)) ∙ ap (λ q. queued q x.sent) up_is in
+      let queue : queue_of up me ≡ queue_with [] x.sent =
+      queue-set_same s.up me (queue_with (queue_of s.up me) x.sent) above (omega (arith, upto, fit.one.up_count)) ∙ ap (λ q. queue_with q x.sent) up_is in
       subst (λ l. ClientFits g l me w.server.log (standing g me (x ∷ w.history)) (queue_of up me) (queue_of down me)) (sym (made_more g w me i))
       (subst (λ t. ClientFits g (text_sent g me v.next v.sends ++ texts_made g w.history) me w.server.log t (queue_of up me) (queue_of down me)) (sym (standing_moved g me x w.history refl))
       (subst (λ u. ClientFits g (text_sent g me v.next v.sends ++ texts_made g w.history) me w.server.log v.next u (queue_of down me)) (sym queue)
-      (subst (λ d. ClientFits g (text_sent g me v.next v.sends ++ texts_made g w.history) me w.server.log v.next (queued [] x.sent) d) (sym down_is) happens)))
+      (subst (λ d. ClientFits g (text_sent g me v.next v.sends ++ texts_made g w.history) me w.server.log v.next (queue_with [] x.sent) d) (sym down_is) happens)))
 
   others : (j : ℕ) → (j ≡ me → ⊥) → 0 < j → j ≤ g.count
       → ClientFits g made j w.server.log (standing g j (x ∷ w.history)) (queue_of up j) (queue_of down j)
   others j apart low high =
       let back : me ≡ j → ⊥ = λ e. apart (sym e) in
       subst (λ t. ClientFits g made j w.server.log t (queue_of up j) (queue_of down j)) (sym (standing_kept g j x w.history back))
-      (subst (λ u. ClientFits g made j w.server.log (standing g j w.history) u (queue_of down j)) (sym (queue-set_other s.up me j (queued (queue_of s.up me) x.sent) above low apart))
+      (subst (λ u. ClientFits g made j w.server.log (standing g j w.history) u (queue_of down j)) (sym (queue-set_other s.up me j (queue_with (queue_of s.up me) x.sent) above low apart))
       (subst (λ d. ClientFits g made j w.server.log (standing g j w.history) (w.up j) d) (sym (same j apart low))
       (client-stays g (texts_made g w.history) made keeps j w.server.log [] (standing g j w.history) (w.up j) (w.down j) (fit.fits.clients j low high))))
 
   step_fits : Moved g (texts_made g w.history) me w.server.log v.next v.sends → w.up me ≡ [] → queue_of down me ≡ []
-      → AreMade (texts_made g w.history) (checked_texts g v.next.path (taken_by v.next i)) → SceneFits (steps (record s { down = down }) me i) server
-  unfolding steps
+      → AreMade (texts_made g w.history) (checked_texts g v.next.path (answer_unless_halted v.next i)) → SceneFits (after_step (record s { down = down }) me i) server
+  unfolding after_step
   step_fits happens up_is down_is texts = record {
     one = record { group = fit.one.group; up_count = length-set_queue s.up me _ ∙ fit.one.up_count; down_count = count; by = fit.one.by; only = fit.one.only };
     fits = record {
@@ -201,7 +201,7 @@ module _ (s : Scene) (server : Server) (fit : SceneFits s server) (me : ℕ) (ab
   client = fit.fits.clients me above upto
 
   asked : (i : Input) → MayStep s.group here i → IsIdle here → Moved s.group (texts_made s.group s.history) me server.log (move s.group (world_of s server) me i).next (move s.group (world_of s server) me i).sends
-      → checked_texts s.group (move s.group (world_of s server) me i).next.path (taken_by (move s.group (world_of s server) me i).next i) ≡ [] → SceneFits (steps s me i) server
+      → checked_texts s.group (move s.group (world_of s server) me i).next.path (answer_unless_halted (move s.group (world_of s server) me i).next i) ≡ [] → SceneFits (after_step s me i) server
   asked i may idle happens nothing_taken =
       let rests = idle_rests s.group me here (queue_of s.up me) (queue_of s.down me) client.doing (and_parts (awaits_nothing here.awaiting) (is_none here.halted) idle).0 client.busy client.up_is client.down_is in
       step_fits s server fit me above upto i may s.down fit.one.down_count (λ j apart low. refl) happens rests.0 rests.1 (subst (AreMade (texts_made s.group s.history)) (sym nothing_taken) (λ text h. absurd h))
@@ -211,9 +211,9 @@ module _ (s : Scene) (server : Server) (fit : SceneFits s server) (me : ℕ) (ab
 
   -- a client that calls an operation
   op_sent : (p : Phase) (o : Op) (load : Bool) → PhaseHolds (here.calls + 1) p → Fits o → AreBytesIn o → here.calls + 1 < 2 ^ 32
-      → Moved s.group (texts_made s.group s.history) me server.log (calls_op here p o load).next (calls_op here p o load).sends
+      → Moved s.group (texts_made s.group s.history) me server.log (move_to_call here p o load).next (move_to_call here p o load).sends
   op_sent p o load holds fits bytes few =
-      let next : Standing = (calls_op here p o load).next in
+      let next : Standing = (move_to_call here p o load).next in
       let next_fits : StandingFits next = record {
         sealed = client.fits.sealed;
         own = client.fits.own;
@@ -225,7 +225,7 @@ module _ (s : Scene) (server : Server) (fit : SceneFits s server) (me : ℕ) (ab
       now_sends s.group (texts_made s.group s.history) me server.log next (Invokes (here.calls + 1) o) client.seen client.newer client.is client.path next_fits refl
       (room, ((omega arith, few), ((fits, bytes), length-tag _ _))) tt
 
-  asks_fit : (i : Input) → MayAsk s me i → SceneFits (steps s me i) server
+  asks_fit : (i : Input) → MayAsk s me i → SceneFits (after_step s me i) server
   unfolding step
   asks_fit (input.Call o) may =
       let ask = may in
@@ -280,13 +280,13 @@ server_next s server (Copies n t) = server
 server_next s server (Joins me n) = server
 
 unfoldable pub server_after : Group → List Event → Server
-server_after g [] = fresh_server g.mode g.count ready
+server_after g [] = fresh_server g.mode g.count ready_member
 server_after g (m ∷ before) = server_next (scene_after g before) (server_after g before) m
 
 -- it serves a request
-pub serves-one : (s : Scene) (server : Server) → HasOne s server → (me : ℕ) → 0 < me → me ≤ s.group.count → (payload : List ℕ) (rest : Queue)
-    → HasOne (served_with s me rest (by_rule server me me payload)) (serve server me payload).next
-serves-one s server one me above upto payload rest = record {
+pub after_serving-one : (s : Scene) (server : Server) → HasOne s server → (me : ℕ) → 0 < me → me ≤ s.group.count → (payload : List ℕ) (rest : Queue)
+    → HasOne (after_serving_with s me rest (by_rule server me me payload)) (serve server me payload).next
+after_serving-one s server one me above upto payload rest = record {
   group = one.group;
   up_count = length-set_queue s.up me rest ∙ one.up_count;
   down_count = length-set_queue s.down me _ ∙ one.down_count;
@@ -301,7 +301,7 @@ module _ (s : Scene) (server : Server) (fit : SceneFits s server) (me : ℕ) (ab
   sent_fit : (seen newer : List Ordered) → server.log ≡ newer ++ seen → (standing s.group me s.history).path ≡ entries seen
       → StandingFits (standing s.group me s.history) → (sending : Sending) → queue_of s.down me ≡ [] → awaits_nothing (standing s.group me s.history).awaiting ≡ false
       → RequestGoes s.group (texts_made s.group s.history) me (standing s.group me s.history) sending
-      → (payload : List ℕ) → request_text (request_of s.group me (standing s.group me s.history) sending) ≡ payload → SceneFits (served_with s me [] (by_rule server me me payload)) (serve server me payload).next
+      → (payload : List ℕ) → request_text (request_of s.group me (standing s.group me s.history) sending) ≡ payload → SceneFits (after_serving_with s me [] (by_rule server me me payload)) (serve server me payload).next
   sent_fit seen newer is path fits sending down_is busy goes payload payload_is =
       let t : Standing = standing s.group me s.history in
       let made : List (List ℕ) = texts_made s.group s.history in
@@ -324,7 +324,7 @@ module _ (s : Scene) (server : Server) (fit : SceneFits s server) (me : ℕ) (ab
         does = v.answer;
       } in
       record {
-        one = serves-one s server fit.one me above upto payload [];
+        one = after_serving-one s server fit.one me above upto payload [];
         fits = record {
           steps = fit.fits.steps;
           honest = fit.fits.honest;
@@ -342,21 +342,21 @@ module _ (s : Scene) (server : Server) (fit : SceneFits s server) (me : ℕ) (ab
 
   serves_by : (queue_of s.up me ≡ [] → ⊥) → (seen newer : List Ordered) → server.log ≡ newer ++ seen
       → (standing s.group me s.history).path ≡ entries seen → StandingFits (standing s.group me s.history) → (doing : Doing) → queue_of s.up me ≡ up_by s.group me (standing s.group me s.history) doing → queue_of s.down me ≡ down_by doing
-      → IsBusy (standing s.group me s.history) doing → Does s.group (texts_made s.group s.history) me server.log (standing s.group me s.history) seen newer doing → SceneFits (serves by_rule s me) (served_next server me (queue_of s.up me))
-  unfolding serves
+      → IsBusy (standing s.group me s.history) doing → Does s.group (texts_made s.group s.history) me server.log (standing s.group me s.history) seen newer doing → SceneFits (after_serving by_rule s me) (served_next server me (queue_of s.up me))
+  unfolding after_serving
   serves_by waits seen newer is path fits Rests up_is down_is busy does = absurd (waits up_is)
   serves_by waits seen newer is path fits (Sends sending) up_is down_is busy does =
       let payload : List ℕ = request_text (request_of s.group me (standing s.group me s.history) sending) in
-      subst (λ q. SceneFits (served by_rule s me q (server_at s.servers (server_of s.served_by me))) (served_next server me q)) (sym up_is)
-      (subst (λ o. SceneFits (served by_rule s me (payload ∷ []) o) (serve server me payload).next) (sym (server_is s server fit.one me above upto))
+      subst (λ q. SceneFits (after_serving_from by_rule s me q (server_at s.servers (server_of s.served_by me))) (served_next server me q)) (sym up_is)
+      (subst (λ o. SceneFits (after_serving_from by_rule s me (payload ∷ []) o) (serve server me payload).next) (sym (server_is s server fit.one me above upto))
       (sent_fit seen newer is path fits sending down_is busy does payload refl))
   serves_by waits seen newer is path fits (Gets m) up_is down_is busy does = absurd (waits up_is)
 
-  serves_fit : (queue_of s.up me ≡ [] → ⊥) → SceneFits (serves by_rule s me) (served_next server me (queue_of s.up me))
+  serves_fit : (queue_of s.up me ≡ [] → ⊥) → SceneFits (after_serving by_rule s me) (served_next server me (queue_of s.up me))
   serves_fit waits = let c = fit.fits.clients me above upto in serves_by waits c.seen c.newer c.is c.path c.fits c.doing c.up_is c.down_is c.busy c.does
 
   got_fit : (seen newer : List Ordered) → server.log ≡ newer ++ seen → (standing s.group me s.history).path ≡ entries seen
-      → StandingFits (standing s.group me s.history) → (m : ToClient) → queue_of s.up me ≡ [] → AnswerComes s.group (texts_made s.group s.history) server.log seen newer m → SceneFits (taken unchanged s me (answer_text m ∷ [])) server
+      → StandingFits (standing s.group me s.history) → (m : ToClient) → queue_of s.up me ≡ [] → AnswerComes s.group (texts_made s.group s.history) server.log seen newer m → SceneFits (after_taking_from payload_as_is s me (answer_text m ∷ [])) server
   got_fit seen newer is path fits m up_is comes =
       let gone = payload_taken s.group (texts_made s.group s.history) me server.log seen newer (standing s.group me s.history) is path fits (answer_text m) m (answer_again m comes.spelled) comes
       (room_left s.group (texts_made s.group s.history) server (standing s.group me s.history) seen newer fit.fits.server is path) comes.bytes in
@@ -365,17 +365,17 @@ module _ (s : Scene) (server : Server) (fit : SceneFits s server) (me : ℕ) (ab
 
   takes_by : (queue_of s.down me ≡ [] → ⊥) → (seen newer : List Ordered) → server.log ≡ newer ++ seen
       → (standing s.group me s.history).path ≡ entries seen → StandingFits (standing s.group me s.history) → (doing : Doing) → queue_of s.up me ≡ up_by s.group me (standing s.group me s.history) doing → queue_of s.down me ≡ down_by doing
-      → Does s.group (texts_made s.group s.history) me server.log (standing s.group me s.history) seen newer doing → SceneFits (takes unchanged s me) server
-  unfolding takes
+      → Does s.group (texts_made s.group s.history) me server.log (standing s.group me s.history) seen newer doing → SceneFits (after_taking payload_as_is s me) server
+  unfolding after_taking
   takes_by waits seen newer is path fits Rests up_is down_is does = absurd (waits down_is)
   takes_by waits seen newer is path fits (Sends sending) up_is down_is does = absurd (waits down_is)
   takes_by waits seen newer is path fits (Gets m) up_is down_is does =
-      subst (λ q. SceneFits (taken unchanged s me q) server) (sym down_is) (got_fit seen newer is path fits m up_is does)
+      subst (λ q. SceneFits (after_taking_from payload_as_is s me q) server) (sym down_is) (got_fit seen newer is path fits m up_is does)
 
-  takes_fit : (queue_of s.down me ≡ [] → ⊥) → SceneFits (takes unchanged s me) server
+  takes_fit : (queue_of s.down me ≡ [] → ⊥) → SceneFits (after_taking payload_as_is s me) server
   takes_fit waits = let c = fit.fits.clients me above upto in takes_by waits c.seen c.newer c.is c.path c.fits c.doing c.up_is c.down_is c.does
 
-happens_fits : (s : Scene) (server : Server) → SceneFits s server → (m : Event) → MayHonestly s m → SceneFits (happens by_rule s m) (server_next s server m)
+happens_fits : (s : Scene) (server : Server) → SceneFits s server → (m : Event) → MayHonestly s m → SceneFits (after_event by_rule s m) (server_next s server m)
 happens_fits s server fit (Asks me i) may = asks_fit s server fit me may.1.0 may.1.1 i may.1.2
 happens_fits s server fit (Serves me) may = serves_fit s server fit me may.1.0 may.1.1 may.1.2
 happens_fits s server fit (Takes me) may = takes_fit s server fit me may.1.0 may.1.1 may.1.2
@@ -385,7 +385,7 @@ happens_fits s server fit (Resends me) may = absurd may.0
 happens_fits s server fit (Copies n t) may = absurd may.0
 happens_fits s server fit (Joins me n) may = absurd may.0
 
-opening_fits : (g : Group) → IsGroup g → SceneFits (opening g) (fresh_server g.mode g.count ready)
+opening_fits : (g : Group) → IsGroup g → SceneFits (opening g) (fresh_server g.mode g.count ready_member)
 unfolding standing
 opening_fits g group = record {
   one = record { group = group; up_count = length-replicate g.count _; down_count = length-replicate g.count _; by = refl; only = refl };

@@ -26,7 +26,7 @@ use Rattle.vic_rules.specs.declared.state.Awaiting.TheVariants as awaits
 use Rattle.vic_rules.specs.declared.trace.Input.TheVariants as input
 use Rattle.vic_rules.specs.declared.trace.TraceStep.{TraceStep}
 use Rattle.vic_rules.specs.declared.trace.Shown.{Shown}
-use Rattle.vic_rules.specs.Objects.{content_hash, reference_of, ended_by}
+use Rattle.vic_rules.specs.Objects.{content_hash, reference_of, outcome_after_decision}
 use Rattle.vic_rules.specs.Client.{Standing, Invokes, first_failing, is_done, onto}
 use Rattle.vic_rules.specs.History.{IsLawful, standing, move_of, Completion, completions}
 use Rattle.vic_rules.specs.Views.{confirmed_calls, view_of, IsLegal, left_by, IsInRealTime, HasAll, ShowsOnlyCalls}
@@ -74,8 +74,8 @@ pub record ReturnsItsFate (g : Group) (log : List Ordered) (past : List TraceSte
   pub returned : x.returned ≡ Some (fate o below)
 
 -- the number of the limit that a call would pass: entries in all, entries that aren't sealed, weight, entries that its client hasn't seen
-abbrev pub limit : Server → ℕ → Op → Option ℕ
-limit s known o = first_failing (
+abbrev pub passed_limit : Server → ℕ → Op → Option ℕ
+passed_limit s known o = first_failing (
     (4, not (nat_eq (size s) 1048576)) ∷ (2, not (nat_eq (size s - sealed_count s) 1024)) ∷ (3, not (is_put o) || nat_le (weight s + op_weight o) 8388608)
     ∷ (1, nat_le ((size s + 1) - known) 8192) ∷ [])
 
@@ -86,7 +86,7 @@ pub record RefusedAtLimit (s : Server) (payload : List ℕ) (r : ℕ) : Type 0 w
   pub op : Op
   pub tag : Digest32
   pub is : read_request payload ≡ Some (ask.Invoke known seq op tag)
-  pub limit_is : limit s known op ≡ Some r
+  pub limit_is : passed_limit s known op ≡ Some r
 
 -- there is room for one content more: contents in all, and bytes in all
 abbrev pub has_room_for : Server → List ℕ → Bool
@@ -249,7 +249,7 @@ IsAbortedSo o below = (u : ℕ) → (fate o below ≡ outcome.Aborted u) ↔ (St
 pub record CallRefused (t : Standing) (x : TraceStep) (r : ℕ) : Type 0 where
   pub other : t.awaiting ≡ awaits.Kept → ⊥
   pub returned : x.returned ≡ Some (outcome.Refused r)
-  pub object : x.object ≡ ended_by t.phase (outcome.Refused r)
+  pub object : x.object ≡ outcome_after_decision t.phase (outcome.Refused r)
 
 -- the refusal of a content, in a group with objects, is returned as what the call on objects ended with, and no call returns
 pub record StoreRefused (g : Group) (t : Standing) (x : TraceStep) (r : ℕ) : Type 0 where
@@ -308,10 +308,10 @@ pub record IsServedSo (g : Group) (server : Server) (me : ℕ) (payload : List �
   pub refused : (number : ℕ) → (serve server me payload).answer ≡ say.Refused number → RefusedAtLimit server payload number ⊎ ContentRefused g server payload number
   -- a call that would pass a limit is refused, with the number of that limit
   pub limited : (known seq : ℕ) (o : Op) (tag : Digest32) → read_request payload ≡ Some (ask.Invoke known seq o tag)
-      → (number : ℕ) → limit server known o ≡ Some number → (serve server me payload).answer ≡ say.Refused number
+      → (number : ℕ) → passed_limit server known o ≡ Some number → (serve server me payload).answer ≡ say.Refused number
   -- a call that would pass no limit is ordered as the newest entry of the log, and a Reply answers it
   pub ordered : (known seq : ℕ) (o : Op) (tag : Digest32) → read_request payload ≡ Some (ask.Invoke known seq o tag)
-      → limit server known o ≡ None → IsOrderedBy server me seq o tag (serve server me payload)
+      → passed_limit server known o ≡ None → IsOrderedBy server me seq o tag (serve server me payload)
   -- a sync is answered with what the client lacks
   pub synced : (known : ℕ) → read_request payload ≡ Some (ask.Sync known) → IsSyncedSo server known (serve server me payload).answer
   -- a content is refused exactly where it is new and there is no room for it, and else kept

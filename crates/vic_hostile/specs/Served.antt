@@ -1,7 +1,7 @@
 -- What a server in memory has, as the rule of its kind sees it.
 use Rattle.std.specs.Prelude.{◌≡◌, ℕ, List, Option, Some, None, replicate}
 use Rattle.vic_order.specs.Order.{Server}
-use Rattle.vic_server.specs.Replay.{Kept}
+use Rattle.vic_server.specs.Replay.{KeptServer}
 use Rattle.vic_attacks.specs.Hostile.{Hostile}
 
 -- the answer and the server after it are those that a rule gives
@@ -9,7 +9,7 @@ abbrev pub IsServed : List ℕ × Hostile → List ℕ → Hostile → Type 0
 IsServed given bytes next = (bytes ≡ given.0) × (next ≡ given.1)
 
 -- the kept server, without its history
-abbrev pub server_in : Option Kept → Option Server
+abbrev pub server_in : Option KeptServer → Option Server
 server_in (Some k) = Some k.server
 server_in None = None
 

@@ -4,7 +4,7 @@ ghost use Rattle.std.specs.Prelude.{◌≡◌, ◌≤◌, ◌<◌, length, IfOk,
 ghost use Rattle.std.specs.List.{AllByRecursion};
 ghost use Rattle.vic_dict.specs.Dictionary.{Fits};
 ghost use Rattle.vic_wire.specs.Messages.{HasSpelling, IsTagged};
-ghost use Rattle.vic_attacks.specs.Hostile.{swapped, with_swap, with_empty_part, part_or_bare, last_op, with_part_of, without_last};
+ghost use Rattle.vic_attacks.specs.Hostile.{entries_with_swap, with_swap, with_empty_part, part_or_bare, last_op, with_part_of, without_last};
 
 use std::alloc::Global;
 use vic_dict::{Bytes, NoMemory, Op};
@@ -44,7 +44,7 @@ fn reversed(alloc: Global, entries: &TaggedList, count: usize) -> Result<TaggedL
 fn swapped_list(alloc: Global, entries: &TaggedList) -> Result<TaggedList, NoMemory>
     requires some { 0 < length entries.now }
     requires spelled { AllByRecursion IsTagged entries.now }
-    ensures is { IfOk result (λ made. made ≡ swapped entries.now) }
+    ensures is { IfOk result (λ made. made ≡ entries_with_swap entries.now) }
     ensures spelled { IfOk result (λ made. AllByRecursion IsTagged made) }
     ensures count { IfOk result (λ made. length made ≡ length entries.now) }
 {

@@ -3,8 +3,8 @@
 ghost use Rattle.std.specs.Prelude.{◌≡◌, ◌≤◌, IfOk, OnErr};
 ghost use Rattle.vic_wire.specs.Messages.{HasSpelling, answer_text};
 ghost use Rattle.vic_order.specs.Order.{serve};
-ghost use Rattle.vic_server.specs.Changes.{IsPossible, leaves, makes};
-ghost use Rattle.vic_attacks.specs.Hostile.{hostile_from, number, counted, same, with_swap, with_empty_part, with_part_of, next_op, by_going, by_going_beside_kept, by_kept, told_to, late, early, by_kind};
+ghost use Rattle.vic_server.specs.Changes.{IsPossible, server_after, makes_change};
+ghost use Rattle.vic_attacks.specs.Hostile.{hostile_from, number, with_count, answer_as_is, with_swap, with_empty_part, with_part_of, next_op, by_going, by_going_beside_kept, by_kept, told_to, by_late_request, by_early_request, by_kind};
 ghost use Rattle.vic_hostile.specs.Served.{IsServed, server_in};
 
 use crate::changed::{with_empty_part, with_part_of, with_swap, without_last};
@@ -86,7 +86,7 @@ impl Hostile {
         who: u8,
         payload: &[u8],
     ) -> Result<Bytes, NoMemory>
-        ensures ok { IfOk result (λ b. IsServed (by_going same self.old who payload.now) b self.new) }
+        ensures ok { IfOk result (λ b. IsServed (by_going answer_as_is self.old who payload.now) b self.new) }
         ensures err { OnErr result (self.new ≡ self.old) }
     {
         let number = self.number();
@@ -107,10 +107,10 @@ impl Hostile {
     ) -> Result<Bytes, NoMemory>
         requires spelled { HasSpelling answer }
         requires possible { IsPossible self.old.going change }
-        requires next { leaves self.old.going change ≡ (serve self.old.going who payload.now).next }
-        requires makes { makes change ≡ (serve self.old.going who payload.now).change }
+        requires next { server_after self.old.going change ≡ (serve self.old.going who payload.now).next }
+        requires makes { makes_change change ≡ (serve self.old.going who payload.now).change }
         ensures answer { IfOk result (λ b. b ≡ answer_text answer) }
-        ensures ok { IfOk result (λ _. self.new ≡ record (counted self.old) { going = (serve self.old.going who payload.now).next }) }
+        ensures ok { IfOk result (λ _. self.new ≡ record (with_count self.old) { going = (serve self.old.going who payload.now).next }) }
         ensures err { OnErr result (self.new ≡ self.old) }
     {
         let number = self.number();
@@ -158,7 +158,7 @@ impl Hostile {
         who: u8,
         payload: &[u8],
     ) -> Result<Bytes, NoMemory>
-        ensures ok { IfOk result (λ b. IsServed (late HostileKind.Truncate self.old who payload.now) b self.new) }
+        ensures ok { IfOk result (λ b. IsServed (by_late_request HostileKind.Truncate self.old who payload.now) b self.new) }
         ensures err { OnErr result (self.new ≡ self.old) }
     {
         let number = self.number();
@@ -179,7 +179,7 @@ impl Hostile {
         who: u8,
         payload: &[u8],
     ) -> Result<Bytes, NoMemory>
-        ensures ok { IfOk result (λ b. IsServed (late HostileKind.Stale self.old who payload.now) b self.new) }
+        ensures ok { IfOk result (λ b. IsServed (by_late_request HostileKind.Stale self.old who payload.now) b self.new) }
         ensures err { OnErr result (self.new ≡ self.old) }
     {
         let Plan { answer, change } = self.going.plan(alloc, who, payload)?;
@@ -257,7 +257,7 @@ impl Hostile {
         who: u8,
         payload: &[u8],
     ) -> Result<Bytes, NoMemory>
-        ensures ok { IfOk result (λ b. IsServed (late HostileKind.Rollback self.old who payload.now) b self.new) }
+        ensures ok { IfOk result (λ b. IsServed (by_late_request HostileKind.Rollback self.old who payload.now) b self.new) }
         ensures err { OnErr result (self.new ≡ self.old) }
     {
         if self.number() <= 2 * self.after {
@@ -274,7 +274,7 @@ impl Hostile {
         who: u8,
         payload: &[u8],
     ) -> Result<Bytes, NoMemory>
-        ensures ok { IfOk result (λ b. IsServed (late HostileKind.Fork self.old who payload.now) b self.new) }
+        ensures ok { IfOk result (λ b. IsServed (by_late_request HostileKind.Fork self.old who payload.now) b self.new) }
         ensures err { OnErr result (self.new ≡ self.old) }
     {
         if who % 2 == 1 {
@@ -306,7 +306,7 @@ impl Hostile {
         who: u8,
         payload: &[u8],
     ) -> Result<Bytes, NoMemory>
-        ensures ok { IfOk result (λ b. IsServed (late HostileKind.Replay self.old who payload.now) b self.new) }
+        ensures ok { IfOk result (λ b. IsServed (by_late_request HostileKind.Replay self.old who payload.now) b self.new) }
         ensures err { OnErr result (self.new ≡ self.old) }
     {
         match self.told_to(alloc, who)? {
@@ -327,7 +327,7 @@ impl Hostile {
         payload: &[u8],
     ) -> Result<Bytes, NoMemory>
         requires { self.old.kind ≡ HostileKind.Replay }
-        ensures ok { IfOk result (λ b. IsServed (early self.old who payload.now) b self.new) }
+        ensures ok { IfOk result (λ b. IsServed (by_early_request self.old who payload.now) b self.new) }
         ensures err { OnErr result (self.new ≡ self.old) }
     {
         let number = self.number();
@@ -353,7 +353,7 @@ impl Hostile {
     // ---- by the kind
 
     fn late(&mut self, alloc: Global, seat: u32, who: u8, payload: &[u8]) -> Result<Bytes, NoMemory>
-        ensures ok { IfOk result (λ b. IsServed (late self.old.kind self.old who payload.now) b self.new) }
+        ensures ok { IfOk result (λ b. IsServed (by_late_request self.old.kind self.old who payload.now) b self.new) }
         ensures err { OnErr result (self.new ≡ self.old) }
     {
         match self.kind {
@@ -375,7 +375,7 @@ impl Hostile {
         who: u8,
         payload: &[u8],
     ) -> Result<Bytes, NoMemory>
-        ensures ok { IfOk result (λ b. IsServed (early self.old who payload.now) b self.new) }
+        ensures ok { IfOk result (λ b. IsServed (by_early_request self.old who payload.now) b self.new) }
         ensures err { OnErr result (self.new ≡ self.old) }
     {
         match self.kind {
@@ -394,7 +394,7 @@ fn aged(
     change: &Effect,
 ) -> Result<ToClient, NoMemory>
     requires { HasSpelling answer }
-    ensures is { IfOk result (λ a. a ≡ with_part_of past.now (next_op (leaves going.now.server change.now)) answer) }
+    ensures is { IfOk result (λ a. a ≡ with_part_of past.now (next_op (server_after going.now.server change.now)) answer) }
     ensures spelled { IfOk result (λ a. HasSpelling a) }
 {
     let next = going.sealed_after(change) + 1;

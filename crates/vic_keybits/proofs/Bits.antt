@@ -4,7 +4,7 @@ use Rattle.std.proofs.Common.{inl, inr}
 use Rattle.std.proofs.lemmas.Bool.{cases_lt}
 use Rattle.std.proofs.lemmas.List.{take_all}
 use Rattle.std.proofs.lemmas.Bool.Decides.{nat_tests}
-use Rattle.vic_wire.specs.Bits.{is_odd, bits_of_byte, key_bits, key_bit, bit_of, common, shared}
+use Rattle.vic_wire.specs.Bits.{is_odd, bits_of_byte, key_bits, key_bit, bit_of, shared_front, shared_bits}
 use Rattle.vic_keybits.specs.LowBits.{low_bits}
 use Rattle.vic_keybits.specs.Apart.{AreApartAt}
 
@@ -75,35 +75,35 @@ length-key_bits (b ∷ key) = omega (arith, length-key_bits key)
 -- ---- the first difference
 
 -- what two texts of bits have in common after bits that are the same
-common_after : (ps us vs : List Bool) → length (common (ps ++ us) (ps ++ vs)) ≡ length ps + length (common us vs)
+common_after : (ps us vs : List Bool) → length (shared_front (ps ++ us) (ps ++ vs)) ≡ length ps + length (shared_front us vs)
 common_after [] us vs = omega arith
 common_after (true ∷ ps) us vs = ap suc (common_after ps us vs) ∙ omega arith
 common_after (false ∷ ps) us vs = ap suc (common_after ps us vs) ∙ omega arith
 
-pub shared_later : (b : ℕ) (x y : List ℕ) → shared (b ∷ x) (b ∷ y) ≡ 9 + shared x y
+pub shared_later : (b : ℕ) (x y : List ℕ) → shared_bits (b ∷ x) (b ∷ y) ≡ 9 + shared_bits x y
 unfolding key_bits bits_of_byte
 shared_later b x y = common_after (true ∷ low_bits 8 b) (key_bits x) (key_bits y)
 
-pub shared_end_left : (y : ℕ) (ys : List ℕ) → shared [] (y ∷ ys) ≡ 0
+pub shared_end_left : (y : ℕ) (ys : List ℕ) → shared_bits [] (y ∷ ys) ≡ 0
 unfolding key_bits
 shared_end_left y ys = refl
 
-pub shared_end_right : (x : ℕ) (xs : List ℕ) → shared (x ∷ xs) [] ≡ 0
+pub shared_end_right : (x : ℕ) (xs : List ℕ) → shared_bits (x ∷ xs) [] ≡ 0
 unfolding key_bits
 shared_end_right x xs = refl
 
-pub shared_here : (x y : ℕ) (xs ys : List ℕ) (n : ℕ) → ((r s : List Bool) → n ≡ length (common (low_bits 8 x ++ r) (low_bits 8 y ++ s))) → shared (x ∷ xs) (y ∷ ys) ≡ suc n
+pub shared_here : (x y : ℕ) (xs ys : List ℕ) (n : ℕ) → ((r s : List Bool) → n ≡ length (shared_front (low_bits 8 x ++ r) (low_bits 8 y ++ s))) → shared_bits (x ∷ xs) (y ∷ ys) ≡ suc n
 unfolding key_bits bits_of_byte
 shared_here x y xs ys n h = ap suc (sym (h (key_bits xs) (key_bits ys)))
 
 -- two bits that are the same, or not
-pub common_same : (b c : Bool) (bs cs : List Bool) → b ≡ c → length (common (b ∷ bs) (c ∷ cs)) ≡ suc (length (common bs cs))
+pub common_same : (b c : Bool) (bs cs : List Bool) → b ≡ c → length (shared_front (b ∷ bs) (c ∷ cs)) ≡ suc (length (shared_front bs cs))
 common_same true true bs cs e = refl
 common_same false false bs cs e = refl
 common_same true false bs cs e = absurd cc
 common_same false true bs cs e = absurd cc
 
-pub common_apart : (b c : Bool) (bs cs : List Bool) → (b ≡ c → ⊥) → length (common (b ∷ bs) (c ∷ cs)) ≡ 0
+pub common_apart : (b c : Bool) (bs cs : List Bool) → (b ≡ c → ⊥) → length (shared_front (b ∷ bs) (c ∷ cs)) ≡ 0
 common_apart true true bs cs e = absurd (e refl)
 common_apart false false bs cs e = absurd (e refl)
 common_apart true false bs cs e = refl
@@ -115,17 +115,17 @@ last_bit m n h e = let r : m % 2 ≡ n % 2 = grind (arith, nat_tests) in omega a
 
 -- texts that are apart at a place
 pub shared_at : (a b : List ℕ) (place : ℕ) (n : ℕ) → AreApartAt a b place → place < length a → place < length b
-    → ((r s : List Bool) → n ≡ length (common (low_bits 8 (get_or a place 0) ++ r) (low_bits 8 (get_or b place 0) ++ s)))
-    → 9 * place + 1 + n ≡ shared a b
+    → ((r s : List Bool) → n ≡ length (shared_front (low_bits 8 (get_or a place 0) ++ r) (low_bits 8 (get_or b place 0) ++ s)))
+    → 9 * place + 1 + n ≡ shared_bits a b
 shared_at [] b place n h la lb e = absurd (omega arith)
 shared_at (x ∷ xs) [] place n h la lb e = absurd (omega arith)
 shared_at (x ∷ xs) (y ∷ ys) zero n h la lb e = omega (arith, shared_here x y xs ys n e)
 shared_at (x ∷ xs) (y ∷ ys) (suc place) n h la lb e =
     let heads : x ≡ y = cc (h.same) in
     let rest = shared_at xs ys place n (record { within_first = omega (arith, h.within_first); within_second = omega (arith, h.within_second); same = cc (h.same); apart = λ p q f. h.apart (omega arith) (omega arith) f }) (omega arith) (omega arith) e in
-    omega (arith, rest, ap (λ z. shared (x ∷ xs) (z ∷ ys)) heads, shared_later x xs ys)
+    omega (arith, rest, ap (λ z. shared_bits (x ∷ xs) (z ∷ ys)) heads, shared_later x xs ys)
 
-pub shared_ended : (a b : List ℕ) (place : ℕ) → AreApartAt a b place → (length a ≡ length b → ⊥) → (place < length a → place < length b → ⊥) → 9 * place ≡ shared a b
+pub shared_ended : (a b : List ℕ) (place : ℕ) → AreApartAt a b place → (length a ≡ length b → ⊥) → (place < length a → place < length b → ⊥) → 9 * place ≡ shared_bits a b
 shared_ended [] [] place h differ ended = absurd (differ refl)
 shared_ended [] (y ∷ ys) place h differ ended = let w = h.within_first in omega (arith, shared_end_left y ys)
 shared_ended (x ∷ xs) [] place h differ ended = let w = h.within_second in omega (arith, shared_end_right x xs)
@@ -133,7 +133,7 @@ shared_ended (x ∷ xs) (y ∷ ys) zero h differ ended = absurd (ended (omega ar
 shared_ended (x ∷ xs) (y ∷ ys) (suc place) h differ ended =
     let heads : x ≡ y = cc (h.same) in
     let rest = shared_ended xs ys place (record { within_first = omega (arith, h.within_first); within_second = omega (arith, h.within_second); same = cc (h.same); apart = λ p q f. h.apart (omega arith) (omega arith) f }) (λ e. differ (omega arith)) (λ p q. ended (omega arith) (omega arith)) in
-    omega (arith, rest, ap (λ z. shared (x ∷ xs) (z ∷ ys)) heads, shared_later x xs ys)
+    omega (arith, rest, ap (λ z. shared_bits (x ∷ xs) (z ∷ ys)) heads, shared_later x xs ys)
 
 full_at : (m n : ℕ) → m ≤ n → (m < n → ⊥) → m ≡ n
 full_at m n h g = elim (cases_lt m n) [ inl p ↦ absurd (g p) | inr p ↦ omega arith ]
@@ -158,9 +158,9 @@ half (suc (suc (suc (suc (suc (suc zero)))))) n h = omega arith
 half (suc (suc (suc (suc (suc (suc (suc zero))))))) n h = omega arith
 half (suc (suc (suc (suc (suc (suc (suc (suc k)))))))) n h = absurd (omega arith)
 
-pub apart_first : (left below x y : ℕ) (r s : List Bool) → left ≡ suc below → below < 8 → x / 2 ^ left ≡ y / 2 ^ left → (x / 2 ^ below ≡ y / 2 ^ below → ⊥) → 0 ≡ length (common (low_bits left x ++ r) (low_bits left y ++ s))
+pub apart_first : (left below x y : ℕ) (r s : List Bool) → left ≡ suc below → below < 8 → x / 2 ^ left ≡ y / 2 ^ left → (x / 2 ^ below ≡ y / 2 ^ below → ⊥) → 0 ≡ length (shared_front (low_bits left x ++ r) (low_bits left y ++ s))
 apart_first left below x y r s e small same apart =
     let upper : x / 2 ^ suc below ≡ y / 2 ^ suc below = subst (λ n. x / 2 ^ n ≡ y / 2 ^ n) e same in
-    let first : 0 ≡ length (common (low_bits (suc below) x ++ r) (low_bits (suc below) y ++ s)) =
+    let first : 0 ≡ length (shared_front (low_bits (suc below) x ++ r) (low_bits (suc below) y ++ s)) =
     sym (common_apart _ _ _ _ (λ bits. apart (last_bit _ _ (half below x small ∙ upper ∙ sym (half below y small)) bits))) in
-    subst (λ n. 0 ≡ length (common (low_bits n x ++ r) (low_bits n y ++ s))) (sym e) first
+    subst (λ n. 0 ≡ length (shared_front (low_bits n x ++ r) (low_bits n y ++ s))) (sym e) first

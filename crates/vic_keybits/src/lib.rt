@@ -1,12 +1,12 @@
 //! The bits of keys: nine for each byte, a 1 and then the byte's bits, the highest first; one 0 ends the key, and zeros follow.
 //!
-//! They are `key_bits` and `shared` of `specs/Bits.antt` of `vic_wire`, and the contract of each function says so. No call
+//! They are `key_bits` and `shared_bits` of `specs/Bits.antt` of `vic_wire`, and the contract of each function says so. No call
 //! takes memory. The words of the two laws at the end stand in `specs/Order.antt`.
 #![tactic(auto)]
 
 ghost use Rattle.std.specs.Prelude.{◌≡◌, ℕ, ◌+◌, ◌/◌, ◌^◌, ◌<◌, ◌≤◌, Bool, List, ◌++◌, length, MatchOption, IfSome, nat_eq};
 ghost use Rattle.std.specs.List.{starts_with};
-ghost use Rattle.vic_wire.specs.Bits.{is_odd, key_bits, key_bit, common, shared};
+ghost use Rattle.vic_wire.specs.Bits.{is_odd, key_bits, key_bit, shared_front, shared_bits};
 ghost use Rattle.vic_keybits.specs.LowBits.{low_bits};
 ghost use Rattle.vic_keybits.specs.Apart.{AreApartAt};
 ghost use Rattle.vic_keybits.specs.Order.{BitOrder, NoneIsPrefix};
@@ -50,7 +50,7 @@ fn bit_apart(x: u8, y: u8, left: u32) -> u32
     requires bits { (0 < left) × (left ≤ 8) }
     requires same { x / 2 ^ left ≡ y / 2 ^ left }
     requires apart { x ≡ y → ⊥ }
-    ensures first { (r s : List Bool) → result ≡ length (common (low_bits left x ++ r) (low_bits left y ++ s)) }
+    ensures first { (r s : List Bool) → result ≡ length (shared_front (low_bits left x ++ r) (low_bits left y ++ s)) }
     ensures few { result < left }
 {
     let below = left - 1;
@@ -64,7 +64,7 @@ fn bit_apart(x: u8, y: u8, left: u32) -> u32
 pub fn first_difference(a: &[u8], b: &[u8]) -> Option<u32>
     requires first { length a.now < 256 }
     requires second { length b.now < 256 }
-    ensures first { MatchOption result (a.now ≡ b.now) (λ i. (a.now ≡ b.now → ⊥) × (i ≡ shared a.now b.now)) }
+    ensures first { MatchOption result (a.now ≡ b.now) (λ i. (a.now ≡ b.now → ⊥) × (i ≡ shared_bits a.now b.now)) }
     ensures few { IfSome result (λ i. i < 2296) }
 {
     let place = first_apart(a, b);

@@ -9,7 +9,7 @@ use Rattle.vic_rules.specs.declared.trace.TraceStep.{TraceStep}
 use Rattle.vic_rules.specs.declared.trace.Shown.{Shown}
 use Rattle.vic_rules.specs.Client.{same_entry}
 use Rattle.vic_rules.specs.History.{AreSteps, Completion, completions}
-use Rattle.vic_rules.specs.Views.{or_else, confirmed, shown_as, confirmed_calls, last_prefix, view_of, IsSameCall, Agree, IsAnswered, ShowsOnlyCalls}
+use Rattle.vic_rules.specs.Views.{or_else, confirmation, shown_as, confirmed_calls, last_prefix, view_of, IsSameCall, Agree, IsAnswered, ShowsOnlyCalls}
 use Rattle.vic_laws.specs.OrderClaims.{CompletedOnce, ConfirmedIs, ConfirmedByOwner, ViewsAgree, ViewsShowOnlyCalls}
 use Rattle.vic_laws.proofs.SameOp.{same_entry-Decides}
 use Rattle.vic_laws.proofs.Calls.{Numbered, numbered, number_of, one_completion, newest_entry, completion_answers}
@@ -31,13 +31,13 @@ confirms_more c cs p (Some d) f b e = (inr f.0, f.1)
 confirms_more c cs p None f true e = (inl refl, (same_path-Decides c.prefix p).0 e)
 confirms_more c cs p None f false e = tt
 
-confirms : (cs : List Completion) (p : List Entry) → Confirms cs p (confirmed cs p)
-unfolding confirmed
+confirms : (cs : List Completion) (p : List Entry) → Confirms cs p (confirmation cs p)
+unfolding confirmation
 confirms [] p = tt
-confirms (c ∷ cs) p = confirms_more c cs p (confirmed cs p) (confirms cs p) (pointwise same_entry c.prefix p) refl
+confirms (c ∷ cs) p = confirms_more c cs p (confirmation cs p) (confirms cs p) (pointwise same_entry c.prefix p) refl
 
 -- what confirms a path is one of the completions, and has this path
-pub confirmed_tells : (cs : List Completion) (p : List Entry) (c : Completion) → confirmed cs p ≡ Some c → IsIn cs c × (c.prefix ≡ p)
+pub confirmed_tells : (cs : List Completion) (p : List Entry) (c : Completion) → confirmation cs p ≡ Some c → IsIn cs c × (c.prefix ≡ p)
 confirmed_tells cs p c e = subst (Confirms cs p) e (confirms cs p)
 
 or_else_some : (o : Option Completion) (c : Completion) → (d : Completion) × (or_else o (Some c) ≡ Some d)
@@ -45,15 +45,15 @@ or_else_some None c = (c, refl)
 or_else_some (Some d) c = (d, refl)
 
 -- the path of a completion is confirmed
-pub confirmed_found : (cs : List Completion) (p : List Entry) (c : Completion) → IsIn cs c → c.prefix ≡ p → (d : Completion) × (confirmed cs p ≡ Some d)
-unfolding confirmed
+pub confirmed_found : (cs : List Completion) (p : List Entry) (c : Completion) → IsIn cs c → c.prefix ≡ p → (d : Completion) × (confirmation cs p ≡ Some d)
+unfolding confirmation
 confirmed_found [] p c h e = absurd h
 confirmed_found (b ∷ cs) p c (inl same) e =
     let test : pointwise same_entry b.prefix p ≡ true = (same_path-Decides b.prefix p).1 (ap (λ (d : Completion). d.prefix) same ∙ e) in
-    let some : (d : Completion) × (or_else (confirmed cs p) (Some b) ≡ Some d) = or_else_some (confirmed cs p) b in
-    (some.0, ap (λ (t : Bool). or_else (confirmed cs p) (if t then Some b else None)) test ∙ some.1)
+    let some : (d : Completion) × (or_else (confirmation cs p) (Some b) ≡ Some d) = or_else_some (confirmation cs p) b in
+    (some.0, ap (λ (t : Bool). or_else (confirmation cs p) (if t then Some b else None)) test ∙ some.1)
 confirmed_found (b ∷ cs) p c (inr h) e =
-    let older : (d : Completion) × (confirmed cs p ≡ Some d) = confirmed_found cs p c h e in
+    let older : (d : Completion) × (confirmation cs p ≡ Some d) = confirmed_found cs p c h e in
     (older.0, ap (λ (o : Option Completion). or_else o (if pointwise same_entry b.prefix p then Some b else None)) older.1)
 
 -- a completion is of its path's newest entry's client and number
@@ -76,9 +76,9 @@ pub completed_once : CompletedOnce
 completed_once g h lawful c d hc hd e f p q ec ed same = same_completion g h lawful.steps c d hc hd e f p q ec ed same
 
 -- the path of a completion is confirmed by it
-pub confirmed_by : (g : Group) (h : List TraceStep) → AreSteps g h → (p : List Entry) (c : Completion) → IsIn (completions g h) c → c.prefix ≡ p → confirmed (completions g h) p ≡ Some c
+pub confirmed_by : (g : Group) (h : List TraceStep) → AreSteps g h → (p : List Entry) (c : Completion) → IsIn (completions g h) c → c.prefix ≡ p → confirmation (completions g h) p ≡ Some c
 confirmed_by g h steps p c w e =
-    let found : (d : Completion) × (confirmed (completions g h) p ≡ Some d) = confirmed_found (completions g h) p c w e in
+    let found : (d : Completion) × (confirmation (completions g h) p ≡ Some d) = confirmed_found (completions g h) p c w e in
     let tells : IsIn (completions g h) found.0 × (found.0.prefix ≡ p) = confirmed_tells (completions g h) p found.0 found.1 in
     let n : Numbered c = numbered g h steps c w in
     let same : found.0 ≡ c =
@@ -107,7 +107,7 @@ pub record ShownAt (cs : List Completion) (p : List Entry) (x : Shown) (older : 
   pub below : List Entry
   pub by : Completion
   pub is : p ≡ above ++ entry ∷ below
-  pub confirms : confirmed cs (entry ∷ below) ≡ Some by
+  pub confirms : confirmation cs (entry ∷ below) ≡ Some by
   pub shown : x ≡ record { entry = entry; outcome = by.outcome }
   pub rest : older ≡ confirmed_calls cs below
 
@@ -134,7 +134,7 @@ shown_above cs e p x older s = record {
 }
 
 shown_more : (cs : List Completion) (e : Entry) (p : List Entry) (newer : List Shown) (x : Shown) (older : List Shown)
-    → (o : Option Completion) → confirmed cs (e ∷ p) ≡ o → shown_as e o ++ confirmed_calls cs p ≡ newer ++ x ∷ older
+    → (o : Option Completion) → confirmation cs (e ∷ p) ≡ o → shown_as e o ++ confirmed_calls cs p ≡ newer ++ x ∷ older
     → ((newer : List Shown) → confirmed_calls cs p ≡ newer ++ x ∷ older → ShownAt cs p x older) → ShownAt cs (e ∷ p) x older
 shown_more cs e p newer x older None c is before = shown_above cs e p x older (before newer is)
 shown_more cs e p [] x older (Some b) c is before = record {
@@ -154,7 +154,7 @@ shown_more cs e p (y ∷ newer) x older (Some b) c is before =
 pub shown_at : (cs : List Completion) (p : List Entry) (newer : List Shown) (x : Shown) (older : List Shown) → confirmed_calls cs p ≡ newer ++ x ∷ older → ShownAt cs p x older
 unfolding confirmed_calls
 shown_at cs [] newer x older e = absurd (nil_splits newer older x e)
-shown_at cs (f ∷ p) newer x older e = shown_more cs f p newer x older (confirmed cs (f ∷ p)) refl e (λ n w. shown_at cs p n x older w)
+shown_at cs (f ∷ p) newer x older e = shown_more cs f p newer x older (confirmation cs (f ∷ p)) refl e (λ n w. shown_at cs p n x older w)
 
 -- a list with an item splits there
 pub splits_at : {X : Type 0} (xs : List X) (x : X) → IsIn xs x → (newer : List X) × (older : List X) × (xs ≡ newer ++ x ∷ older)
@@ -171,7 +171,7 @@ shown_in cs p x h =
     (s.1, shown_at cs p s.0 x s.1 s.2)
 
 -- a confirmed position shows its call
-pub confirmed_more : (cs : List Completion) (e : Entry) (p : List Entry) (c : Completion) → confirmed cs (e ∷ p) ≡ Some c
+pub confirmed_more : (cs : List Completion) (e : Entry) (p : List Entry) (c : Completion) → confirmation cs (e ∷ p) ≡ Some c
     → confirmed_calls cs (e ∷ p) ≡ record { entry = e; outcome = c.outcome } ∷ confirmed_calls cs p
 unfolding confirmed_calls
 confirmed_more cs e p c is = ap (λ (o : Option Completion). shown_as e o ++ confirmed_calls cs p) is

@@ -9,9 +9,9 @@ use Rattle.vic_dict.specs.declared.op.Outcome.TheVariants as outcome
 use Rattle.vic_dict.specs.Dictionary.{Dictionary, reply, after}
 use Rattle.vic_wire.specs.Conflict.{conflicts, blocks}
 use Rattle.vic_wire.specs.Parts.{walked}
-use Rattle.vic_rules.specs.Client.{or_this, least_above, is_in_the_way, in_the_way, decided}
+use Rattle.vic_rules.specs.Client.{or_this, least_above, is_in_the_way, in_the_way, decided_outcome}
 use Rattle.vic_rules.specs.History.{Completion, completions}
-use Rattle.vic_rules.specs.Views.{confirmed}
+use Rattle.vic_rules.specs.Views.{confirmation}
 use Rattle.vic_commute.proofs.Heeding.{HeededAlike, heeded_itself, same_after, unblocked_after, heeded_reply, apart_unblocked}
 use Rattle.vic_laws.specs.OrderClaims.{effect_of, was_done, PicksOwn, AnswersStand}
 use Rattle.vic_laws.proofs.Words.{some_same}
@@ -88,7 +88,7 @@ walk o me base cs d picks own (e ∷ p) alone = now (cases_lt base (length (e �
         → HeededAlike o (own_laid cs me base d (e ∷ p)) (if picks (e ∷ p) then after (effect_of picks base d p) e.op else effect_of picks base d p)
     step above (inl mine) alike =
         subst₂ (λ w b. HeededAlike o w (if b then after (effect_of picks base d p) e.op else effect_of picks base d p)) (sym (laid_own cs me base d e p above mine)) (sym (own e p mine))
-        (both_done o (own_laid cs me base d p) (effect_of picks base d p) e (was_done (confirmed cs (e ∷ p))) alike)
+        (both_done o (own_laid cs me base d p) (effect_of picks base d p) e (was_done (confirmation cs (e ∷ p))) alike)
     step above (inr other) alike =
         subst (λ w. HeededAlike o w (if picks (e ∷ p) then after (effect_of picks base d p) e.op else effect_of picks base d p)) (sym (laid_other cs me base d e p other))
         (one_done o (own_laid cs me base d p) (effect_of picks base d p) e (picks (e ∷ p)) (alone.0 above other) alike)
@@ -112,7 +112,7 @@ reply_stands o me base cs d picks own p none =
 -- ---- the law
 
 -- what is done answers as the dictionary that it is decided over
-done_answers : (u : Option ℕ) (d : Dictionary) (o : Op) (a : Answer) → decided u d o ≡ outcome.Done a → a ≡ reply d o
+done_answers : (u : Option ℕ) (d : Dictionary) (o : Op) (a : Answer) → decided_outcome u d o ≡ outcome.Done a → a ≡ reply d o
 done_answers None d o a e = cc
 done_answers (Some u) d o a e = absurd cc
 
@@ -121,7 +121,7 @@ answers_stand g h lawful later x past whole seal entries bytes t e below path_is
     let d = decided_over g h lawful.steps later x past whole seal entries bytes t e below path_is in
     let laid = own_laid (completions g h) x.client seal.position (walked d.part e.op) below in
     let u = in_the_way x.client e.op seal.position below in
-    let done : decided u laid e.op ≡ outcome.Done a = some_same (sym d.returned ∙ returned) in
+    let done : decided_outcome u laid e.op ≡ outcome.Done a = some_same (sym d.returned ∙ returned) in
     done_answers u laid e.op a done
     ∙ (reply_stands e.op x.client seal.position (completions g h) (walked d.part e.op) picks own below (done_by_none u laid e.op a done)
     ∙ ap (λ w. reply (effect_of picks seal.position (walked w e.op) below) e.op) (some_same (sym d.is_part ∙ is_part)))

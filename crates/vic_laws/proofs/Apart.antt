@@ -7,7 +7,7 @@ use Rattle.std.proofs.lemmas.Bool.{and_parts, or_cases, false_from_ne_true}
 use Rattle.std.proofs.lemmas.Slice.Eq.{bytes_eq-Decides}
 use Rattle.vic_dict.specs.Lists.{IsIn}
 use Rattle.vic_wire.specs.Hashes.{hash}
-use Rattle.vic_laws.specs.Meanings.{listed, is_apart, are_apart, ApartIs}
+use Rattle.vic_laws.specs.Meanings.{listed_texts, is_apart, are_apart, ApartIs}
 use Rattle.vic_laws.proofs.Words.{all_true, all_at, bytes_same}
 use Rattle.vic_laws.proofs.Meanings.{listed_tells}
 
@@ -79,7 +79,7 @@ found_two (t ∷ ts) h = now (list_all (is_apart t) ts) refl (found_two ts)
 pub apart_tells : ApartIs
 apart_tells g h lawful = (
   (λ e.
-      let r = found_two (listed g h) e in
+      let r = found_two (listed_texts g h) e in
       record {
         one = r.one;
         other = r.other;
@@ -88,6 +88,6 @@ apart_tells g h lawful = (
         differ = r.differ;
         same_hash = r.same;
       }),
-  (λ c. false_from_ne_true (are_apart (listed g h))
-      (λ apart. pair_apart (listed g h) apart c.one c.other ((listed_tells g h lawful c.one).0 c.one_listed) ((listed_tells g h lawful c.other).0 c.other_listed) c.differ c.same_hash)),
+  (λ c. false_from_ne_true (are_apart (listed_texts g h))
+      (λ apart. pair_apart (listed_texts g h) apart c.one c.other ((listed_tells g h lawful c.one).0 c.one_listed) ((listed_tells g h lawful c.other).0 c.other_listed) c.differ c.same_hash)),
 )

@@ -14,7 +14,7 @@ use Rattle.vic_rules.specs.Objects.{content_hash, reference_text}
 use Rattle.vic_rules.specs.Client.{Standing, Move, Sending, Invokes, Commits, Polls, Seals, Syncs, Keeps, Fetches, step}
 use Rattle.vic_rules.specs.History.{standing, move_of, IsStep, AreSteps}
 use Rattle.vic_rules.specs.Views.{AsksFor}
-use Rattle.vic_rules.specs.Trust.{took}
+use Rattle.vic_rules.specs.Trust.{answer_taken}
 use Rattle.vic_laws.specs.ByCases.{TakesAnswer}
 use Rattle.vic_laws.specs.AskedClaims.{one_call, calls_made, StoresBefore, CallsAreAsked, CallsWhatItIsAsked, AskedAreCalled}
 use Rattle.vic_laws.specs.Limits.{NothingIsOpen}
@@ -118,9 +118,9 @@ calls_now g x past steps i o e sends = sends_by g past x i e ∙ (sends ∙ ap (
 kept_asks : (g : Group) (past : List TraceStep) (x : TraceStep) (o : Op) → TakesAnswer g past x say.Kept → AsksFor x.input o → ⊥
 kept_asks g past x o t asks = subst (λ (i : Input). AsksFor i o) t.came asks
 
-put_now : (g : Group) (x : TraceStep) (past : List TraceStep) → AreSteps g (x ∷ past) → took g past x ≡ Some say.Kept
+put_now : (g : Group) (x : TraceStep) (past : List TraceStep) → AreSteps g (x ∷ past) → answer_taken g past x ≡ Some say.Kept
     → (o : Op) × ((move_of g past x).sends ≡ Some (Invokes (suc (calls_made g x.client past)) o)) × StoresBefore past x.client o
-unfolding took
+unfolding answer_taken
 put_now g x past steps it =
     let w = (ending_at g x past steps).kept it in (
       w.0,

@@ -29,8 +29,8 @@ use Rattle.vic_rules.specs.declared.state.Awaiting.TheVariants as awaits
 use Rattle.vic_rules.specs.declared.trace.Input.{Input}
 use Rattle.vic_rules.specs.declared.trace.Input.TheVariants as input
 use Rattle.vic_rules.specs.declared.trace.TraceStep.{TraceStep}
-use Rattle.vic_rules.specs.Objects.{is_reference, hash_in, length_in, begun, kept_at, after_decision, Stepped}
-use Rattle.vic_rules.specs.Client.{Standing, Move, Sending, goes_to, waited, refused_at, replied, updated, halts, is_load, is_awaited, is_done, decision, MayStep, taken, taken_or_halts, on_payload, step, verdict, verdict_on, grown, payload_of}
+use Rattle.vic_rules.specs.Objects.{is_reference, hash_in, length_in, first_step, step_on_kept, after_decision, ObjectStep}
+use Rattle.vic_rules.specs.Client.{Standing, Move, Sending, move_by_object_step, move_on_wait, move_on_refusal, move_on_reply, move_on_update, move_to_halt, is_load, is_awaited, is_done, decision, MayStep, move_on_answer, move_on_verdict, move_on_payload, step, verdict, verdict_on, path_with_entries, payload_of}
 use Rattle.vic_rules.specs.History.{standing, move_of, IsStep, AreSteps}
 use Rattle.vic_laws.specs.CountClaims.{sent_one, sendings, asked_other, others_asked, SendsAreFew}
 use Rattle.vic_laws.proofs.Steps.{Passes}
@@ -86,7 +86,7 @@ sends_one (Some x) = 1
 abbrev pub Pays : Standing → Input → Move → Type 0
 Pays s i v = sends_one v.sends + balance v.next + 3 * s.calls ≤ asked_other i + balance s + 3 * v.next.calls
 
-pays_halt : (s : Standing) (i : Input) (k : ℕ) → Pays s i (halts s k)
+pays_halt : (s : Standing) (i : Input) (k : ℕ) → Pays s i (move_to_halt s k)
 pays_halt s i k = omega arith
 
 at_most_one : (h : Digest32) (len : ℕ) (b : Awaiting) → for_fetch (phase.Fetching h len) b ≤ 1
@@ -128,7 +128,7 @@ decided_fetch phase.Calling (outcome.Done (answer.Found v)) a apart gets b none 
     let most : for_fetch (after_decision phase.Calling (outcome.Done (answer.Found v))) b ≤ 1 = chosen (is_reference v) _ _ in
     omega (arith, one, most)
   where
-    chosen : (c : Bool) (x y : Next) → for_fetch (if◌then◌else◌ {A = Stepped} c (phase.Fetching (record { bytes = hash_in v }) (length_in v), x) (phase.Closed, y)).0 b ≤ 1
+    chosen : (c : Bool) (x y : Next) → for_fetch (if◌then◌else◌ {A = ObjectStep} c (phase.Fetching (record { bytes = hash_in v }) (length_in v), x) (phase.Closed, y)).0 b ≤ 1
     chosen true x y = at_most_one (record { bytes = hash_in v }) (length_in v) b
     chosen false x y = omega arith
 
@@ -146,7 +146,7 @@ nothing_apart a e h len f = let w : awaits.Nothing ≡ awaits.Content h len = sy
 entries_apart : (a : Awaiting) → a ≡ awaits.Entries → (h : Digest32) (len : ℕ) → a ≡ awaits.Content h len → ⊥
 entries_apart a e h len f = let w : awaits.Entries ≡ awaits.Content h len = sym e ∙ f in cc
 
-pays_reply : (me : ℕ) (s : Standing) (b : List ℕ) (seal : Seal) (path : List Entry) (part : Option Part) (a : Awaiting) → s.awaiting ≡ a → Pays s (input.Payload b) (replied me s seal path part a)
+pays_reply : (me : ℕ) (s : Standing) (b : List ℕ) (seal : Seal) (path : List Entry) (part : Option Part) (a : Awaiting) → s.awaiting ≡ a → Pays s (input.Payload b) (move_on_reply me s seal path part a)
 pays_reply me s b seal (e ∷ below) (Some part) (awaits.Reply n o load) same =
     let ends : Outcome = decision me s below seal.position part o in
     let own : Own = record { position = length (e ∷ below); op = o; done = is_done ends } in
@@ -164,7 +164,7 @@ pays_reply me s b seal (e ∷ below) (Some part) awaits.Entries same = pays_halt
 pays_reply me s b seal (e ∷ below) (Some part) awaits.Kept same = pays_halt s (input.Payload b) 1
 pays_reply me s b seal (e ∷ below) (Some part) (awaits.Content h len) same = pays_halt s (input.Payload b) 1
 
-pays_update : (s : Standing) (b : List ℕ) (seal : Seal) (part : Option Part) (own : List Own) → s.own ≡ own → s.awaiting ≡ awaits.Turn → Pays s (input.Payload b) (updated s seal part own)
+pays_update : (s : Standing) (b : List ℕ) (seal : Seal) (part : Option Part) (own : List Own) → s.own ≡ own → s.awaiting ≡ awaits.Turn → Pays s (input.Payload b) (move_on_update s seal part own)
 pays_update s b seal (Some part) (o ∷ others) is same =
     let whole : length s.own ≡ length {A = Own} (o ∷ others) = ap length is in
     let one : length {A = Own} (o ∷ others) ≡ length others + 1 = omega arith in
@@ -173,7 +173,7 @@ pays_update s b seal (Some part) (o ∷ others) is same =
 pays_update s b seal None own is same = pays_halt s (input.Payload b) 1
 pays_update s b seal (Some part) [] is same = pays_halt s (input.Payload b) 1
 
-pays_wait : (s : Standing) (b : List ℕ) (p : Phase) → s.phase ≡ p → s.awaiting ≡ awaits.Turn → Pays s (input.Payload b) (waited s p)
+pays_wait : (s : Standing) (b : List ℕ) (p : Phase) → s.phase ≡ p → s.awaiting ≡ awaits.Turn → Pays s (input.Payload b) (move_on_wait s p)
 pays_wait s b phase.Closed is same = let f : for_fetch s.phase awaits.Nothing ≤ for_fetch s.phase s.awaiting = fetch_same s.phase s.awaiting awaits.Nothing (turn_apart s.awaiting same) refl in omega arith
 pays_wait s b (phase.Keeping k h len) is same = let f : for_fetch s.phase awaits.Nothing ≤ for_fetch s.phase s.awaiting = fetch_same s.phase s.awaiting awaits.Nothing (turn_apart s.awaiting same) refl in omega arith
 pays_wait s b phase.Calling is same = let f : for_fetch s.phase awaits.Nothing ≤ for_fetch s.phase s.awaiting = fetch_same s.phase s.awaiting awaits.Nothing (turn_apart s.awaiting same) refl in omega arith
@@ -182,7 +182,7 @@ pays_wait s b (phase.Fetching h len) is same =
     let before : for_fetch s.phase s.awaiting ≡ 1 = ap (λ p. for_fetch p s.awaiting) is ∙ ap (for_fetch (phase.Fetching h len)) same in
     omega arith
 
-pays_refused : (s : Standing) (b : List ℕ) (r : ℕ) (a : Awaiting) → s.awaiting ≡ a → is_awaited a (say.Refused r) ≡ true → Pays s (input.Payload b) (refused_at s r a)
+pays_refused : (s : Standing) (b : List ℕ) (r : ℕ) (a : Awaiting) → s.awaiting ≡ a → is_awaited a (say.Refused r) ≡ true → Pays s (input.Payload b) (move_on_refusal s r a)
 pays_refused s b r awaits.Kept same form = omega arith
 pays_refused s b r (awaits.Reply n o load) same form =
     let f : for_fetch (after_decision s.phase (outcome.Refused r)) awaits.Nothing ≤ for_fetch s.phase s.awaiting = decided_fetch s.phase (outcome.Refused r) s.awaiting (reply_apart s.awaiting n o load same) (λ w e. absurd cc) awaits.Nothing refl in
@@ -192,15 +192,15 @@ pays_refused s b r awaits.Turn same form = absurd (true≢false (sym form))
 pays_refused s b r awaits.Entries same form = absurd (true≢false (sym form))
 pays_refused s b r (awaits.Content h len) same form = absurd (true≢false (sym form))
 
-pays_kept : (s : Standing) (b : List ℕ) (p : Phase) → s.phase ≡ p → Pays s (input.Payload b) (goes_to s false (kept_at p))
+pays_kept : (s : Standing) (b : List ℕ) (p : Phase) → s.phase ≡ p → Pays s (input.Payload b) (move_by_object_step s false (step_on_kept p))
 pays_kept s b (phase.Keeping k h len) is = let f : for_fetch s.phase s.awaiting ≡ 0 = ap (λ p. for_fetch p s.awaiting) is in omega arith
 pays_kept s b phase.Closed is = pays_halt s (input.Payload b) 1
 pays_kept s b phase.Calling is = pays_halt s (input.Payload b) 1
 pays_kept s b (phase.Fetching h len) is = pays_halt s (input.Payload b) 1
 
-pays_taken : (g : Group) (me : ℕ) (s : Standing) (b : List ℕ) (m : ToClient) → Passes g me s m → Pays s (input.Payload b) (taken me s m)
+pays_taken : (g : Group) (me : ℕ) (s : Standing) (b : List ℕ) (m : ToClient) → Passes g me s m → Pays s (input.Payload b) (move_on_answer me s m)
 pays_taken g me s b say.Hi passes = pays_halt s (input.Payload b) 1
-pays_taken g me s b (say.Reply seal entries part) passes = pays_reply me s b seal (grown s entries) (read_part part) s.awaiting refl
+pays_taken g me s b (say.Reply seal entries part) passes = pays_reply me s b seal (path_with_entries s entries) (read_part part) s.awaiting refl
 pays_taken g me s b say.Wait passes = pays_wait s b s.phase refl (wait_awaited s.awaiting passes.form)
 pays_taken g me s b (say.Update seal part) passes = pays_update s b seal (read_part part) s.own refl (update_awaited s.awaiting seal part (and_parts (is_awaited s.awaiting (say.Update seal part)) _ passes.form).0)
 pays_taken g me s b (say.Entries seal entries) passes =
@@ -213,17 +213,17 @@ pays_taken g me s b (say.Content c) passes = omega arith
 pays_taken g me s b say.Gone passes = pays_halt s (input.Payload b) 1
 pays_taken g me s b say.Absent passes = pays_halt s (input.Payload b) 1
 
-pays_read : (g : Group) (me : ℕ) (s : Standing) (b : List ℕ) (m : Option ToClient) (k : Option ℕ) → read_answer b ≡ m → verdict_on g me s m ≡ k → AreBytes b → Pays s (input.Payload b) (taken_or_halts me s m k)
+pays_read : (g : Group) (me : ℕ) (s : Standing) (b : List ℕ) (m : Option ToClient) (k : Option ℕ) → read_answer b ≡ m → verdict_on g me s m ≡ k → AreBytes b → Pays s (input.Payload b) (move_on_verdict me s m k)
 pays_read g me s b m (Some k) read e h = pays_halt s (input.Payload b) k
 pays_read g me s b (Some m) None read e h = pays_taken g me s b m (all_passed g me s m (answer_fits b m h read) e)
 pays_read g me s b None None read e h = pays_halt s (input.Payload b) 1
 
-pays_payload : (g : Group) (me : ℕ) (s : Standing) (b : List ℕ) (halted : Option ℕ) → AreBytes b → Pays s (input.Payload b) (on_payload g me s halted b)
+pays_payload : (g : Group) (me : ℕ) (s : Standing) (b : List ℕ) (halted : Option ℕ) → AreBytes b → Pays s (input.Payload b) (move_on_payload g me s halted b)
 unfolding verdict
 pays_payload g me s b (Some k) h = pays_halt s (input.Payload b) k
 pays_payload g me s b None h = pays_read g me s b (read_answer b) (verdict_on g me s (read_answer b)) refl refl h
 
-pays_object : (s : Standing) (c : ObjectCall) → Pays s (input.Object c) (goes_to s (is_load c) (begun c))
+pays_object : (s : Standing) (c : ObjectCall) → Pays s (input.Object c) (move_by_object_step s (is_load c) (first_step c))
 pays_object s (object.Store k c) = omega arith
 pays_object s (object.Load k) = omega arith
 pays_object s (object.Erase k) = omega arith

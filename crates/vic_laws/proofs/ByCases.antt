@@ -19,7 +19,7 @@ use Rattle.vic_rules.specs.declared.trace.Shown.{Shown}
 use Rattle.vic_rules.specs.Client.{Standing, Move, Sending, Invokes, Commits, Polls, Seals, Syncs, Keeps, Fetches, entries_of, seal_of, seal_text_on, commit_text_on, payload_of, tag_for, digest}
 use Rattle.vic_rules.specs.History.{standing, path, move_of, IsStep, AreSteps, Completion, completion, completions}
 use Rattle.vic_rules.specs.Views.{confirmed_calls, last_prefix, view_of, MakesCall, NoStepOf, IsAnswered, IsCompleted, ReturnedBefore}
-use Rattle.vic_rules.specs.Trust.{took, taken_by, seal_texts, checked_texts, texts_taken, texts_made, text_sent}
+use Rattle.vic_rules.specs.Trust.{answer_taken, answer_unless_halted, seal_texts, checked_texts, texts_taken, texts_made, text_sent}
 use Rattle.vic_laws.specs.ByCases.{RealTimeIs, TakesAnswer, TookIs, TakesText, of_entry, of_seal, TextsTakenAre, MakesText, with_call, with_status, with_seal, IsMadeIn, TextsMadeAre, CompletesAt, CompletesNowhere, EndsAt, at_call, at_start, ViewsEnd}
 use Rattle.vic_laws.proofs.Words.{some_same, none_is_some, in_left, in_right, in_either}
 use Rattle.vic_laws.proofs.Standings.{standing_moved, earlier_steps}
@@ -174,26 +174,26 @@ real_time_is g h lawful a b p q = (returned_to g h lawful.steps a b p q, returne
 then_is : (g : Group) (past : List TraceStep) (x : TraceStep) → standing g x.client (x ∷ past) ≡ (move_of g past x).next
 then_is g past x = standing_moved g x.client x past refl
 
-took_to : (g : Group) (past : List TraceStep) (x : TraceStep) (m : ToClient) → took g past x ≡ Some m → TakesAnswer g past x m
-unfolding took
+took_to : (g : Group) (past : List TraceStep) (x : TraceStep) (m : ToClient) → answer_taken g past x ≡ Some m → TakesAnswer g past x m
+unfolding answer_taken
 took_to g past x m e = now x.input refl e
   where
     going : (payload : List ℕ) (o : Option ℕ) → (move_of g past x).next.halted ≡ o → x.input ≡ input.Payload payload → (if is_none o then read_answer payload else None) ≡ Some m → TakesAnswer g past x m
     going payload None at came f = record { payload = payload; came = came; is = f; goes_on = ap (λ (s : Standing). s.halted) (then_is g past x) ∙ at }
     going payload (Some k) at came f = absurd (none_is_some f)
 
-    now : (i : Input) → x.input ≡ i → taken_by (move_of g past x).next i ≡ Some m → TakesAnswer g past x m
+    now : (i : Input) → x.input ≡ i → answer_unless_halted (move_of g past x).next i ≡ Some m → TakesAnswer g past x m
     now (input.Call o) came f = absurd (none_is_some f)
     now (input.Object c) came f = absurd (none_is_some f)
     now input.Poll came f = absurd (none_is_some f)
     now input.Sync came f = absurd (none_is_some f)
     now (input.Payload payload) came f = going payload (move_of g past x).next.halted refl came f
 
-took_from : (g : Group) (past : List TraceStep) (x : TraceStep) (m : ToClient) → TakesAnswer g past x m → took g past x ≡ Some m
-unfolding took
+took_from : (g : Group) (past : List TraceStep) (x : TraceStep) (m : ToClient) → TakesAnswer g past x m → answer_taken g past x ≡ Some m
+unfolding answer_taken
 took_from g past x m t =
     let on : (move_of g past x).next.halted ≡ None = ap (λ (s : Standing). s.halted) (sym (then_is g past x)) ∙ t.goes_on in
-    ap (taken_by (move_of g past x).next) t.came ∙ (ap (λ o. if is_none o then read_answer t.payload else None) on ∙ t.is)
+    ap (answer_unless_halted (move_of g past x).next) t.came ∙ (ap (λ o. if is_none o then read_answer t.payload else None) on ∙ t.is)
 
 pub took_is : TookIs
 took_is g past x m = (took_to g past x m, took_from g past x m)
@@ -213,7 +213,7 @@ path_then g past x = ap (λ (s : Standing). s.path) (sym (then_is g past x))
 
 taken_to : (g : Group) (past : List TraceStep) (x : TraceStep) (t : List ℕ) → IsIn (texts_taken g past x) t → TakesText g past x t
 unfolding seal_text_on
-taken_to g past x t i = now (took g past x) refl i
+taken_to g past x t i = now (answer_taken g past x) refl i
   where
     by_seal : (m : ToClient) → TakesAnswer g past x m → (o : Option Seal) → seal_of m ≡ o → IsIn (seal_texts g (move_of g past x).next.path o) t → TakesText g past x t
     by_seal m k None at j = absurd j
@@ -230,7 +230,7 @@ taken_to g past x t i = now (took g past x) refl i
             (sym (only (subst (λ (b : Bool). IsIn (if b then [] else seal_text_on g (move_of g past x).next.path s.position s.root.bytes ∷ []) t) (ne_eqb s.position 0 above) w))
             ∙ ap (λ (p : List Entry). seal_text s.position (chain g (front s.position p)) s.root.bytes) (path_then g past x))
 
-    now : (o : Option ToClient) → took g past x ≡ o → IsIn (checked_texts g (move_of g past x).next.path o) t → TakesText g past x t
+    now : (o : Option ToClient) → answer_taken g past x ≡ o → IsIn (checked_texts g (move_of g past x).next.path o) t → TakesText g past x t
     now None at j = absurd j
     now (Some m) at j =
         let k = took_to g past x m at in

@@ -10,7 +10,7 @@ use Rattle.vic_wire.specs.Hashes.{Group}
 use Rattle.vic_rules.specs.declared.state.Awaiting.TheVariants as awaits
 use Rattle.vic_rules.specs.declared.trace.Input.{Input}
 use Rattle.vic_rules.specs.declared.trace.TraceStep.{TraceStep}
-use Rattle.vic_rules.specs.Client.{Standing, Move, Sending, Invokes, Commits, Seals, decision, decided}
+use Rattle.vic_rules.specs.Client.{Standing, Move, Sending, Invokes, Commits, Seals, decision, decided_outcome}
 use Rattle.vic_rules.specs.History.{standing, path, move_of, IsStep, AreSteps, Completion, completion, completions}
 use Rattle.vic_rules.specs.Views.{MakesCall, NoStepOf, IsAnswered}
 use Rattle.vic_laws.proofs.Words.{in_left, in_right, in_either}
@@ -104,7 +104,7 @@ completed_by {g} {me} {s} {i} {v} r = record {
 }
 
 completion_decided : (me : ℕ) (p : List Entry) (u : Option ℕ) (d : Dictionary) (o : Op)
-    → completion me p (Some (decided u d o)) ≡ record { client = me; prefix = p; outcome = decided u d o } ∷ []
+    → completion me p (Some (decided_outcome u d o)) ≡ record { client = me; prefix = p; outcome = decided_outcome u d o } ∷ []
 completion_decided me p None d o = refl
 completion_decided me p (Some u) d o = refl
 

@@ -15,9 +15,9 @@ use Rattle.vic_rules.specs.declared.trace.Input.{Input}
 use Rattle.vic_rules.specs.declared.trace.Input.TheVariants as input
 use Rattle.vic_rules.specs.declared.trace.TraceStep.{TraceStep}
 use Rattle.vic_rules.specs.declared.trace.Shown.{Shown}
-use Rattle.vic_rules.specs.Client.{Standing, Move, step, decision, decided}
+use Rattle.vic_rules.specs.Client.{Standing, Move, step, decision, decided_outcome}
 use Rattle.vic_rules.specs.History.{standing, path, move_of, IsStep, AreSteps, Completion, completion, completions}
-use Rattle.vic_rules.specs.Views.{confirmed, confirmed_calls, last_prefix, view_of, IsSameCall, NoStepOf, IsAnswered, IsCompleted, is_call, HasAll, shown_as}
+use Rattle.vic_rules.specs.Views.{confirmation, confirmed_calls, last_prefix, view_of, IsSameCall, NoStepOf, IsAnswered, IsCompleted, is_call, HasAll, shown_as}
 use Rattle.vic_laws.specs.OrderClaims.{CompletedAs, CompletionsAre, ViewsComplete}
 use Rattle.vic_laws.proofs.Words.{in_right}
 use Rattle.vic_laws.proofs.Steps.{Replied, Kind, is_quiet, is_called, is_replied, is_updated, is_listed, call_of}
@@ -109,7 +109,7 @@ answered_completion g h steps e o done a =
     (completed_later g a.later (a.answer ∷ rest) e o
     (completed_here g rest a.answer now.1 e o a.owner a.returned done c.0.load awaiting))
 
-decided_completed : (u : Option ℕ) (d : Dictionary) (o : Op) → IsCompleted (decided u d o)
+decided_completed : (u : Option ℕ) (d : Dictionary) (o : Op) → IsCompleted (decided_outcome u d o)
 decided_completed None d o = tt
 decided_completed (Some u) d o = tt
 
@@ -229,7 +229,7 @@ unfolding confirmed_calls
 confirmed_below cs [] q = ([], refl)
 confirmed_below cs (e ∷ above) q =
     let older : (newer : List Shown) × (confirmed_calls cs (above ++ q) ≡ newer ++ confirmed_calls cs q) = confirmed_below cs above q in
-    let new : List Shown = shown_as e (confirmed cs (e ∷ (above ++ q))) in
+    let new : List Shown = shown_as e (confirmation cs (e ∷ (above ++ q))) in
     (new ++ older.0, ap (λ (v : List Shown). new ++ v) older.1 ∙ sym (append_assoc new older.0 (confirmed_calls cs q)))
 
 -- of two positions of one path that show one call, none is below the other
@@ -291,7 +291,7 @@ shows_once g h steps e o c p grown =
     let cs : List Completion = completions g h in
     let x : Shown = record { entry = e; outcome = o } in
     let place : p ≡ grown.0 ++ e ∷ c.below = grown.1 ∙ ap (λ (q : List Entry). grown.0 ++ q) c.is in
-    let by : confirmed cs (e ∷ c.below) ≡ Some c.by = confirmed_by g h steps (e ∷ c.below) c.by c.there c.is in
+    let by : confirmation cs (e ∷ c.below) ≡ Some c.by = confirmed_by g h steps (e ∷ c.below) c.by c.there c.is in
     let more : confirmed_calls cs (e ∷ c.below) ≡ x ∷ confirmed_calls cs c.below =
     confirmed_more cs e c.below c.by by ∙ ap (shown_with e (confirmed_calls cs c.below)) c.ends in
     let below : (newer : List Shown) × (confirmed_calls cs (grown.0 ++ e ∷ c.below) ≡ newer ++ confirmed_calls cs (e ∷ c.below)) = confirmed_below cs grown.0 (e ∷ c.below) in

@@ -16,7 +16,7 @@ use Rattle.vic_dict.specs.declared.op.Outcome.TheVariants as outcome
 use Rattle.vic_dict.specs.declared.op.Mode.{Mode}
 use Rattle.vic_dict.specs.declared.op.Mode.TheVariants as mode
 use Rattle.vic_dict.specs.Lists.{IsIn}
-use Rattle.vic_dict.specs.Dictionary.{Dictionary, reply, found, gone}
+use Rattle.vic_dict.specs.Dictionary.{Dictionary, reply, answer_of_get, answer_of_del}
 use Rattle.vic_wire.specs.declared.message.Digest32.{Digest32}
 use Rattle.vic_wire.specs.declared.message.ToClient.TheVariants as say
 use Rattle.vic_wire.specs.Texts.{content_text}
@@ -29,11 +29,11 @@ use Rattle.vic_rules.specs.declared.trace.Input.TheVariants as input
 use Rattle.vic_rules.specs.declared.trace.TraceStep.{TraceStep}
 use Rattle.vic_rules.specs.declared.trace.Shown.{Shown}
 use Rattle.vic_rules.specs.Objects.{content_hash, reference_text, reference_of, is_reference, hash_in, length_in, is_content_of}
-use Rattle.vic_rules.specs.Client.{Standing, Move, Invokes, Keeps, MayStep, IsIdle, decided, decision}
+use Rattle.vic_rules.specs.Client.{Standing, Move, Invokes, Keeps, MayStep, IsIdle, decided_outcome, decision}
 use Rattle.vic_wire.specs.Parts.{Part}
 use Rattle.vic_rules.specs.History.{standing, move_of, AreSteps, IsLawful, Completion, completions}
 use Rattle.vic_rules.specs.Views.{NoStepOf, IsAnswered, IsLegal, Explains, left_by, view_of}
-use Rattle.vic_rules.specs.Trust.{IsForged, Collides, of_content, contents_known, content_sent, content_in, took, taken_by}
+use Rattle.vic_rules.specs.Trust.{IsForged, Collides, of_content, contents_known, content_sent, content_in, answer_taken, answer_unless_halted}
 use Rattle.vic_laws.specs.ContentClaims.{IsTaken, NoAskOf, IsStore, LoadsLast, LoadsGetTheLast}
 use Rattle.vic_laws.proofs.Words.{in_left, in_right, bytes_same}
 use Rattle.vic_laws.proofs.Standings.{standing_moved, standing_kept, earlier_steps}
@@ -69,12 +69,12 @@ found_is : (d : Dictionary) (o : Op) (v : List ℕ) → answer.Found v ≡ reply
 found_is d (op.Put k w) v e = absurd cc
 found_is d (op.Get k) v e = (k, refl, had (map.get d k) e)
   where
-    had : (x : Option (List ℕ)) → answer.Found v ≡ found x → x ≡ Some v
+    had : (x : Option (List ℕ)) → answer.Found v ≡ answer_of_get x → x ≡ Some v
     had None e = absurd cc
     had (Some w) e = (let f : v ≡ w = cc in ap Some (sym f))
 found_is d (op.Del k) v e = absurd (gone_apart (map.get d k) e)
   where
-    gone_apart : (x : Option (List ℕ)) → answer.Found v ≡ gone x → ⊥
+    gone_apart : (x : Option (List ℕ)) → answer.Found v ≡ answer_of_del x → ⊥
     gone_apart None e = cc
     gone_apart (Some w) e = cc
 found_is d (op.List p) v e = absurd cc
@@ -141,7 +141,7 @@ quiet_alone me [] q = tt
 quiet_alone me (x ∷ h) q = ((λ e. absurd (q.0 e)), quiet_alone me h q.1)
 
 -- only a get is decided so that it finds a value
-decided_found : (u : Option ℕ) (d : Dictionary) (o : Op) (v : List ℕ) → decided u d o ≡ outcome.Done (answer.Found v) → (k : List ℕ) × (o ≡ op.Get k)
+decided_found : (u : Option ℕ) (d : Dictionary) (o : Op) (v : List ℕ) → decided_outcome u d o ≡ outcome.Done (answer.Found v) → (k : List ℕ) × (o ≡ op.Get k)
 decided_found (Some u) d o v e = absurd cc
 decided_found None d o v e = let f : reply d o ≡ answer.Found v = cc in let w = found_is d o v (sym f) in (w.0, w.1)
 
@@ -228,7 +228,7 @@ pub record AskedToStore (g : Group) (h : List TraceStep) (me : ℕ) (k : List �
 
 known_later : (g : Group) (x : TraceStep) (past : List TraceStep) (c : List ℕ) → IsIn (contents_known g past) c → IsIn (contents_known g (x ∷ past)) c
 unfolding contents_known
-known_later g x past c i = in_right (content_sent (move_of g past x).sends) _ c (in_right (content_in (took g past x)) (contents_known g past) c i)
+known_later g x past c i = in_right (content_sent (move_of g past x).sends) _ c (in_right (content_in (answer_taken g past x)) (contents_known g past) c i)
 
 pub known_since : (g : Group) (later past : List TraceStep) (c : List ℕ) → IsIn (contents_known g past) c → IsIn (contents_known g (later ++ past)) c
 known_since g [] past c i = i
@@ -238,9 +238,9 @@ pub known_sent : (g : Group) (x : TraceStep) (past : List TraceStep) (c : List �
 unfolding contents_known
 known_sent g x past c e = in_left (content_sent (move_of g past x).sends) _ c (subst (λ o. IsIn (content_sent o) c) (sym e) (inl refl))
 
-pub known_taken : (g : Group) (x : TraceStep) (past : List TraceStep) (c : List ℕ) → took g past x ≡ Some (say.Content c) → IsIn (contents_known g (x ∷ past)) c
+pub known_taken : (g : Group) (x : TraceStep) (past : List TraceStep) (c : List ℕ) → answer_taken g past x ≡ Some (say.Content c) → IsIn (contents_known g (x ∷ past)) c
 unfolding contents_known
-known_taken g x past c e = in_right (content_sent (move_of g past x).sends) _ c (in_left (content_in (took g past x)) (contents_known g past) c (subst (λ o. IsIn (content_in o) c) (sym e) (inl refl)))
+known_taken g x past c e = in_right (content_sent (move_of g past x).sends) _ c (in_left (content_in (answer_taken g past x)) (contents_known g past) c (subst (λ o. IsIn (content_in o) c) (sym e) (inl refl)))
 
 -- a client whose store awaits that its content is kept was asked for that store
 pub keeping_asked : (g : Group) (h : List TraceStep) → AreSteps g h → (me : ℕ) (k : List ℕ) (d : Digest32) (len : ℕ) → (standing g me h).halted ≡ None → (standing g me h).phase ≡ phase.Keeping k d len
@@ -442,10 +442,10 @@ load_is g h past lawful objects honest apart me d len content is known b there =
 
 -- each content that a load returned is that of the last done store of its name
 pub loads_get_the_last : LoadsGetTheLast
-unfolding took
+unfolding answer_taken
 loads_get_the_last g h lawful objects honest apart later x past is content given =
     let now : AreSteps g (x ∷ past) = earlier_steps g later (x ∷ past) (subst (AreSteps g) is lawful.steps) in
-    let f : Fetches (standing g x.client past) (taken_by (move_of g past x).next x.input) content = (phased_at g x past now).content content (sym now.1.object ∙ given) in
+    let f : Fetches (standing g x.client past) (answer_unless_halted (move_of g past x).next x.input) content = (phased_at g x past now).content content (sym now.1.object ∙ given) in
     let b : FoundBy g past x.client f.h f.len = fetching_found g past objects now.0 x.client f.h f.len f.fetching in
     load_is g h past lawful objects honest apart x.client f.h f.len content f.is
     (subst (λ (t : List TraceStep). IsIn (contents_known g t) content) (sym is) (known_since g later (x ∷ past) content (known_taken g x past content f.took_it))) b

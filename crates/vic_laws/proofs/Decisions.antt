@@ -10,9 +10,9 @@ use Rattle.vic_wire.specs.declared.message.Tagged.{Tagged}
 use Rattle.vic_wire.specs.declared.message.ToClient.TheVariants as say
 use Rattle.vic_wire.specs.Hashes.{Group}
 use Rattle.vic_rules.specs.declared.trace.TraceStep.{TraceStep}
-use Rattle.vic_rules.specs.Client.{is_in_the_way, in_the_way, decided, decision}
+use Rattle.vic_rules.specs.Client.{is_in_the_way, in_the_way, decided_outcome, decision}
 use Rattle.vic_rules.specs.History.{standing, path, move_of, AreSteps, IsStep, Completion, completions}
-use Rattle.vic_rules.specs.Trust.{took}
+use Rattle.vic_rules.specs.Trust.{answer_taken}
 use Rattle.vic_wire.specs.Parts.{Part, read_part, walked}
 use Rattle.vic_laws.specs.OrderClaims.{PassesAt, BlocksAt, DoneMeetsNoConflict, AbortedByTheLeast}
 use Rattle.vic_wire.specs.Conflict.{conflicts}
@@ -28,12 +28,12 @@ use Rattle.vic_laws.proofs.SameOp.{least_above_tells, none_above_tells}
 -- ---- what a decision tells
 
 -- what is done had nothing in the way
-pub done_by_none : (u : Option ℕ) (d : Dictionary) (o : Op) (a : Answer) → decided u d o ≡ outcome.Done a → u ≡ None
+pub done_by_none : (u : Option ℕ) (d : Dictionary) (o : Op) (a : Answer) → decided_outcome u d o ≡ outcome.Done a → u ≡ None
 done_by_none None d o a e = refl
 done_by_none (Some u) d o a e = absurd cc
 
 -- what is aborted had this position in the way
-aborted_by_some : (u : Option ℕ) (d : Dictionary) (o : Op) (v : ℕ) → decided u d o ≡ outcome.Aborted v → u ≡ Some v
+aborted_by_some : (u : Option ℕ) (d : Dictionary) (o : Op) (v : ℕ) → decided_outcome u d o ≡ outcome.Aborted v → u ≡ Some v
 aborted_by_some None d o v e = absurd cc
 aborted_by_some (Some u) d o v e = cc
 
@@ -44,8 +44,8 @@ same_reply s z ts us p q e = (cc, cc)
 
 -- a Reply that a client took is the Reply to its call
 pub reply_taken : (g : Group) (x : TraceStep) (past : List TraceStep) → Kind g x.client (standing g x.client past) x.input (move_of g past x) → (seal : Seal) (entries : List Tagged) (part : List ℕ)
-    → took g past x ≡ Some (say.Reply seal entries part) → (r : RepliedAt g past x) × ((r.seal ≡ seal) × (r.bytes ≡ part))
-unfolding took
+    → answer_taken g past x ≡ Some (say.Reply seal entries part) → (r : RepliedAt g past x) × ((r.seal ≡ seal) × (r.bytes ≡ part))
+unfolding answer_taken
 reply_taken g x past (is_quiet k) seal entries part t = absurd (none_is_some (sym (k.seals_nothing (say.Reply seal entries part) t).0))
 reply_taken g x past (is_called k) seal entries part t = absurd (let e = k.takes (say.Reply seal entries part) t in cc)
 reply_taken g x past (is_replied k) seal entries part t = (k, same_reply k.seal seal k.entries entries k.bytes part (some_same (sym k.takes ∙ t)))
@@ -56,14 +56,14 @@ reply_taken g x past (is_listed k) seal entries part t = absurd (let e = some_sa
 pub record DecidedOver (cs : List Completion) (x : TraceStep) (position : ℕ) (bytes : List ℕ) (e : Entry) (below : List Entry) : Type 0 where
   pub part : Part
   pub is_part : read_part bytes ≡ Some part
-  pub returned : x.returned ≡ Some (decided (in_the_way x.client e.op position below) (own_laid cs x.client position (walked part e.op) below) e.op)
+  pub returned : x.returned ≡ Some (decided_outcome (in_the_way x.client e.op position below) (own_laid cs x.client position (walked part e.op) below) e.op)
 
 pub same_parts : (a b : Entry) (p q : List Entry) → a ∷ p ≡ b ∷ q → (a ≡ b) × (p ≡ q)
 same_parts a b p q e = (cc, cc)
 
 -- a step that took a Reply decided so
 pub decided_over : (g : Group) (h : List TraceStep) → AreSteps g h → (later : List TraceStep) (x : TraceStep) (past : List TraceStep) → h ≡ later ++ x ∷ past
-    → (seal : Seal) (entries : List Tagged) (bytes : List ℕ) → took g past x ≡ Some (say.Reply seal entries bytes) → (e : Entry) (below : List Entry) → path g x.client (x ∷ past) ≡ e ∷ below
+    → (seal : Seal) (entries : List Tagged) (bytes : List ℕ) → answer_taken g past x ≡ Some (say.Reply seal entries bytes) → (e : Entry) (below : List Entry) → path g x.client (x ∷ past) ≡ e ∷ below
     → DecidedOver (completions g h) x seal.position bytes e below
 unfolding decision
 decided_over g h lawful later x past whole seal entries bytes t e below path_is = now (reply_taken g x past (kind_of g past x is) seal entries bytes t)
@@ -80,7 +80,7 @@ decided_over g h lawful later x past whole seal entries bytes t e below path_is 
         (subst₂ (DecidedOver (completions g h) x r.seal.position r.bytes) same.0 same.1 (record {
           part = r.part;
           is_part = r.is_part;
-          returned = is.returned ∙ (ap (λ v. v.returns) r.moved ∙ ap (λ d. Some (decided (in_the_way x.client r.op r.seal.position (r.others ++ path g x.client past)) d r.op)) (lays_at g h lawful later x past whole r));
+          returned = is.returned ∙ (ap (λ v. v.returns) r.moved ∙ ap (λ d. Some (decided_outcome (in_the_way x.client r.op r.seal.position (r.others ++ path g x.client past)) d r.op)) (lays_at g h lawful later x past whole r));
         }))
 
 -- ---- what is in the way
@@ -118,5 +118,5 @@ aborted_by_the_least g h lawful later x past whole seal entries part t e below p
     let d = decided_over g h lawful.steps later x past whole seal entries part t e below path_is in
     let tells = least_above_tells seal.position _ below u in (
       λ returned. tells.0 (aborted_by_some (in_the_way x.client e.op seal.position below) (own_laid (completions g h) x.client seal.position (walked d.part e.op) below) e.op u (some_same (sym d.returned ∙ returned))),
-      λ least. d.returned ∙ ap (λ w. Some (decided w (own_laid (completions g h) x.client seal.position (walked d.part e.op) below) e.op)) (tells.1 least),
+      λ least. d.returned ∙ ap (λ w. Some (decided_outcome w (own_laid (completions g h) x.client seal.position (walked d.part e.op) below) e.op)) (tells.1 least),
     )

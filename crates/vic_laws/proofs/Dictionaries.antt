@@ -22,7 +22,7 @@ use Rattle.vic_rules.specs.declared.state.Own.{Own}
 use Rattle.vic_rules.specs.declared.trace.Shown.{Shown}
 use Rattle.vic_rules.specs.Client.{is_done, is_write, new_root}
 use Rattle.vic_rules.specs.History.{Completion}
-use Rattle.vic_rules.specs.Views.{confirmed, confirmed_calls, shown_as, left_by, outcome_leaves}
+use Rattle.vic_rules.specs.Views.{confirmation, confirmed_calls, shown_as, left_by, outcome_leaves}
 use Rattle.vic_roots.proofs.Proper.{proper-nothing, proper-after, byte_keys-proper}
 use Rattle.vic_tree.specs.Binding.{Collides as TreesCollide}
 use Rattle.vic_tree.proofs.Alike.{byte_entries, short_entries, byte_words}
@@ -47,7 +47,7 @@ proper_shown e (Some c) v is p = proper_outcome (left_by v) e c.outcome c.outcom
 pub left_proper : (cs : List Completion) (p : List Entry) → AllByRecursion IsEntry p → IsProper (left_by (confirmed_calls cs p))
 unfolding confirmed_calls left_by
 left_proper cs [] s = proper-nothing
-left_proper cs (e ∷ p) s = proper_shown e (confirmed cs (e ∷ p)) (confirmed_calls cs p) s.0 (left_proper cs p s.1)
+left_proper cs (e ∷ p) s = proper_shown e (confirmation cs (e ∷ p)) (confirmed_calls cs p) s.0 (left_proper cs p s.1)
 
 -- the root of the dictionary without a key
 root_of_nothing : dictionary_root nothing ≡ empty_root
@@ -104,7 +104,7 @@ root_written o d part root x proper bytes cut reached e same status =
     ∙ ap dictionary_root (sym (leaves_done d x x.outcome ∙ (ap (λ b. if b then after d x.entry.op else d) status ∙ ap (λ q. if o.done then after d q else d) same)))
 
 -- what a path leaves whose newest entry is confirmed
-pub left_next : (cs : List Completion) (e : Entry) (p : List Entry) (c : Completion) → confirmed cs (e ∷ p) ≡ Some c
+pub left_next : (cs : List Completion) (e : Entry) (p : List Entry) (c : Completion) → confirmation cs (e ∷ p) ≡ Some c
     → left_by (confirmed_calls cs (e ∷ p)) ≡ outcome_leaves (left_by (confirmed_calls cs p)) (record { entry = e; outcome = c.outcome }) c.outcome
 unfolding confirmed_calls left_by
 left_next cs e p c found = ap (λ o. left_by (shown_as e o ++ confirmed_calls cs p)) found

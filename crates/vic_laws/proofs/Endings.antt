@@ -31,11 +31,11 @@ use Rattle.vic_rules.specs.declared.state.Awaiting.TheVariants as awaits
 use Rattle.vic_rules.specs.declared.trace.Input.{Input}
 use Rattle.vic_rules.specs.declared.trace.Input.TheVariants as input
 use Rattle.vic_rules.specs.declared.trace.TraceStep.{TraceStep}
-use Rattle.vic_rules.specs.Objects.{is_reference, reference_text, begun, kept_at, after_decision, ended_by}
-use Rattle.vic_rules.specs.Client.{Standing, Move, Sending, Invokes, Commits, Polls, Seals, Syncs, Keeps, Fetches, calls_op, goes_to, waited, refused_at, replied, updated, halts, is_load, is_awaited, is_wanted, decided, decision, finds_reference, loads_reference, MayStep, taken, taken_or_halts, on_payload, step, verdict, verdict_on, grown}
+use Rattle.vic_rules.specs.Objects.{is_reference, reference_text, first_step, step_on_kept, after_decision, outcome_after_decision}
+use Rattle.vic_rules.specs.Client.{Standing, Move, Sending, Invokes, Commits, Polls, Seals, Syncs, Keeps, Fetches, move_to_call, move_by_object_step, move_on_wait, move_on_refusal, move_on_reply, move_on_update, move_to_halt, is_load, is_awaited, is_wanted, decided_outcome, decision, finds_reference, loads_reference, MayStep, move_on_answer, move_on_verdict, move_on_payload, step, verdict, verdict_on, path_with_entries}
 use Rattle.vic_rules.specs.History.{standing, move_of, AreSteps}
 use Rattle.vic_rules.specs.Views.{IsCompleted}
-use Rattle.vic_rules.specs.Trust.{taken_by}
+use Rattle.vic_rules.specs.Trust.{answer_unless_halted}
 use Rattle.vic_laws.specs.ContentClaims.{IsTaken}
 use Rattle.vic_laws.proofs.Words.{some_same, none_is_some}
 use Rattle.vic_laws.proofs.Steps.{Passes}
@@ -53,7 +53,7 @@ pub record Decided (s : Standing) (took : Option ToClient) (v : Move) : Type 0 w
   pub awaited : s.awaiting ≡ awaits.Reply number called load
   pub completes : IsCompleted ends
   pub returned : v.returns ≡ Some ends
-  pub object : v.object ≡ ended_by s.phase ends
+  pub object : v.object ≡ outcome_after_decision s.phase ends
   pub turned : v.next.phase ≡ after_decision s.phase ends
   pub gets : (w : List ℕ) → ends ≡ outcome.Done (answer.Found w) → (k : List ℕ) × (called ≡ op.Get k)
   pub loads : (w : List ℕ) → ends ≡ outcome.Done (answer.Found w) → load ≡ true → is_reference w ≡ true
@@ -67,7 +67,7 @@ pub record RefusedCall (s : Standing) (took : Option ToClient) (v : Move) : Type
   pub reason : ℕ
   pub awaited : s.awaiting ≡ awaits.Reply number called load
   pub returned : v.returns ≡ Some (outcome.Refused reason)
-  pub object : v.object ≡ ended_by s.phase (outcome.Refused reason)
+  pub object : v.object ≡ outcome_after_decision s.phase (outcome.Refused reason)
   pub no_content : (c : List ℕ) → took ≡ Some (say.Content c) → ⊥
 
 -- the content of a store is refused
@@ -126,14 +126,14 @@ pub record Fetched (s : Standing) (took : Option ToClient) (d : List ℕ) : Type
   pub is : d ≡ digest.bytes
 
 pub record Ending (g : Group) (s : Standing) (i : Input) (v : Move) : Type 0 where
-  pub returned : Returned s (taken_by v.next i) v
+  pub returned : Returned s (answer_unless_halted v.next i) v
   pub closed : g.mode ≡ mode.Plain → s.phase ≡ phase.Closed → v.next.phase ≡ phase.Closed
   pub calls : g.mode ≡ mode.Objects → Calls s → Calls v.next
-  pub fetches : (d : List ℕ) → v.sends ≡ Some (Fetches d) → Fetched s (taken_by v.next i) d
-  pub turn : taken_by v.next i ≡ Some say.Wait → s.awaiting ≡ awaits.Turn
-  pub waits : taken_by v.next i ≡ Some say.Wait → (h : Digest32) (len : ℕ) → s.phase ≡ phase.Fetching h len → v.sends ≡ Some (Fetches h.bytes)
+  pub fetches : (d : List ℕ) → v.sends ≡ Some (Fetches d) → Fetched s (answer_unless_halted v.next i) d
+  pub turn : answer_unless_halted v.next i ≡ Some say.Wait → s.awaiting ≡ awaits.Turn
+  pub waits : answer_unless_halted v.next i ≡ Some say.Wait → (h : Digest32) (len : ℕ) → s.phase ≡ phase.Fetching h len → v.sends ≡ Some (Fetches h.bytes)
   pub keeps : (c : List ℕ) → v.sends ≡ Some (Keeps c) → (name : List ℕ) × (i ≡ input.Object (object.Store name c))
-  pub kept : taken_by v.next i ≡ Some say.Kept → (o : Op) × (v.sends ≡ Some (Invokes (s.calls + 1) o))
+  pub kept : answer_unless_halted v.next i ≡ Some say.Kept → (o : Op) × (v.sends ≡ Some (Invokes (s.calls + 1) o))
   pub stays : IsTaken i → (h : Digest32) (len : ℕ) → Left s h len → Left v.next h len
 
 -- ---- what is apart
@@ -212,7 +212,7 @@ quiet_return s took v m returned object e refused content = is_nothing (record {
 
 -- ---- each answer
 
-ending_halt : (g : Group) (s : Standing) (b : List ℕ) (k : ℕ) → Ending g s (input.Payload b) (halts s k)
+ending_halt : (g : Group) (s : Standing) (b : List ℕ) (k : ℕ) → Ending g s (input.Payload b) (move_to_halt s k)
 ending_halt g s b k = record {
   returned = is_halted (record { check = k; returned = refl; object = refl; took_none = refl });
   closed = λ plain e. e;
@@ -225,7 +225,7 @@ ending_halt g s b k = record {
   stays = λ takes h len l. l;
 }
 
-decided_completes : (u : Option ℕ) (d : Dictionary) (o : Op) → IsCompleted (decided u d o)
+decided_completes : (u : Option ℕ) (d : Dictionary) (o : Op) → IsCompleted (decided_outcome u d o)
 decided_completes None d o = tt
 decided_completes (Some u) d o = tt
 
@@ -235,12 +235,12 @@ decision_completes me s below base part o = decided_completes _ _ o
 
 ending_reply : (g : Group) (me : ℕ) (s : Standing) (b : List ℕ) (seal : Seal) (entries : List Tagged) (bytes : List ℕ) (path : List Entry) (part : Option Part) (a : Awaiting)
     → s.halted ≡ None → read_answer b ≡ Some (say.Reply seal entries bytes) → Together s.phase s.awaiting → s.awaiting ≡ a → loads_reference me s seal path part a ≡ true
-    → Ending g s (input.Payload b) (replied me s seal path part a)
+    → Ending g s (input.Payload b) (move_on_reply me s seal path part a)
 ending_reply g me s b seal entries bytes (e ∷ below) (Some part) (awaits.Reply n o load) alive read t same content =
     let ends : Outcome = decision me s below seal.position part o in
-    let v : Move = replied me s seal (e ∷ below) (Some part) (awaits.Reply n o load) in
+    let v : Move = move_on_reply me s seal (e ∷ below) (Some part) (awaits.Reply n o load) in
     let m : ToClient = say.Reply seal entries bytes in
-    let it : taken_by v.next (input.Payload b) ≡ Some m = takes_read v.next b (Some m) alive read in
+    let it : answer_unless_halted v.next (input.Payload b) ≡ Some m = takes_read v.next b (Some m) alive read in
     record {
       returned = is_decided (record {
         number = n;
@@ -254,15 +254,15 @@ ending_reply g me s b seal entries bytes (e ∷ below) (Some part) (awaits.Reply
         turned = refl;
         gets = λ w f. decision_found me s below seal.position part o w f;
         loads = λ w f l. ap finds_reference (sym f) ∙ subst (λ (z : Bool). loads_reference me s seal (e ∷ below) (Some part) (awaits.Reply n o z) ≡ true) l content;
-        no_content = λ c f. took_other m (say.Content c) (taken_by v.next (input.Payload b)) it (λ w. cc) f;
+        no_content = λ c f. took_other m (say.Content c) (answer_unless_halted v.next (input.Payload b)) it (λ w. cc) f;
       });
       closed = λ plain f. ap (λ (p : Phase). after_decision p ends) f;
       calls = λ objects c k q l f. absurd (reply_turn k q l f);
       fetches = λ d f. absurd (commit_fetch _ d f);
-      turn = λ f. absurd (took_other m say.Wait (taken_by v.next (input.Payload b)) it (λ w. cc) f);
-      waits = λ f h len w. absurd (took_other m say.Wait (taken_by v.next (input.Payload b)) it (λ w. cc) f);
+      turn = λ f. absurd (took_other m say.Wait (answer_unless_halted v.next (input.Payload b)) it (λ w. cc) f);
+      waits = λ f h len w. absurd (took_other m say.Wait (answer_unless_halted v.next (input.Payload b)) it (λ w. cc) f);
       keeps = λ z f. absurd (not_keep v.sends z refl f);
-      kept = λ f. absurd (took_other m say.Kept (taken_by v.next (input.Payload b)) it (λ w. cc) f);
+      kept = λ f. absurd (took_other m say.Kept (answer_unless_halted v.next (input.Payload b)) it (λ w. cc) f);
       stays = λ takes h len l. absurd (reply_left s n o load same t h len l);
     }
 ending_reply g me s b seal entries bytes [] part a alive read t same content = ending_halt g s b 1
@@ -274,20 +274,20 @@ ending_reply g me s b seal entries bytes (e ∷ below) (Some part) awaits.Kept a
 ending_reply g me s b seal entries bytes (e ∷ below) (Some part) (awaits.Content h len) alive read t same content = ending_halt g s b 1
 
 ending_update : (g : Group) (s : Standing) (b : List ℕ) (seal : Seal) (bytes : List ℕ) (part : Option Part) (own : List Own) → s.halted ≡ None → read_answer b ≡ Some (say.Update seal bytes)
-    → s.awaiting ≡ awaits.Turn → Ending g s (input.Payload b) (updated s seal part own)
+    → s.awaiting ≡ awaits.Turn → Ending g s (input.Payload b) (move_on_update s seal part own)
 ending_update g s b seal bytes (Some part) (o ∷ others) alive read same =
-    let v : Move = updated s seal (Some part) (o ∷ others) in
+    let v : Move = move_on_update s seal (Some part) (o ∷ others) in
     let m : ToClient = say.Update seal bytes in
-    let it : taken_by v.next (input.Payload b) ≡ Some m = takes_read v.next b (Some m) alive read in
+    let it : answer_unless_halted v.next (input.Payload b) ≡ Some m = takes_read v.next b (Some m) alive read in
     record {
-      returned = quiet_return s (taken_by v.next (input.Payload b)) v m refl refl it (λ r w. cc) (λ c w. cc);
+      returned = quiet_return s (answer_unless_halted v.next (input.Payload b)) v m refl refl it (λ r w. cc) (λ c w. cc);
       closed = λ plain f. f;
       calls = λ objects c k q l f. absurd (reply_turn k q l f);
       fetches = λ d f. absurd (seal_fetch d f);
       turn = λ f. same;
-      waits = λ f h len w. absurd (took_other m say.Wait (taken_by v.next (input.Payload b)) it (λ w. cc) f);
+      waits = λ f h len w. absurd (took_other m say.Wait (answer_unless_halted v.next (input.Payload b)) it (λ w. cc) f);
       keeps = λ z f. absurd (not_keep v.sends z refl f);
-      kept = λ f. absurd (took_other m say.Kept (taken_by v.next (input.Payload b)) it (λ w. cc) f);
+      kept = λ f. absurd (took_other m say.Kept (answer_unless_halted v.next (input.Payload b)) it (λ w. cc) f);
       stays = λ takes h len l. elim l [ inl f ↦ inl f | inr f ↦ absurd (turn_nothing (sym same ∙ f)) ];
     }
 ending_update g s b seal bytes None own alive read same = ending_halt g s b 1
@@ -295,38 +295,38 @@ ending_update g s b seal bytes (Some part) [] alive read same = ending_halt g s 
 
 -- a Wait where no content is to be fetched
 waits_quiet : (g : Group) (s : Standing) (b : List ℕ) → s.halted ≡ None → read_answer b ≡ Some say.Wait → s.awaiting ≡ awaits.Turn
-    → ((h : Digest32) (len : ℕ) → s.phase ≡ phase.Fetching h len → ⊥) → Ending g s (input.Payload b) (waited s phase.Closed)
+    → ((h : Digest32) (len : ℕ) → s.phase ≡ phase.Fetching h len → ⊥) → Ending g s (input.Payload b) (move_on_wait s phase.Closed)
 waits_quiet g s b alive read same apart =
-    let v : Move = waited s phase.Closed in
-    let it : taken_by v.next (input.Payload b) ≡ Some say.Wait = takes_read v.next b (Some say.Wait) alive read in
+    let v : Move = move_on_wait s phase.Closed in
+    let it : answer_unless_halted v.next (input.Payload b) ≡ Some say.Wait = takes_read v.next b (Some say.Wait) alive read in
     record {
-      returned = quiet_return s (taken_by v.next (input.Payload b)) v say.Wait refl refl it (λ r w. cc) (λ c w. cc);
+      returned = quiet_return s (answer_unless_halted v.next (input.Payload b)) v say.Wait refl refl it (λ r w. cc) (λ c w. cc);
       closed = λ plain f. f;
       calls = λ objects c k q l f. absurd (reply_nothing k q l f);
       fetches = λ d f. absurd (no_fetch d f);
       turn = λ f. same;
       waits = λ f h len w. absurd (apart h len w);
       keeps = λ z f. absurd (not_keep v.sends z refl f);
-      kept = λ f. absurd (took_other say.Wait say.Kept (taken_by v.next (input.Payload b)) it (λ w. cc) f);
+      kept = λ f. absurd (took_other say.Wait say.Kept (answer_unless_halted v.next (input.Payload b)) it (λ w. cc) f);
       stays = λ takes h len l. inr refl;
     }
 
-ending_wait : (g : Group) (s : Standing) (b : List ℕ) (p : Phase) → s.halted ≡ None → read_answer b ≡ Some say.Wait → s.awaiting ≡ awaits.Turn → s.phase ≡ p → Ending g s (input.Payload b) (waited s p)
+ending_wait : (g : Group) (s : Standing) (b : List ℕ) (p : Phase) → s.halted ≡ None → read_answer b ≡ Some say.Wait → s.awaiting ≡ awaits.Turn → s.phase ≡ p → Ending g s (input.Payload b) (move_on_wait s p)
 ending_wait g s b phase.Closed alive read same is = waits_quiet g s b alive read same (λ h len e. closed_fetching h len (sym is ∙ e))
 ending_wait g s b (phase.Keeping k d l) alive read same is = waits_quiet g s b alive read same (λ h len e. keeping_fetching k d l h len (sym is ∙ e))
 ending_wait g s b phase.Calling alive read same is = waits_quiet g s b alive read same (λ h len e. calling_fetching h len (sym is ∙ e))
 ending_wait g s b (phase.Fetching h len) alive read same is =
-    let v : Move = waited s (phase.Fetching h len) in
-    let it : taken_by v.next (input.Payload b) ≡ Some say.Wait = takes_read v.next b (Some say.Wait) alive read in
+    let v : Move = move_on_wait s (phase.Fetching h len) in
+    let it : answer_unless_halted v.next (input.Payload b) ≡ Some say.Wait = takes_read v.next b (Some say.Wait) alive read in
     record {
-      returned = quiet_return s (taken_by v.next (input.Payload b)) v say.Wait refl refl it (λ r w. cc) (λ c w. cc);
+      returned = quiet_return s (answer_unless_halted v.next (input.Payload b)) v say.Wait refl refl it (λ r w. cc) (λ c w. cc);
       closed = λ plain f. f;
       calls = λ objects c k q l f. absurd (content_apart h len k q l f);
       fetches = λ d f. record { took_it = it; digest = h; len = len; fetching = is; is = fetch_same h.bytes d f };
       turn = λ f. same;
       waits = λ f k l w. ap (λ (d : Digest32). Some (Fetches d.bytes)) (digest_same h k len l (sym is ∙ w));
       keeps = λ z f. absurd (not_keep v.sends z refl f);
-      kept = λ f. absurd (took_other say.Wait say.Kept (taken_by v.next (input.Payload b)) it (λ w. cc) f);
+      kept = λ f. absurd (took_other say.Wait say.Kept (answer_unless_halted v.next (input.Payload b)) it (λ w. cc) f);
       stays = λ takes k l w. elim w [ inl f ↦ inl f | inr f ↦ absurd (turn_nothing (sym same ∙ f)) ];
     }
   where
@@ -340,26 +340,26 @@ ending_wait g s b (phase.Fetching h len) alive read same is =
     digest_same h k len l e = cc
 
 ending_refused : (g : Group) (s : Standing) (b : List ℕ) (r : ℕ) (a : Awaiting) → s.halted ≡ None → read_answer b ≡ Some (say.Refused r) → Together s.phase s.awaiting → s.awaiting ≡ a
-    → is_awaited a (say.Refused r) ≡ true → Ending g s (input.Payload b) (refused_at s r a)
+    → is_awaited a (say.Refused r) ≡ true → Ending g s (input.Payload b) (move_on_refusal s r a)
 ending_refused g s b r awaits.Kept alive read t same form =
-    let v : Move = refused_at s r awaits.Kept in
+    let v : Move = move_on_refusal s r awaits.Kept in
     let m : ToClient = say.Refused r in
-    let it : taken_by v.next (input.Payload b) ≡ Some m = takes_read v.next b (Some m) alive read in
+    let it : answer_unless_halted v.next (input.Payload b) ≡ Some m = takes_read v.next b (Some m) alive read in
     record {
       returned = is_refused_content (record { reason = r; awaited = same; returned = refl; object = refl; took_it = it });
       closed = λ plain f. refl;
       calls = λ objects c k q l f. absurd (reply_nothing k q l f);
       fetches = λ d f. absurd (no_fetch d f);
-      turn = λ f. absurd (took_other m say.Wait (taken_by v.next (input.Payload b)) it (λ w. cc) f);
-      waits = λ f h len w. absurd (took_other m say.Wait (taken_by v.next (input.Payload b)) it (λ w. cc) f);
+      turn = λ f. absurd (took_other m say.Wait (answer_unless_halted v.next (input.Payload b)) it (λ w. cc) f);
+      waits = λ f h len w. absurd (took_other m say.Wait (answer_unless_halted v.next (input.Payload b)) it (λ w. cc) f);
       keeps = λ z f. absurd (not_keep v.sends z refl f);
-      kept = λ f. absurd (took_other m say.Kept (taken_by v.next (input.Payload b)) it (λ w. cc) f);
+      kept = λ f. absurd (took_other m say.Kept (answer_unless_halted v.next (input.Payload b)) it (λ w. cc) f);
       stays = λ takes h len l. inr refl;
     }
 ending_refused g s b r (awaits.Reply n o load) alive read t same form =
-    let v : Move = refused_at s r (awaits.Reply n o load) in
+    let v : Move = move_on_refusal s r (awaits.Reply n o load) in
     let m : ToClient = say.Refused r in
-    let it : taken_by v.next (input.Payload b) ≡ Some m = takes_read v.next b (Some m) alive read in
+    let it : answer_unless_halted v.next (input.Payload b) ≡ Some m = takes_read v.next b (Some m) alive read in
     record {
       returned = is_refused (record {
         number = n;
@@ -369,15 +369,15 @@ ending_refused g s b r (awaits.Reply n o load) alive read t same form =
         awaited = same;
         returned = refl;
         object = refl;
-        no_content = λ c f. took_other m (say.Content c) (taken_by v.next (input.Payload b)) it (λ w. cc) f;
+        no_content = λ c f. took_other m (say.Content c) (answer_unless_halted v.next (input.Payload b)) it (λ w. cc) f;
       });
       closed = λ plain f. ap (λ (p : Phase). after_decision p (outcome.Refused r)) f;
       calls = λ objects c k q l f. absurd (reply_nothing k q l f);
       fetches = λ d f. absurd (no_fetch d f);
-      turn = λ f. absurd (took_other m say.Wait (taken_by v.next (input.Payload b)) it (λ w. cc) f);
-      waits = λ f h len w. absurd (took_other m say.Wait (taken_by v.next (input.Payload b)) it (λ w. cc) f);
+      turn = λ f. absurd (took_other m say.Wait (answer_unless_halted v.next (input.Payload b)) it (λ w. cc) f);
+      waits = λ f h len w. absurd (took_other m say.Wait (answer_unless_halted v.next (input.Payload b)) it (λ w. cc) f);
       keeps = λ z f. absurd (not_keep v.sends z refl f);
-      kept = λ f. absurd (took_other m say.Kept (taken_by v.next (input.Payload b)) it (λ w. cc) f);
+      kept = λ f. absurd (took_other m say.Kept (answer_unless_halted v.next (input.Payload b)) it (λ w. cc) f);
       stays = λ takes h len l. inr refl;
     }
 ending_refused g s b r awaits.Nothing alive read t same form = absurd (true≢false (sym form))
@@ -398,24 +398,24 @@ list_get : (k n : List ℕ) → op.List k ≡ op.Get n → ⊥
 list_get k n e = cc
 
 -- a call that isn't a get
-calls_other : (s : Standing) (o : Op) → ((k : List ℕ) → o ≡ op.Get k → ⊥) → Calls (calls_op s phase.Calling o false).next
+calls_other : (s : Standing) (o : Op) → ((k : List ℕ) → o ≡ op.Get k → ⊥) → Calls (move_to_call s phase.Calling o false).next
 calls_other s o apart n q load e = (refl, λ k f. absurd (apart k ((reply_same (s.calls + 1) n o q false load e).0 ∙ f)))
 
 ending_kept : (g : Group) (s : Standing) (b : List ℕ) (p : Phase) → s.halted ≡ None → read_answer b ≡ Some say.Kept → Together s.phase s.awaiting → s.phase ≡ p
-    → Ending g s (input.Payload b) (goes_to s false (kept_at p))
+    → Ending g s (input.Payload b) (move_by_object_step s false (step_on_kept p))
 ending_kept g s b (phase.Keeping k d len) alive read t is =
     let o : Op = op.Put k (reference_text d.bytes len) in
-    let v : Move = calls_op s phase.Calling o false in
+    let v : Move = move_to_call s phase.Calling o false in
     let m : ToClient = say.Kept in
-    let it : taken_by v.next (input.Payload b) ≡ Some m = takes_read v.next b (Some m) alive read in
+    let it : answer_unless_halted v.next (input.Payload b) ≡ Some m = takes_read v.next b (Some m) alive read in
     let kept : s.awaiting ≡ awaits.Kept = subst (λ (p : Phase). Together p s.awaiting) is t in
     record {
-      returned = quiet_return s (taken_by v.next (input.Payload b)) v m refl refl it (λ r w. cc) (λ c w. cc);
+      returned = quiet_return s (answer_unless_halted v.next (input.Payload b)) v m refl refl it (λ r w. cc) (λ c w. cc);
       closed = λ plain f. absurd (keeping_closed k d len (sym is ∙ f));
       calls = λ objects c. calls_other s o (put_get k (reference_text d.bytes len));
       fetches = λ h f. absurd (call_fetch (s.calls + 1) o h f);
-      turn = λ f. absurd (took_other m say.Wait (taken_by v.next (input.Payload b)) it (λ w. cc) f);
-      waits = λ f h l w. absurd (took_other m say.Wait (taken_by v.next (input.Payload b)) it (λ w. cc) f);
+      turn = λ f. absurd (took_other m say.Wait (answer_unless_halted v.next (input.Payload b)) it (λ w. cc) f);
+      waits = λ f h l w. absurd (took_other m say.Wait (answer_unless_halted v.next (input.Payload b)) it (λ w. cc) f);
       keeps = λ c f. absurd (not_keep v.sends c refl f);
       kept = λ f. (o, refl);
       stays = λ takes h l w. elim w [ inl f ↦ absurd (keeping_fetching k d len h l (sym is ∙ f)) | inr f ↦ absurd (kept_nothing (sym kept ∙ f)) ];
@@ -425,20 +425,20 @@ ending_kept g s b phase.Calling alive read t is = ending_halt g s b 1
 ending_kept g s b (phase.Fetching h len) alive read t is = ending_halt g s b 1
 
 ending_content : (g : Group) (me : ℕ) (s : Standing) (b c : List ℕ) (a : Awaiting) → s.halted ≡ None → read_answer b ≡ Some (say.Content c) → s.awaiting ≡ a → is_wanted a c ≡ true
-    → Ending g s (input.Payload b) (taken me s (say.Content c))
+    → Ending g s (input.Payload b) (move_on_answer me s (say.Content c))
 ending_content g me s b c (awaits.Content h len) alive read same wanted =
-    let v : Move = taken me s (say.Content c) in
+    let v : Move = move_on_answer me s (say.Content c) in
     let m : ToClient = say.Content c in
-    let it : taken_by v.next (input.Payload b) ≡ Some m = takes_read v.next b (Some m) alive read in
+    let it : answer_unless_halted v.next (input.Payload b) ≡ Some m = takes_read v.next b (Some m) alive read in
     record {
       returned = is_content (record { content = c; digest = h; len = len; awaited = same; returned = refl; object = refl; took_it = it });
       closed = λ plain f. refl;
       calls = λ objects w k q l f. absurd (reply_nothing k q l f);
       fetches = λ d f. absurd (no_fetch d f);
-      turn = λ f. absurd (took_other m say.Wait (taken_by v.next (input.Payload b)) it (λ w. cc) f);
-      waits = λ f d l w. absurd (took_other m say.Wait (taken_by v.next (input.Payload b)) it (λ w. cc) f);
+      turn = λ f. absurd (took_other m say.Wait (answer_unless_halted v.next (input.Payload b)) it (λ w. cc) f);
+      waits = λ f d l w. absurd (took_other m say.Wait (answer_unless_halted v.next (input.Payload b)) it (λ w. cc) f);
       keeps = λ z f. absurd (not_keep v.sends z refl f);
-      kept = λ f. absurd (took_other m say.Kept (taken_by v.next (input.Payload b)) it (λ w. cc) f);
+      kept = λ f. absurd (took_other m say.Kept (answer_unless_halted v.next (input.Payload b)) it (λ w. cc) f);
       stays = λ takes d l w. inr refl;
     }
 ending_content g me s b c awaits.Nothing alive read same wanted = absurd (true≢false (sym wanted))
@@ -448,27 +448,27 @@ ending_content g me s b c awaits.Entries alive read same wanted = absurd (true�
 ending_content g me s b c awaits.Kept alive read same wanted = absurd (true≢false (sym wanted))
 
 ending_entries : (g : Group) (me : ℕ) (s : Standing) (b : List ℕ) (seal : Seal) (entries : List Tagged) → s.halted ≡ None → read_answer b ≡ Some (say.Entries seal entries)
-    → Ending g s (input.Payload b) (taken me s (say.Entries seal entries))
+    → Ending g s (input.Payload b) (move_on_answer me s (say.Entries seal entries))
 ending_entries g me s b seal entries alive read =
-    let v : Move = taken me s (say.Entries seal entries) in
+    let v : Move = move_on_answer me s (say.Entries seal entries) in
     let m : ToClient = say.Entries seal entries in
-    let it : taken_by v.next (input.Payload b) ≡ Some m = takes_read v.next b (Some m) alive read in
+    let it : answer_unless_halted v.next (input.Payload b) ≡ Some m = takes_read v.next b (Some m) alive read in
     record {
-      returned = quiet_return s (taken_by v.next (input.Payload b)) v m refl refl it (λ r w. cc) (λ c w. cc);
+      returned = quiet_return s (answer_unless_halted v.next (input.Payload b)) v m refl refl it (λ r w. cc) (λ c w. cc);
       closed = λ plain f. f;
       calls = λ objects w k q l f. absurd (reply_nothing k q l f);
       fetches = λ d f. absurd (no_fetch d f);
-      turn = λ f. absurd (took_other m say.Wait (taken_by v.next (input.Payload b)) it (λ w. cc) f);
-      waits = λ f d l w. absurd (took_other m say.Wait (taken_by v.next (input.Payload b)) it (λ w. cc) f);
+      turn = λ f. absurd (took_other m say.Wait (answer_unless_halted v.next (input.Payload b)) it (λ w. cc) f);
+      waits = λ f d l w. absurd (took_other m say.Wait (answer_unless_halted v.next (input.Payload b)) it (λ w. cc) f);
       keeps = λ z f. absurd (not_keep v.sends z refl f);
-      kept = λ f. absurd (took_other m say.Kept (taken_by v.next (input.Payload b)) it (λ w. cc) f);
+      kept = λ f. absurd (took_other m say.Kept (answer_unless_halted v.next (input.Payload b)) it (λ w. cc) f);
       stays = λ takes d l w. inr refl;
     }
 
 ending_taken : (g : Group) (me : ℕ) (s : Standing) (b : List ℕ) (m : ToClient) → s.halted ≡ None → read_answer b ≡ Some m → Passes g me s m → Together s.phase s.awaiting
-    → Ending g s (input.Payload b) (taken me s m)
+    → Ending g s (input.Payload b) (move_on_answer me s m)
 ending_taken g me s b say.Hi alive read passes t = ending_halt g s b 1
-ending_taken g me s b (say.Reply seal entries bytes) alive read passes t = ending_reply g me s b seal entries bytes (grown s entries) (read_part bytes) s.awaiting alive read t refl passes.content
+ending_taken g me s b (say.Reply seal entries bytes) alive read passes t = ending_reply g me s b seal entries bytes (path_with_entries s entries) (read_part bytes) s.awaiting alive read t refl passes.content
 ending_taken g me s b say.Wait alive read passes t = ending_wait g s b s.phase alive read (wait_awaited s.awaiting passes.form) refl
 ending_taken g me s b (say.Update seal bytes) alive read passes t =
     ending_update g s b seal bytes (read_part bytes) s.own alive read (update_awaited s.awaiting seal bytes (and_parts (is_awaited s.awaiting (say.Update seal bytes)) _ passes.form).0)
@@ -480,12 +480,12 @@ ending_taken g me s b say.Gone alive read passes t = ending_halt g s b 1
 ending_taken g me s b say.Absent alive read passes t = ending_halt g s b 1
 
 ending_read : (g : Group) (me : ℕ) (s : Standing) (b : List ℕ) (m : Option ToClient) (k : Option ℕ) → s.halted ≡ None → read_answer b ≡ m → verdict_on g me s m ≡ k → AreBytes b
-    → Together s.phase s.awaiting → Ending g s (input.Payload b) (taken_or_halts me s m k)
+    → Together s.phase s.awaiting → Ending g s (input.Payload b) (move_on_verdict me s m k)
 ending_read g me s b m (Some k) alive read e h t = ending_halt g s b k
 ending_read g me s b (Some m) None alive read e h t = ending_taken g me s b m alive read (all_passed g me s m (answer_fits b m h read) e) t
 ending_read g me s b None None alive read e h t = ending_halt g s b 1
 
-ending_payload : (g : Group) (me : ℕ) (s : Standing) (b : List ℕ) (halted : Option ℕ) → s.halted ≡ halted → AreBytes b → Together s.phase s.awaiting → Ending g s (input.Payload b) (on_payload g me s halted b)
+ending_payload : (g : Group) (me : ℕ) (s : Standing) (b : List ℕ) (halted : Option ℕ) → s.halted ≡ halted → AreBytes b → Together s.phase s.awaiting → Ending g s (input.Payload b) (move_on_payload g me s halted b)
 unfolding verdict
 ending_payload g me s b (Some k) e h t = ending_halt g s b k
 ending_payload g me s b None e h t = ending_read g me s b (read_answer b) (verdict_on g me s (read_answer b)) e refl refl h t
@@ -493,7 +493,7 @@ ending_payload g me s b None e h t = ending_read g me s b (read_answer b) (verdi
 -- ---- what is asked
 
 -- a step that isn't a payload's returns nothing
-asked_nothing : (s : Standing) (i : Input) (v : Move) → taken_by v.next i ≡ None → v.returns ≡ None → v.object ≡ None → Returned s (taken_by v.next i) v
+asked_nothing : (s : Standing) (i : Input) (v : Move) → answer_unless_halted v.next i ≡ None → v.returns ≡ None → v.object ≡ None → Returned s (answer_unless_halted v.next i) v
 asked_nothing s i v none returned object = is_nothing (record {
   returned = returned;
   object = object;
@@ -501,7 +501,7 @@ asked_nothing s i v none returned object = is_nothing (record {
   no_content = λ c e. none_is_some (sym none ∙ e);
 })
 
-ending_asked : (g : Group) (s : Standing) (i : Input) (v : Move) → taken_by v.next i ≡ None → v.returns ≡ None → v.object ≡ None → (IsTaken i → ⊥)
+ending_asked : (g : Group) (s : Standing) (i : Input) (v : Move) → answer_unless_halted v.next i ≡ None → v.returns ≡ None → v.object ≡ None → (IsTaken i → ⊥)
     → (g.mode ≡ mode.Plain → s.phase ≡ phase.Closed → v.next.phase ≡ phase.Closed) → (g.mode ≡ mode.Objects → Calls s → Calls v.next) → ((d : List ℕ) → v.sends ≡ Some (Fetches d) → ⊥)
     → ((c : List ℕ) → v.sends ≡ Some (Keeps c) → (name : List ℕ) × (i ≡ input.Object (object.Store name c))) → Ending g s i v
 ending_asked g s i v none returned object asks closed calls apart keeps = record {
@@ -516,7 +516,7 @@ ending_asked g s i v none returned object asks closed calls apart keeps = record
   stays = λ takes h len l. absurd (asks takes);
 }
 
-ending_object : (g : Group) (s : Standing) (c : ObjectCall) → g.mode ≡ mode.Objects → Ending g s (input.Object c) (goes_to s (is_load c) (begun c))
+ending_object : (g : Group) (s : Standing) (c : ObjectCall) → g.mode ≡ mode.Objects → Ending g s (input.Object c) (move_by_object_step s (is_load c) (first_step c))
 ending_object g s (object.Store k c) objects =
     ending_asked g s (input.Object (object.Store k c)) _ refl refl refl (λ w. w) (λ plain e. absurd (mode_apart objects plain)) (λ w f n o load e. absurd (kept_reply n o load e)) (λ d e. keep_fetch c d e)
     (λ d e. (k, ap (λ (b : List ℕ). input.Object (object.Store k b)) (same_content c d e)))

@@ -13,8 +13,8 @@ use Rattle.vic_rules.specs.declared.trace.Input.{Input}
 use Rattle.vic_rules.specs.declared.trace.TraceStep.{TraceStep}
 use Rattle.vic_rules.specs.Client.{Standing, Move, step, same_entry}
 use Rattle.vic_rules.specs.History.{standing, path, move_of, AreSteps, Completion, completion, completions}
-use Rattle.vic_rules.specs.Views.{or_else, confirmed, confirmed_calls, shown_as, left_by}
-use Rattle.vic_rules.specs.Trust.{parts_taken, chain_texts, parts_in, took}
+use Rattle.vic_rules.specs.Views.{or_else, confirmation, confirmed_calls, shown_as, left_by}
+use Rattle.vic_rules.specs.Trust.{parts_taken, chain_texts, parts_in, answer_taken}
 use Rattle.vic_laws.specs.Claims.{AllConfirmed, SealHolds}
 use Rattle.vic_laws.proofs.Words.{in_right, all_weaker, all_append}
 use Rattle.vic_laws.proofs.Steps.{Kind, is_quiet, is_called, is_replied, is_updated, is_listed}
@@ -61,8 +61,8 @@ length-front n xs le = omega (arith, length-drop (length xs - n) xs)
 
 -- ---- what was confirmed stays so
 
-pub confirmed_stays : (ds cs : List Completion) (p : List Entry) (c : Completion) → confirmed cs p ≡ Some c → confirmed (ds ++ cs) p ≡ Some c
-unfolding confirmed
+pub confirmed_stays : (ds cs : List Completion) (p : List Entry) (c : Completion) → confirmation cs p ≡ Some c → confirmation (ds ++ cs) p ≡ Some c
+unfolding confirmation
 confirmed_stays [] cs p c e = e
 confirmed_stays (d ∷ ds) cs p c e = ap (λ o. or_else o (if pointwise same_entry d.prefix p then Some d else None)) (confirmed_stays ds cs p c e)
 
@@ -76,7 +76,7 @@ unfolding confirmed_calls
 confirmed_calls_stay ds cs [] a = refl
 confirmed_calls_stay ds cs (e ∷ p) a =
     ap (λ o. shown_as e o ++ confirmed_calls (ds ++ cs) p) (confirmed_stays ds cs (e ∷ p) a.0.0 a.0.1 ∙ sym a.0.1)
-    ∙ ap (λ v. shown_as e (confirmed cs (e ∷ p)) ++ v) (confirmed_calls_stay ds cs p a.1)
+    ∙ ap (λ v. shown_as e (confirmation cs (e ∷ p)) ++ v) (confirmed_calls_stay ds cs p a.1)
 
 -- a seal that holds of a path holds of the grown path after more completions
 pub seal_stays : (ds cs : List Completion) (news p : List Entry) (n : ℕ) (root : List ℕ) → SealHolds cs p n root → SealHolds (ds ++ cs) (news ++ p) n root
@@ -123,7 +123,7 @@ sealed_later g (x ∷ later) h steps me = le_trans (sealed_later g later h steps
 pub parts_later : (g : Group) (later h : List TraceStep) (b : List ℕ) → IsIn (parts_taken g h) b → IsIn (parts_taken g (later ++ h)) b
 unfolding parts_taken
 parts_later g [] h b i = i
-parts_later g (x ∷ later) h b i = in_right (parts_in (took g (later ++ h) x)) (parts_taken g (later ++ h)) b (parts_later g later h b i)
+parts_later g (x ∷ later) h b i = in_right (parts_in (answer_taken g (later ++ h) x)) (parts_taken g (later ++ h)) b (parts_later g later h b i)
 
 -- the texts along a path are among those of the grown path
 pub texts_below : (g : Group) (P : List ℕ → Type 0) (news p : List Entry) → AllByRecursion P (chain_texts g (news ++ p)) → AllByRecursion P (chain_texts g p)

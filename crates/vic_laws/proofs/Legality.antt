@@ -18,9 +18,9 @@ use Rattle.vic_laws.proofs.Paths.{all_drop, path_spelled}
 use Rattle.vic_wire.specs.Hashes.{Group}
 use Rattle.vic_rules.specs.declared.trace.TraceStep.{TraceStep}
 use Rattle.vic_rules.specs.declared.trace.Shown.{Shown}
-use Rattle.vic_rules.specs.Client.{Standing, in_the_way, decided, decision, laid}
+use Rattle.vic_rules.specs.Client.{Standing, in_the_way, decided_outcome, decision, own_calls_over}
 use Rattle.vic_rules.specs.History.{standing, path, move_of, AreSteps, Completion, completions}
-use Rattle.vic_rules.specs.Views.{confirmed, confirmed_calls, shown_as, left_by, last_prefix, view_of, Explains, IsLegal}
+use Rattle.vic_rules.specs.Views.{confirmation, confirmed_calls, shown_as, left_by, last_prefix, view_of, Explains, IsLegal}
 use Rattle.vic_rules.specs.Trust.{IsForged, Collides, parts_in}
 use Rattle.vic_laws.specs.Claims.{SealHolds, ViewsAreLegal}
 use Rattle.vic_laws.specs.OrderClaims.{effect_of, was_done}
@@ -41,27 +41,27 @@ unfolding left_by
 shown_leaves e None v = refl
 shown_leaves e (Some c) v = leaves_done (left_by v) (record { entry = e; outcome = c.outcome }) c.outcome
 
-left_more : (cs : List Completion) (e : Entry) (p : List Entry) → left_by (confirmed_calls cs (e ∷ p)) ≡ own_op (left_by (confirmed_calls cs p)) e (confirmed cs (e ∷ p))
+left_more : (cs : List Completion) (e : Entry) (p : List Entry) → left_by (confirmed_calls cs (e ∷ p)) ≡ own_op (left_by (confirmed_calls cs p)) e (confirmation cs (e ∷ p))
 unfolding confirmed_calls
-left_more cs e p = shown_leaves e (confirmed cs (e ∷ p)) (confirmed_calls cs p)
+left_more cs e p = shown_leaves e (confirmation cs (e ∷ p)) (confirmed_calls cs p)
 
 -- over what is left at the base, the choice of all that is confirmed as done leaves what all calls leave
-left_chosen : (cs : List Completion) (base : ℕ) (d : Dictionary) (p : List Entry) → d ≡ left_by (confirmed_calls cs (front base p)) → effect_of (λ q. was_done (confirmed cs q)) base d p ≡ left_by (confirmed_calls cs p)
+left_chosen : (cs : List Completion) (base : ℕ) (d : Dictionary) (p : List Entry) → d ≡ left_by (confirmed_calls cs (front base p)) → effect_of (λ q. was_done (confirmation cs q)) base d p ≡ left_by (confirmed_calls cs p)
 left_chosen cs base d [] is = effect_below _ base d [] (omega arith) ∙ (is ∙ ap (λ q. left_by (confirmed_calls cs q)) (front_whole base [] (omega arith)))
 left_chosen cs base d (e ∷ p) is = now (cases_lt base (length (e ∷ p))) (left_chosen cs base d p)
   where
-    now : (base < length (e ∷ p)) ⊎ (length (e ∷ p) ≤ base) → (d ≡ left_by (confirmed_calls cs (front base p)) → effect_of (λ q. was_done (confirmed cs q)) base d p ≡ left_by (confirmed_calls cs p))
-        → effect_of (λ q. was_done (confirmed cs q)) base d (e ∷ p) ≡ left_by (confirmed_calls cs (e ∷ p))
+    now : (base < length (e ∷ p)) ⊎ (length (e ∷ p) ≤ base) → (d ≡ left_by (confirmed_calls cs (front base p)) → effect_of (λ q. was_done (confirmation cs q)) base d p ≡ left_by (confirmed_calls cs p))
+        → effect_of (λ q. was_done (confirmation cs q)) base d (e ∷ p) ≡ left_by (confirmed_calls cs (e ∷ p))
     now (inl above) before =
-        effect_above (λ q. was_done (confirmed cs q)) base d e p above
-        ∙ (ap (λ w. own_op w e (confirmed cs (e ∷ p))) (before (is ∙ ap (λ q. left_by (confirmed_calls cs q)) (front_grows (e ∷ []) p base (le_of_suc-le-suc above))))
+        effect_above (λ q. was_done (confirmation cs q)) base d e p above
+        ∙ (ap (λ w. own_op w e (confirmation cs (e ∷ p))) (before (is ∙ ap (λ q. left_by (confirmed_calls cs q)) (front_grows (e ∷ []) p base (le_of_suc-le-suc above))))
         ∙ sym (left_more cs e p))
-    now (inr up) before = effect_below (λ q. was_done (confirmed cs q)) base d (e ∷ p) up ∙ (is ∙ ap (λ q. left_by (confirmed_calls cs q)) (front_whole base (e ∷ p) up))
+    now (inr up) before = effect_below (λ q. was_done (confirmation cs q)) base d (e ∷ p) up ∙ (is ∙ ap (λ q. left_by (confirmed_calls cs q)) (front_whole base (e ∷ p) up))
 
 -- ---- what a decision shows
 
 -- a decision over a dictionary explains itself by one that answers as that does, where nothing is in the way
-decided_explains : (u : Option ℕ) (d left : Dictionary) (x : Shown) (o : Op) → x.entry.op ≡ o → (u ≡ None → reply d o ≡ reply left o) → Explains left x (decided u d o)
+decided_explains : (u : Option ℕ) (d left : Dictionary) (x : Shown) (o : Op) → x.entry.op ≡ o → (u ≡ None → reply d o ≡ reply left o) → Explains left x (decided_outcome u d o)
 decided_explains None d left x o same alike = alike refl ∙ ap (reply left) (sym same)
 decided_explains (Some u) d left x o same alike = tt
 
@@ -92,7 +92,7 @@ module _ (g : Group) (whole : List TraceStep) (lawful : AreSteps g whole) (hones
       → Explains (left_by (confirmed_calls (completions g whole) (r.others ++ path g x.client past))) shown (completed_by r).outcome
   unfolding decision
   reply_explains later x past e r shown same =
-      decided_explains (in_the_way x.client r.op r.seal.position below) (laid s.own r.seal.position (walked r.part r.op)) (left_by (confirmed_calls (completions g whole) below)) shown r.op same alike
+      decided_explains (in_the_way x.client r.op r.seal.position below) (own_calls_over s.own r.seal.position (walked r.part r.op)) (left_by (confirmed_calls (completions g whole) below)) shown r.op same alike
     where
       s : Standing
       s = standing g x.client past
@@ -139,14 +139,14 @@ module _ (g : Group) (whole : List TraceStep) (lawful : AreSteps g whole) (hones
           (subst (λ o. IsIn (parts_in o) r.bytes) (sym (taken_at g past x _ r.takes)) (inl refl)) r.are_bytes r.is_part r.root_is (subst (λ n. r.seal.position ≤ n) (sym sealed_is) (le_refl r.seal.position)) p path_is holds)
 
       -- what is laid over it is laid by the path
-      laid_is : laid s.own r.seal.position (walked r.part r.op) ≡ own_laid (completions g whole) x.client r.seal.position (walked r.part r.op) below
+      laid_is : own_calls_over s.own r.seal.position (walked r.part r.op) ≡ own_laid (completions g whole) x.client r.seal.position (walked r.part r.op) below
       laid_is = lays_at g whole lawful later x past e r
 
-      alike : in_the_way x.client r.op r.seal.position below ≡ None → reply (laid s.own r.seal.position (walked r.part r.op)) r.op ≡ reply (left_by (confirmed_calls (completions g whole) below)) r.op
+      alike : in_the_way x.client r.op r.seal.position below ≡ None → reply (own_calls_over s.own r.seal.position (walked r.part r.op)) r.op ≡ reply (left_by (confirmed_calls (completions g whole) below)) r.op
       alike none =
           ap (λ d. reply d r.op) laid_is
-          ∙ (reply_stands r.op x.client r.seal.position (completions g whole) (walked r.part r.op) (λ q. was_done (confirmed (completions g whole) q)) (λ c p mine. refl) below none
-          ∙ (heeded_reply r.op _ _ (effects_alike r.op (λ q. was_done (confirmed (completions g whole) q)) r.seal.position (walked r.part r.op) base_left shows_base below)
+          ∙ (reply_stands r.op x.client r.seal.position (completions g whole) (walked r.part r.op) (λ q. was_done (confirmation (completions g whole) q)) (λ c p mine. refl) below none
+          ∙ (heeded_reply r.op _ _ (effects_alike r.op (λ q. was_done (confirmation (completions g whole) q)) r.seal.position (walked r.part r.op) base_left shows_base below)
           ∙ ap (λ d. reply d r.op) (left_chosen (completions g whole) r.seal.position base_left below refl)))
         where
           base_left : Dictionary
@@ -163,7 +163,7 @@ module _ (g : Group) (whole : List TraceStep) (lawful : AreSteps g whole) (hones
           shows_base = looked_alike r.op (walked r.part r.op) base_left (alike_on_cut base_left (byte_keys-proper base_left proper) r.part told r.op spelled.0.op.1 r.reached)
 
   -- each confirmed call is explained by the confirmed calls below it
-  confirmed_explains : (e : Entry) (p : List Entry) (c : Completion) → confirmed (completions g whole) (e ∷ p) ≡ Some c
+  confirmed_explains : (e : Entry) (p : List Entry) (c : Completion) → confirmation (completions g whole) (e ∷ p) ≡ Some c
       → Explains (left_by (confirmed_calls (completions g whole) p)) (record { entry = e; outcome = c.outcome }) c.outcome
   confirmed_explains e p c found =
       let tells = confirmed_tells (completions g whole) (e ∷ p) c found in
@@ -175,7 +175,7 @@ module _ (g : Group) (whole : List TraceStep) (lawful : AreSteps g whole) (hones
       (subst (λ q. Explains (left_by (confirmed_calls (completions g whole) q)) (record { entry = e; outcome = c.outcome }) (completed_by m.replied).outcome) rest_is
       (reply_explains m.later m.x m.past m.is m.replied (record { entry = e; outcome = c.outcome }) (ap (λ w. w.op) (sym newest_is))))
 
-  legal_more : (e : Entry) (p : List Entry) (o : Option Completion) → confirmed (completions g whole) (e ∷ p) ≡ o → IsLegal (confirmed_calls (completions g whole) p)
+  legal_more : (e : Entry) (p : List Entry) (o : Option Completion) → confirmation (completions g whole) (e ∷ p) ≡ o → IsLegal (confirmed_calls (completions g whole) p)
       → IsLegal (shown_as e o ++ confirmed_calls (completions g whole) p)
   legal_more e p None found before = before
   legal_more e p (Some c) found before = (before, confirmed_explains e p c found)
@@ -184,7 +184,7 @@ module _ (g : Group) (whole : List TraceStep) (lawful : AreSteps g whole) (hones
   legal_path : (p : List Entry) → IsLegal (confirmed_calls (completions g whole) p)
   unfolding confirmed_calls
   legal_path [] = tt
-  legal_path (e ∷ p) = legal_more e p (confirmed (completions g whole) (e ∷ p)) refl (legal_path p)
+  legal_path (e ∷ p) = legal_more e p (confirmation (completions g whole) (e ∷ p)) refl (legal_path p)
 
 pub views_legal : ViewsAreLegal
 unfolding view_of

@@ -15,8 +15,8 @@ use Rattle.vic_rules.specs.declared.trace.Shown.{Shown}
 use Rattle.vic_rules.specs.Client.{Standing, at_start, step, MayStep, payload_of}
 use Rattle.vic_rules.specs.History.{standing, path, IsStep, AreSteps, IsLawful}
 use Rattle.vic_rules.specs.Views.{left_by, Explains, IsLegal}
-use Rattle.vic_rules.specs.Trust.{IsListed, of_genesis, of_path, of_part, of_content, of_sealed, chain_texts, parts_in, parts_taken, contents_known, applied, took}
-use Rattle.vic_laws.specs.Meanings.{IsExplained, by_answer, by_abort, LegalIs, gathered, one_to, zero_to, chain_texts_up, parts_of, nodes_of, texts_of_paths, texts_of_parts, texts_of_sealed, texts_of_contents, listed, ListedAre, own_steps, LawfulByClient}
+use Rattle.vic_rules.specs.Trust.{IsListed, of_genesis, of_path, of_part, of_content, of_sealed, chain_texts, parts_in, parts_taken, contents_known, node_texts_left, answer_taken}
+use Rattle.vic_laws.specs.Meanings.{IsExplained, by_answer, by_abort, LegalIs, texts_of_each, one_to, zero_to, chain_texts_up, parts_of, nodes_of, texts_of_paths, texts_of_parts, texts_of_sealed, texts_of_contents, listed_texts, ListedAre, own_steps, LawfulByClient}
 use Rattle.vic_laws.proofs.Words.{in_left, in_right, in_either}
 use Rattle.vic_laws.proofs.Standings.{standing_moved, standing_kept}
 use Rattle.vic_laws.proofs.Growth.{front_none, front_whole}
@@ -54,14 +54,14 @@ legal_tells v = (legal_to v, legal_from v)
 
 -- ---- listed texts
 
-in_gathered : {A : Type 0} (f : A → List (List ℕ)) (xs : List A) (x : A) (t : List ℕ) → IsIn xs x → IsIn (f x) t → IsIn (gathered f xs) t
+in_gathered : {A : Type 0} (f : A → List (List ℕ)) (xs : List A) (x : A) (t : List ℕ) → IsIn xs x → IsIn (f x) t → IsIn (texts_of_each f xs) t
 in_gathered f [] x t i j = absurd i
-in_gathered f (y ∷ xs) x t (inl e) j = in_left (f y) (gathered f xs) t (subst (λ z. IsIn (f z) t) (sym e) j)
-in_gathered f (y ∷ xs) x t (inr i) j = in_right (f y) (gathered f xs) t (in_gathered f xs x t i j)
+in_gathered f (y ∷ xs) x t (inl e) j = in_left (f y) (texts_of_each f xs) t (subst (λ z. IsIn (f z) t) (sym e) j)
+in_gathered f (y ∷ xs) x t (inr i) j = in_right (f y) (texts_of_each f xs) t (in_gathered f xs x t i j)
 
-of_gathered : {A : Type 0} (f : A → List (List ℕ)) (xs : List A) (t : List ℕ) → IsIn (gathered f xs) t → (x : A) × IsIn xs x × IsIn (f x) t
+of_gathered : {A : Type 0} (f : A → List (List ℕ)) (xs : List A) (t : List ℕ) → IsIn (texts_of_each f xs) t → (x : A) × IsIn xs x × IsIn (f x) t
 of_gathered f [] t i = absurd i
-of_gathered f (y ∷ xs) t i = elim (in_either (f y) (gathered f xs) t i) [
+of_gathered f (y ∷ xs) t i = elim (in_either (f y) (texts_of_each f xs) t i) [
   | inl a ↦ (y, inl refl, a)
   | inr b ↦ (let r = of_gathered f xs t b in (r.0, inr r.1, r.2))
 ]
@@ -124,25 +124,25 @@ nobody_stands g me none (x ∷ past) steps =
 part_owner : (g : Group) (h : List TraceStep) → AreSteps g h → (bytes : List ℕ) → IsIn (parts_taken g h) bytes → (i : ℕ) × (0 < i) × (i ≤ g.count) × IsIn (parts_of g i h) bytes
 unfolding parts_taken parts_of
 part_owner g [] steps bytes i = absurd i
-part_owner g (x ∷ past) steps bytes i = elim (in_either (parts_in (took g past x)) (parts_taken g past) bytes i) [
+part_owner g (x ∷ past) steps bytes i = elim (in_either (parts_in (answer_taken g past x)) (parts_taken g past) bytes i) [
   | inl a ↦ (
     x.client,
     steps.1.member.0,
     steps.1.member.1,
-    in_right (parts_of g x.client past) (if nat_eq x.client x.client then parts_in (took g past x) else []) bytes (subst (λ b. IsIn (if b then parts_in (took g past x) else []) bytes) (sym (eq-eqb x.client x.client refl)) a),
+    in_right (parts_of g x.client past) (if nat_eq x.client x.client then parts_in (answer_taken g past x) else []) bytes (subst (λ b. IsIn (if b then parts_in (answer_taken g past x) else []) bytes) (sym (eq-eqb x.client x.client refl)) a),
   )
-  | inr b ↦ (let r = part_owner g past steps.0 bytes b in (r.0, r.1, r.2, in_left (parts_of g r.0 past) (if nat_eq x.client r.0 then parts_in (took g past x) else []) bytes r.3))
+  | inr b ↦ (let r = part_owner g past steps.0 bytes b in (r.0, r.1, r.2, in_left (parts_of g r.0 past) (if nat_eq x.client r.0 then parts_in (answer_taken g past x) else []) bytes r.3))
 ]
 
 part_taken : (g : Group) (me : ℕ) (h : List TraceStep) (bytes : List ℕ) → IsIn (parts_of g me h) bytes → IsIn (parts_taken g h) bytes
 unfolding parts_taken parts_of
 part_taken g me [] bytes i = absurd i
-part_taken g me (x ∷ past) bytes i = elim (in_either (parts_of g me past) (if nat_eq x.client me then parts_in (took g past x) else []) bytes i) [
-  | inl a ↦ in_right (parts_in (took g past x)) (parts_taken g past) bytes (part_taken g me past bytes a)
-  | inr b ↦ in_left (parts_in (took g past x)) (parts_taken g past) bytes (now (nat_eq x.client me) b)
+part_taken g me (x ∷ past) bytes i = elim (in_either (parts_of g me past) (if nat_eq x.client me then parts_in (answer_taken g past x) else []) bytes i) [
+  | inl a ↦ in_right (parts_in (answer_taken g past x)) (parts_taken g past) bytes (part_taken g me past bytes a)
+  | inr b ↦ in_left (parts_in (answer_taken g past x)) (parts_taken g past) bytes (now (nat_eq x.client me) b)
 ]
   where
-    now : (b : Bool) → IsIn (if b then parts_in (took g past x) else []) bytes → IsIn (parts_in (took g past x)) bytes
+    now : (b : Bool) → IsIn (if b then parts_in (answer_taken g past x) else []) bytes → IsIn (parts_in (answer_taken g past x)) bytes
     now true j = j
     now false j = absurd j
 
@@ -151,10 +151,10 @@ module _ (g : Group) (h : List TraceStep) (lawful : IsLawful g h) where
   chained i = chain_texts_up g (path g i h)
 
   abbrev parted : ℕ → List (List ℕ)
-  parted i = gathered (λ bytes. nodes_of (read_part bytes)) (parts_of g i h)
+  parted i = texts_of_each (λ bytes. nodes_of (read_part bytes)) (parts_of g i h)
 
   abbrev left_at : Standing → List (List ℕ)
-  left_at s = gathered (λ n. applied g h (front n s.path)) (zero_to s.sealed)
+  left_at s = texts_of_each (λ n. node_texts_left g h (front n s.path)) (zero_to s.sealed)
 
   abbrev members : List ℕ
   members = one_to g.count
@@ -177,19 +177,19 @@ module _ (g : Group) (h : List TraceStep) (lawful : IsLawful g h) where
   abbrev behind_paths : List (List ℕ)
   behind_paths = texts_of_parts g h ++ behind_parts
 
-  in_paths : (t : List ℕ) → IsIn (texts_of_paths g h) t → IsIn (listed g h) t
+  in_paths : (t : List ℕ) → IsIn (texts_of_paths g h) t → IsIn (listed_texts g h) t
   in_paths t i = inr (in_left (texts_of_paths g h) behind_paths t i)
 
-  in_parts : (t : List ℕ) → IsIn (texts_of_parts g h) t → IsIn (listed g h) t
+  in_parts : (t : List ℕ) → IsIn (texts_of_parts g h) t → IsIn (listed_texts g h) t
   in_parts t i = inr (in_right (texts_of_paths g h) behind_paths t (in_left (texts_of_parts g h) behind_parts t i))
 
-  in_sealed : (t : List ℕ) → IsIn (texts_of_sealed g h) t → IsIn (listed g h) t
+  in_sealed : (t : List ℕ) → IsIn (texts_of_sealed g h) t → IsIn (listed_texts g h) t
   in_sealed t i = inr (in_right (texts_of_paths g h) behind_paths t (in_right (texts_of_parts g h) behind_parts t (in_left (texts_of_sealed g h) (texts_of_contents g h) t i)))
 
-  in_contents : (t : List ℕ) → IsIn (texts_of_contents g h) t → IsIn (listed g h) t
+  in_contents : (t : List ℕ) → IsIn (texts_of_contents g h) t → IsIn (listed_texts g h) t
   in_contents t i = inr (in_right (texts_of_paths g h) behind_paths t (in_right (texts_of_parts g h) behind_parts t (in_right (texts_of_sealed g h) (texts_of_contents g h) t i)))
 
-  path_to : (me : ℕ) (t : List ℕ) → IsIn (chain_texts g (path g me h)) t → IsIn members me ⊎ (standing g me h ≡ at_start) → IsIn (listed g h) t
+  path_to : (me : ℕ) (t : List ℕ) → IsIn (chain_texts g (path g me h)) t → IsIn members me ⊎ (standing g me h ≡ at_start) → IsIn (listed_texts g h) t
   path_to me t i (inl there) = in_paths t (in_gathered chained members me t there (chains_to g (path g me h) t i))
   path_to me t i (inr start) = absurd (subst (λ s. IsIn (chain_texts g s.path) t) start i)
 
@@ -197,16 +197,16 @@ module _ (g : Group) (h : List TraceStep) (lawful : IsLawful g h) where
   same_front : (n : ℕ) → n ≤ 0 → front n [] ≡ front 0 (path g 1 h)
   same_front n none = front_whole n [] (omega arith) ∙ sym (front_none (path g 1 h))
 
-  sealed_to : (me n : ℕ) (t : List ℕ) → n ≤ (standing g me h).sealed → IsIn (applied g h (front n (path g me h))) t → IsIn members me ⊎ (standing g me h ≡ at_start) → IsIn (listed g h) t
+  sealed_to : (me n : ℕ) (t : List ℕ) → n ≤ (standing g me h).sealed → IsIn (node_texts_left g h (front n (path g me h))) t → IsIn members me ⊎ (standing g me h ≡ at_start) → IsIn (listed_texts g h) t
   sealed_to me n t le i (inl there) =
-      in_sealed t (in_gathered (λ k. left_at (standing g k h)) members me t there (in_gathered (λ k. applied g h (front k (path g me h))) (zero_to (standing g me h).sealed) n t (in_zero_to (standing g me h).sealed n le) i))
+      in_sealed t (in_gathered (λ k. left_at (standing g k h)) members me t there (in_gathered (λ k. node_texts_left g h (front k (path g me h))) (zero_to (standing g me h).sealed) n t (in_zero_to (standing g me h).sealed n le) i))
   sealed_to me n t le i (inr start) =
       let none : n ≤ 0 = subst (λ (s : Standing). n ≤ s.sealed) start le in
-      let here : IsIn (applied g h (front n [])) t = subst (λ (s : Standing). IsIn (applied g h (front n s.path)) t) start i in
-      let there : IsIn (applied g h (front 0 (path g 1 h))) t = subst (λ p. IsIn (applied g h p) t) (same_front n none) here in
-      in_sealed t (in_gathered (λ k. left_at (standing g k h)) members 1 t first_member (in_gathered (λ k. applied g h (front k (path g 1 h))) (zero_to (standing g 1 h).sealed) 0 t (inl refl) there))
+      let here : IsIn (node_texts_left g h (front n [])) t = subst (λ (s : Standing). IsIn (node_texts_left g h (front n s.path)) t) start i in
+      let there : IsIn (node_texts_left g h (front 0 (path g 1 h))) t = subst (λ p. IsIn (node_texts_left g h p) t) (same_front n none) here in
+      in_sealed t (in_gathered (λ k. left_at (standing g k h)) members 1 t first_member (in_gathered (λ k. node_texts_left g h (front k (path g 1 h))) (zero_to (standing g 1 h).sealed) 0 t (inl refl) there))
 
-  listed_to : (t : List ℕ) → IsListed g h t → IsIn (listed g h) t
+  listed_to : (t : List ℕ) → IsListed g h t → IsIn (listed_texts g h) t
   listed_to t (of_genesis e) = inl (sym e)
   listed_to t (of_path me i) = path_to me t i (member_or me)
   listed_to t (of_part bytes part i e j) =
@@ -231,7 +231,7 @@ module _ (g : Group) (h : List TraceStep) (lawful : IsLawful g h) where
   from_sealed : (t : List ℕ) → IsIn (texts_of_sealed g h) t → IsListed g h t
   from_sealed t i =
       let r = of_gathered (λ k. left_at (standing g k h)) members t i in
-      let n = of_gathered (λ k. applied g h (front k (path g r.0 h))) (zero_to (standing g r.0 h).sealed) t r.2 in
+      let n = of_gathered (λ k. node_texts_left g h (front k (path g r.0 h))) (zero_to (standing g r.0 h).sealed) t r.2 in
       of_sealed r.0 n.0 (of_zero_to (standing g r.0 h).sealed n.0 n.1) n.2
 
   one_content : (content t : List ℕ) → IsIn (contents_known g h) content → IsIn (content_text content ∷ []) t → IsListed g h t
@@ -241,7 +241,7 @@ module _ (g : Group) (h : List TraceStep) (lawful : IsLawful g h) where
   from_contents : (t : List ℕ) → IsIn (texts_of_contents g h) t → IsListed g h t
   from_contents t i = let r = of_gathered (λ c. content_text c ∷ []) (contents_known g h) t i in one_content r.0 t r.1 r.2
 
-  listed_from : (t : List ℕ) → IsIn (listed g h) t → IsListed g h t
+  listed_from : (t : List ℕ) → IsIn (listed_texts g h) t → IsListed g h t
   listed_from t (inl e) = of_genesis (sym e)
   listed_from t (inr i) = elim (in_either (texts_of_paths g h) behind_paths t i) [
     | inl a ↦ from_paths t a

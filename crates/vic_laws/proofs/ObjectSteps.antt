@@ -20,11 +20,11 @@ use Rattle.vic_rules.specs.declared.object.Phase.{Phase}
 use Rattle.vic_rules.specs.declared.object.Phase.TheVariants as phase
 use Rattle.vic_rules.specs.declared.state.Awaiting.TheVariants as awaits
 use Rattle.vic_rules.specs.declared.trace.TraceStep.{TraceStep}
-use Rattle.vic_rules.specs.Objects.{Stepped, over_with, decided_as, after_decision, ended_by, is_reference, hash_in, length_in}
+use Rattle.vic_rules.specs.Objects.{ObjectStep, final_outcome, step_on_outcome, after_decision, outcome_after_decision, is_reference, hash_in, length_in}
 use Rattle.vic_rules.specs.Client.{Standing, Move, Sending, Invokes, Commits, Polls, Seals, Syncs, Keeps, Fetches, payload_of}
 use Rattle.vic_rules.specs.History.{standing, move_of, IsStep, AreSteps}
 use Rattle.vic_rules.specs.Views.{IsCompleted}
-use Rattle.vic_rules.specs.Trust.{took, taken_by, content_sent, content_in, contents_known}
+use Rattle.vic_rules.specs.Trust.{answer_taken, answer_unless_halted, content_sent, content_in, contents_known}
 use Rattle.vic_laws.specs.ContentClaims.{NoAskOf}
 use Rattle.vic_laws.specs.ObjectClaims.{EndsObject, ObjectsEndSo, FoundSince, FetchesSo, KeepsSo, KnowsContent, of_keep, of_answer, IsKnownIn, ContentsAre}
 use Rattle.vic_laws.proofs.Words.{some_same, none_is_some, in_either, tail_same}
@@ -54,12 +54,12 @@ back_of (Some e) = back e
 
 -- what a decision of a call on objects returns
 abbrev ends_as : Outcome → Option ObjectOutcome
-ends_as o = over_with (decided_as o).1
+ends_as o = final_outcome (step_on_outcome o).1
 
 found_nothing : (v : List ℕ) → ends_as (outcome.Done (answer.Found v)) ≡ None
 found_nothing v = chosen (is_reference v)
   where
-    chosen : (b : Bool) → over_with (if◌then◌else◌ {A = Stepped} b (phase.Fetching (record { bytes = hash_in v }) (length_in v), next.Fetch (record { bytes = hash_in v }) (length_in v)) (phase.Closed, next.Bad)).1 ≡ None
+    chosen : (b : Bool) → final_outcome (if◌then◌else◌ {A = ObjectStep} b (phase.Fetching (record { bytes = hash_in v }) (length_in v), next.Fetch (record { bytes = hash_in v }) (length_in v)) (phase.Closed, next.Bad)).1 ≡ None
     chosen true = refl
     chosen false = refl
 
@@ -75,8 +75,8 @@ from_end (outcome.Refused r) e h = ap back_of (sym h)
 from_end (outcome.Halted k) e h = absurd (none_is_some h)
 
 -- a call that was awaited belongs to one on objects
-ends_calling : (s : Standing) (v : Move) (o : Outcome) → s.phase ≡ phase.Calling → v.object ≡ ended_by s.phase o → v.object ≡ ends_as o
-ends_calling s v o calling is = is ∙ ap (λ (p : Phase). ended_by p o) calling
+ends_calling : (s : Standing) (v : Move) (o : Outcome) → s.phase ≡ phase.Calling → v.object ≡ outcome_after_decision s.phase o → v.object ≡ ends_as o
+ends_calling s v o calling is = is ∙ ap (λ (p : Phase). outcome_after_decision p o) calling
 
 completed_apart : (o : Outcome) (r : ℕ) → IsCompleted o → Some (outcome.Refused r) ≡ Some o → ⊥
 completed_apart o r c e = subst IsCompleted (sym (some_same e)) c
@@ -205,7 +205,7 @@ found_it s took v calls (is_decided d) w given =
       size = size;
       object = ends_calling s v d.ends call.0 d.object ∙ (ap ends_as same ∙ found_nothing w);
       turned = d.turned ∙ (ap (λ (p : Phase). after_decision p d.ends) call.0 ∙ (ap (after_decision phase.Calling) same
-          ∙ ap (λ (b : Bool). (if◌then◌else◌ {A = Stepped} b (phase.Fetching (record { bytes = hash_in w }) (length_in w), next.Fetch (record { bytes = hash_in w }) (length_in w)) (phase.Closed, next.Bad)).0) size));
+          ∙ ap (λ (b : Bool). (if◌then◌else◌ {A = ObjectStep} b (phase.Fetching (record { bytes = hash_in w }) (length_in w), next.Fetch (record { bytes = hash_in w }) (length_in w)) (phase.Closed, next.Bad)).0) size));
     }
 found_it s took v calls (is_refused f) w given = absurd (refused_found f.reason w (some_same (sym f.returned ∙ given)))
 found_it s took v calls (is_refused_content f) w given = absurd (none_is_some (sym f.returned ∙ given))
@@ -215,21 +215,21 @@ found_it s took v calls (is_halted q) w given = absurd (halted_found q.check w (
 -- in a group without objects nothing is returned of one
 plain_none : (s : Standing) (took : Option ToClient) (v : Move) → s.phase ≡ phase.Closed → Together s.phase s.awaiting → Returned s took v → v.object ≡ None
 plain_none s took v closed t (is_nothing q) = q.object
-plain_none s took v closed t (is_decided d) = d.object ∙ ap (λ (p : Phase). ended_by p d.ends) closed
-plain_none s took v closed t (is_refused f) = f.object ∙ ap (λ (p : Phase). ended_by p (outcome.Refused f.reason)) closed
+plain_none s took v closed t (is_decided d) = d.object ∙ ap (λ (p : Phase). outcome_after_decision p d.ends) closed
+plain_none s took v closed t (is_refused f) = f.object ∙ ap (λ (p : Phase). outcome_after_decision p (outcome.Refused f.reason)) closed
 plain_none s took v closed t (is_refused_content f) = absurd ((subst (λ (p : Phase). Together p s.awaiting) closed t).1 f.awaited)
 plain_none s took v closed t (is_content f) = absurd ((subst (λ (p : Phase). Together p s.awaiting) closed t).0 f.digest f.len f.awaited)
 plain_none s took v closed t (is_halted q) = q.object
 
-took_by : (g : Group) (past : List TraceStep) (x : TraceStep) → took g past x ≡ taken_by (move_of g past x).next x.input
-unfolding took
+took_by : (g : Group) (past : List TraceStep) (x : TraceStep) → answer_taken g past x ≡ answer_unless_halted (move_of g past x).next x.input
+unfolding answer_taken
 took_by g past x = refl
 
 ends_object : (g : Group) (x : TraceStep) (past : List TraceStep) → AreSteps g (x ∷ past) → g.mode ≡ mode.Objects → EndsObject g past x
 ends_object g x past steps objects =
     let s : Standing = standing g x.client past in
     let v : Move = move_of g past x in
-    let t : Option ToClient = taken_by v.next x.input in
+    let t : Option ToClient = answer_unless_halted v.next x.input in
     let calls : Calls s = (stands g past steps.0 x.client).calls objects in
     let r : Returned s t v = (ending_at g x past steps).returned in
     let to : (e : ObjectOutcome) (a : Outcome) → back e ≡ Some a → IsCompleted a → x.object ≡ Some e → x.returned ≡ Some a =
@@ -249,17 +249,17 @@ ends_object g x past steps objects =
       halted = λ k given. steps.1.object ∙ halted_so s t v r k (sym steps.1.returned ∙ given);
     }
   where
-    refuses : (n : ℕ) → x.object ≡ Some (ended.Refused n) → (x.returned ≡ Some (outcome.Refused n)) ⊎ ((x.returned ≡ None) × (took g past x ≡ Some (say.Refused n)))
+    refuses : (n : ℕ) → x.object ≡ Some (ended.Refused n) → (x.returned ≡ Some (outcome.Refused n)) ⊎ ((x.returned ≡ None) × (answer_taken g past x ≡ Some (say.Refused n)))
     refuses n given = elim (refused_to (standing g x.client past) _ (move_of g past x) ((stands g past steps.0 x.client).calls objects) (ending_at g x past steps).returned n (sym steps.1.object ∙ given)) [
       | inl a ↦ inl (steps.1.returned ∙ a)
       | inr b ↦ inr (steps.1.returned ∙ b.0, took_by g past x ∙ b.1)
     ]
 
-    refuses_from : (n : ℕ) → (x.returned ≡ Some (outcome.Refused n)) ⊎ ((x.returned ≡ None) × (took g past x ≡ Some (say.Refused n))) → x.object ≡ Some (ended.Refused n)
+    refuses_from : (n : ℕ) → (x.returned ≡ Some (outcome.Refused n)) ⊎ ((x.returned ≡ None) × (answer_taken g past x ≡ Some (say.Refused n))) → x.object ≡ Some (ended.Refused n)
     refuses_from n (inl a) = steps.1.object ∙ refused_call (standing g x.client past) _ (move_of g past x) ((stands g past steps.0 x.client).calls objects) (ending_at g x past steps).returned n (sym steps.1.returned ∙ a)
     refuses_from n (inr b) = steps.1.object ∙ refused_content (standing g x.client past) _ (move_of g past x) (ending_at g x past steps).returned n (sym steps.1.returned ∙ b.0) (sym (took_by g past x) ∙ b.1)
 
-    gives : (c : List ℕ) → x.object ≡ Some (ended.Content c) → took g past x ≡ Some (say.Content c)
+    gives : (c : List ℕ) → x.object ≡ Some (ended.Content c) → answer_taken g past x ≡ Some (say.Content c)
     gives c given = took_by g past x ∙ ((phased_at g x past steps).content c (sym steps.1.object ∙ given)).took_it
 
 pub objects_end_so : ObjectsEndSo
@@ -364,11 +364,11 @@ left_since g me w (y ∷ between) x past steps objects alone own found =
 turn_apart : awaits.Turn ≡ awaits.Nothing → ⊥
 turn_apart e = cc
 
-fetches_from : (g : Group) (x : TraceStep) (past : List TraceStep) → AreSteps g (x ∷ past) → g.mode ≡ mode.Objects → (d : Digest32) → took g past x ≡ Some say.Wait → FoundSince past x.client d.bytes
+fetches_from : (g : Group) (x : TraceStep) (past : List TraceStep) → AreSteps g (x ∷ past) → g.mode ≡ mode.Objects → (d : Digest32) → answer_taken g past x ≡ Some say.Wait → FoundSince past x.client d.bytes
     → x.sent ≡ Some (request_text (ask.Fetch d))
 fetches_from g x past steps objects d it f =
     let e = ending_at g x past steps in
-    let took_it : taken_by (move_of g past x).next x.input ≡ Some say.Wait = sym (took_by g past x) ∙ it in
+    let took_it : answer_unless_halted (move_of g past x).next x.input ≡ Some say.Wait = sym (took_by g past x) ∙ it in
     let left : Left (standing g x.client past) (digest_in f.value) (length_in f.value) =
     subst (λ (h : List TraceStep). Left (standing g x.client h) (digest_in f.value) (length_in f.value)) (sym f.since)
     (left_since g x.client f.value f.between f.reply f.before (subst (AreSteps g) f.since steps.0) objects f.alone f.owner f.found) in
@@ -378,17 +378,17 @@ fetches_from g x past steps objects d it f =
       | inr nothing ↦ absurd (turn_apart (sym (e.turn took_it) ∙ nothing))
     ]
 
-fetches_to : (g : Group) (x : TraceStep) (past : List TraceStep) → AreSteps g (x ∷ past) → (d : Digest32) → x.sent ≡ Some (request_text (ask.Fetch d)) → (took g past x ≡ Some say.Wait) × FoundSince past x.client d.bytes
+fetches_to : (g : Group) (x : TraceStep) (past : List TraceStep) → AreSteps g (x ∷ past) → (d : Digest32) → x.sent ≡ Some (request_text (ask.Fetch d)) → (answer_taken g past x ≡ Some say.Wait) × FoundSince past x.client d.bytes
 fetches_to g x past steps d sent =
     let sends : (move_of g past x).sends ≡ Some (Fetches d.bytes) = fetch_told g x.client (move_of g past x).next (move_of g past x).sends d (sym steps.1.sent ∙ sent) in
-    let f : Fetched (standing g x.client past) (taken_by (move_of g past x).next x.input) d.bytes = (ending_at g x past steps).fetches d.bytes sends in
+    let f : Fetched (standing g x.client past) (answer_unless_halted (move_of g past x).next x.input) d.bytes = (ending_at g x past steps).fetches d.bytes sends in
     (took_by g past x ∙ f.took_it, subst (FoundSince past x.client) (sym f.is) (found_since g past steps.0 x.client f.digest f.len f.fetching))
 
 -- a group without objects has none to fetch
 no_fetch : (g : Group) (x : TraceStep) (past : List TraceStep) → AreSteps g (x ∷ past) → (d : Digest32) → g.mode ≡ mode.Plain → x.sent ≡ Some (request_text (ask.Fetch d)) → ⊥
 no_fetch g x past steps d plain sent =
     let sends : (move_of g past x).sends ≡ Some (Fetches d.bytes) = fetch_told g x.client (move_of g past x).next (move_of g past x).sends d (sym steps.1.sent ∙ sent) in
-    let f : Fetched (standing g x.client past) (taken_by (move_of g past x).next x.input) d.bytes = (ending_at g x past steps).fetches d.bytes sends in
+    let f : Fetched (standing g x.client past) (answer_unless_halted (move_of g past x).next x.input) d.bytes = (ending_at g x past steps).fetches d.bytes sends in
     apart f.digest f.len (sym ((stands g past steps.0 x.client).closed plain) ∙ f.fetching)
   where
     apart : (h : Digest32) (len : ℕ) → phase.Closed ≡ phase.Fetching h len → ⊥
@@ -444,10 +444,10 @@ came_content (Some say.Absent) c i = absurd i
 known_to : (g : Group) (h : List TraceStep) → AreSteps g h → (c : List ℕ) → IsIn (contents_known g h) c → IsKnownIn g h c
 unfolding contents_known
 known_to g [] steps c i = absurd i
-known_to g (x ∷ past) steps c i = elim (in_either (content_sent (move_of g past x).sends) (content_in (took g past x) ++ contents_known g past) c i) [
+known_to g (x ∷ past) steps c i = elim (in_either (content_sent (move_of g past x).sends) (content_in (answer_taken g past x) ++ contents_known g past) c i) [
   | inl a ↦ record { later = []; x = x; past = past; is = refl; knows = of_keep (steps.1.sent ∙ ap (payload_of g x.client (move_of g past x).next) (sent_content (move_of g past x).sends c a)) }
-  | inr b ↦ elim (in_either (content_in (took g past x)) (contents_known g past) c b) [
-    | inl a ↦ record { later = []; x = x; past = past; is = refl; knows = of_answer ((took_is g past x (say.Content c)).0 (came_content (took g past x) c a)) }
+  | inr b ↦ elim (in_either (content_in (answer_taken g past x)) (contents_known g past) c b) [
+    | inl a ↦ record { later = []; x = x; past = past; is = refl; knows = of_answer ((took_is g past x (say.Content c)).0 (came_content (answer_taken g past x) c a)) }
     | inr w ↦ (let r = known_to g past steps.0 c w in record { later = x ∷ r.later; x = r.x; past = r.past; is = ap (λ (k : List TraceStep). x ∷ k) r.is; knows = r.knows })
   ]
 ]

@@ -10,7 +10,7 @@ use Rattle.vic_rules.specs.declared.state.Own.{Own}
 use Rattle.vic_rules.specs.declared.trace.TraceStep.{TraceStep}
 use Rattle.vic_rules.specs.Client.{Standing, is_done}
 use Rattle.vic_rules.specs.History.{standing, move_of, AreSteps, Completion, completions}
-use Rattle.vic_rules.specs.Views.{confirmed}
+use Rattle.vic_rules.specs.Views.{confirmation}
 use Rattle.vic_laws.proofs.Words.{all_append}
 use Rattle.vic_laws.proofs.Steps.{Kind, is_quiet, is_called, is_replied, is_updated, is_listed, call_of}
 use Rattle.vic_laws.proofs.Standings.{standing_moved, standing_kept}
@@ -26,7 +26,7 @@ pub record OwnConfirmed (me : ℕ) (cs : List Completion) (p : List Entry) (o : 
   pub is : front o.position p ≡ entry ∷ below
   pub client : entry.client ≡ me
   pub op : entry.op ≡ o.op
-  pub found : confirmed cs (entry ∷ below) ≡ Some by
+  pub found : confirmation cs (entry ∷ below) ≡ Some by
   pub done : is_done by.outcome ≡ o.done
 
 own_stays : (me : ℕ) (ds cs : List Completion) (news p : List Entry) (o : Own) → OwnConfirmed me cs p o → o.position ≤ length p → OwnConfirmed me (ds ++ cs) (news ++ p) o

@@ -10,9 +10,9 @@ use Rattle.vic_wire.specs.Hashes.{Group}
 use Rattle.vic_rules.specs.declared.state.Own.{Own}
 use Rattle.vic_rules.specs.declared.trace.TraceStep.{TraceStep}
 use Rattle.vic_wire.specs.Parts.{walked}
-use Rattle.vic_rules.specs.Client.{Standing, is_done, done_op, laid, decision}
+use Rattle.vic_rules.specs.Client.{Standing, is_done, done_op, own_calls_over, decision}
 use Rattle.vic_rules.specs.History.{standing, path, move_of, AreSteps, Completion, completions}
-use Rattle.vic_rules.specs.Views.{confirmed}
+use Rattle.vic_rules.specs.Views.{confirmation}
 use Rattle.vic_laws.proofs.Steps.{Kind, is_quiet, is_called, is_replied, is_updated, is_listed, call_of, IsOther}
 use Rattle.vic_laws.specs.OrderClaims.{was_done}
 use Rattle.vic_laws.proofs.Standings.{standing_moved, standing_kept, earlier_steps}
@@ -27,7 +27,7 @@ own_op d e c = if was_done c then after d e.op else d
 -- a client's confirmed done calls above a base of a path, laid over a dictionary in order
 unfoldable pub own_laid : List Completion → ℕ → ℕ → Dictionary → List Entry → Dictionary
 own_laid cs me base d [] = d
-own_laid cs me base d (e ∷ p) = if nat_lt base (length (e ∷ p)) && nat_eq e.client me then own_op (own_laid cs me base d p) e (confirmed cs (e ∷ p)) else own_laid cs me base d p
+own_laid cs me base d (e ∷ p) = if nat_lt base (length (e ∷ p)) && nat_eq e.client me then own_op (own_laid cs me base d p) e (confirmation cs (e ∷ p)) else own_laid cs me base d p
 
 if_true : {A : Type 0} (b : Bool) (x y : A) → b ≡ true → (if b then x else y) ≡ x
 if_true b x y e = ap (λ c. if c then x else y) e
@@ -41,10 +41,10 @@ and_false false b e = refl
 
 -- an own entry above the base is laid
 pub laid_own : (cs : List Completion) (me base : ℕ) (d : Dictionary) (e : Entry) (p : List Entry) → base < length (e ∷ p) → e.client ≡ me
-    → own_laid cs me base d (e ∷ p) ≡ own_op (own_laid cs me base d p) e (confirmed cs (e ∷ p))
+    → own_laid cs me base d (e ∷ p) ≡ own_op (own_laid cs me base d p) e (confirmation cs (e ∷ p))
 unfolding own_laid
 laid_own cs me base d e p above mine =
-    ap (λ b. if b && nat_eq e.client me then own_op (own_laid cs me base d p) e (confirmed cs (e ∷ p)) else own_laid cs me base d p) (lt-ltb base (length (e ∷ p)) above)
+    ap (λ b. if b && nat_eq e.client me then own_op (own_laid cs me base d p) e (confirmation cs (e ∷ p)) else own_laid cs me base d p) (lt-ltb base (length (e ∷ p)) above)
     ∙ if_true (nat_eq e.client me) _ _ (eq-eqb e.client me mine)
 
 -- another client's isn't
@@ -57,7 +57,7 @@ pub laid_below : (cs : List Completion) (me base : ℕ) (d : Dictionary) (p : Li
 unfolding own_laid
 laid_below cs me base d [] le = refl
 laid_below cs me base d (e ∷ p) le =
-    ap (λ b. if b && nat_eq e.client me then own_op (own_laid cs me base d p) e (confirmed cs (e ∷ p)) else own_laid cs me base d p) (le-ltb base (length (e ∷ p)) le)
+    ap (λ b. if b && nat_eq e.client me then own_op (own_laid cs me base d p) e (confirmation cs (e ∷ p)) else own_laid cs me base d p) (le-ltb base (length (e ∷ p)) le)
     ∙ laid_below cs me base d p (omega (arith, le))
 
 -- other clients' entries on a path change nothing
@@ -69,7 +69,7 @@ laid_others cs count me base d (e ∷ others) p a = laid_other cs me base d e (o
 
 abbrev pub OwnOnes : List Completion → ℕ → List Entry → Type 0
 OwnOnes cs me [] = Unit {0}
-OwnOnes cs me (e ∷ p) = (e.client ≡ me → (c : Completion) × (confirmed cs (e ∷ p) ≡ Some c)) × OwnOnes cs me p
+OwnOnes cs me (e ∷ p) = (e.client ≡ me → (c : Completion) × (confirmation cs (e ∷ p) ≡ Some c)) × OwnOnes cs me p
 
 pub own_ones_stay : (ds cs : List Completion) (me : ℕ) (p : List Entry) → OwnOnes cs me p → OwnOnes (ds ++ cs) me p
 own_ones_stay ds cs me [] a = tt
@@ -89,7 +89,7 @@ laid_stays ds cs me base d (e ∷ p) a = now (cases_eq e.client me) (laid_stays 
     now (inl mine) ih =
         ap (λ c. if nat_lt base (length (e ∷ p)) && nat_eq e.client me then own_op (own_laid (ds ++ cs) me base d p) e c else own_laid (ds ++ cs) me base d p)
         (confirmed_stays ds cs (e ∷ p) (a.0 mine).0 (a.0 mine).1 ∙ sym (a.0 mine).1)
-        ∙ ap (λ w. if nat_lt base (length (e ∷ p)) && nat_eq e.client me then own_op w e (confirmed cs (e ∷ p)) else w) ih
+        ∙ ap (λ w. if nat_lt base (length (e ∷ p)) && nat_eq e.client me then own_op w e (confirmation cs (e ∷ p)) else w) ih
     now (inr other) ih = laid_other (ds ++ cs) me base d e p other ∙ (ih ∙ sym (laid_other cs me base d e p other))
 
 own_ones_kept : (g : Group) (x : TraceStep) (past : List TraceStep) → AreSteps g (x ∷ past) → (ds : List Completion) → completions g (x ∷ past) ≡ ds ++ completions g past
@@ -145,18 +145,18 @@ fold_more true d x o c longer shorter f = f (done_op d x)
 fold_more false d x o c longer shorter f = f d
 
 -- the last own call is laid last, if it stands above the base
-laid_last : (own : List Own) (o : Own) (base : ℕ) (d : Dictionary) → laid (own ++ o ∷ []) base d ≡ (if nat_lt base o.position then done_op (laid own base d) o else laid own base d)
+laid_last : (own : List Own) (o : Own) (base : ℕ) (d : Dictionary) → own_calls_over (own ++ o ∷ []) base d ≡ (if nat_lt base o.position then done_op (own_calls_over own base d) o else own_calls_over own base d)
 laid_last [] o base d = fold_one (nat_lt base o.position) d o
 laid_last (x ∷ own) o base d =
     fold_more (nat_lt base x.position) d x o (nat_lt base o.position) (filter (λ w. nat_lt base w.position) (own ++ o ∷ [])) (filter (λ w. nat_lt base w.position) own) (λ w. laid_last own o base w)
 
 -- an own call that isn't above the base isn't laid
-laid_first : (first : Own) (rest : List Own) (base : ℕ) (d : Dictionary) → first.position ≤ base → laid (first ∷ rest) base d ≡ laid rest base d
+laid_first : (first : Own) (rest : List Own) (base : ℕ) (d : Dictionary) → first.position ≤ base → own_calls_over (first ∷ rest) base d ≡ own_calls_over rest base d
 laid_first first rest base d le = ap (λ b. fold done_op d (if b then first ∷ filter (λ w. nat_lt base w.position) rest else filter (λ w. nat_lt base w.position) rest)) (le-ltb base first.position le)
 
 -- over what is sealed, a client lays the own done calls of its path
 abbrev pub Lays : List Completion → ℕ → Standing → Type 0
-Lays cs me s = (base : ℕ) (d : Dictionary) → s.sealed ≤ base → laid s.own base d ≡ own_laid cs me base d s.path
+Lays cs me s = (base : ℕ) (d : Dictionary) → s.sealed ≤ base → own_calls_over s.own base d ≡ own_laid cs me base d s.path
 
 done_same : (a b : Dictionary) (o : Own) (e : Entry) (c : Completion) → a ≡ b → o.op ≡ e.op → is_done c.outcome ≡ o.done → done_op a o ≡ own_op b e (Some c)
 done_same a b o e c same op status =
@@ -172,7 +172,7 @@ module _ (g : Group) (x : TraceStep) (past : List TraceStep) (steps : AreSteps g
   lays_kept : Lays (completions g (x ∷ past)) x.client (standing g x.client past) → Kind g x.client (standing g x.client past) x.input (move_of g past x)
       → Lays (completions g (x ∷ past)) x.client (move_of g past x).next
   lays_kept before (is_quiet k) = λ base d le.
-      ap (λ own. laid own base d) k.own ∙ (before base d (subst (λ n. n ≤ base) k.sealed le) ∙ ap (own_laid (completions g (x ∷ past)) x.client base d) (sym k.path))
+      ap (λ own. own_calls_over own base d) k.own ∙ (before base d (subst (λ n. n ≤ base) k.sealed le) ∙ ap (own_laid (completions g (x ∷ past)) x.client base d) (sym k.path))
   lays_kept before (is_called k) = subst (λ v. Lays (completions g (x ∷ past)) x.client v.next) (sym k.moved) before
   lays_kept before (is_replied k) = subst (λ v. Lays (completions g (x ∷ past)) x.client v.next) (sym k.moved) (λ base d le. now base d le (cases_lt base (length p)))
     where
@@ -197,17 +197,17 @@ module _ (g : Group) (x : TraceStep) (past : List TraceStep) (steps : AreSteps g
       new : Own
       new = record { position = length (call_of x.client k.seq k.op ∷ (k.others ++ (standing g x.client past).path)); op = k.op; done = is_done ends }
 
-      same : (base : ℕ) (d : Dictionary) → k.seal.position ≤ base → laid (standing g x.client past).own base d ≡ own_laid (completions g (x ∷ past)) x.client base d (k.others ++ (standing g x.client past).path)
+      same : (base : ℕ) (d : Dictionary) → k.seal.position ≤ base → own_calls_over (standing g x.client past).own base d ≡ own_laid (completions g (x ∷ past)) x.client base d (k.others ++ (standing g x.client past).path)
       same base d le = before base d (le_trans k.sealing.goes le) ∙ sym (laid_others (completions g (x ∷ past)) g.count x.client base d k.others (standing g x.client past).path k.from_others)
 
-      found : confirmed (completions g (x ∷ past)) p ≡ Some (completed_by k)
+      found : confirmation (completions g (x ∷ past)) p ≡ Some (completed_by k)
       found = confirmed_by g (x ∷ past) steps p (completed_by k) (completion_joins g past x steps.1 k) refl
 
-      now : (base : ℕ) (d : Dictionary) → k.seal.position ≤ base → (base < length p) ⊎ (length p ≤ base) → laid ((standing g x.client past).own ++ new ∷ []) base d ≡ own_laid (completions g (x ∷ past)) x.client base d p
+      now : (base : ℕ) (d : Dictionary) → k.seal.position ≤ base → (base < length p) ⊎ (length p ≤ base) → own_calls_over ((standing g x.client past).own ++ new ∷ []) base d ≡ own_laid (completions g (x ∷ past)) x.client base d p
       now base d le (inl above) =
           laid_last (standing g x.client past).own new base d
           ∙ (if_true (nat_lt base new.position) _ _ (lt-ltb base (length p) above)
-          ∙ (done_same (laid (standing g x.client past).own base d) (own_laid (completions g (x ∷ past)) x.client base d below) new call (completed_by k) (same base d le) refl refl
+          ∙ (done_same (own_calls_over (standing g x.client past).own base d) (own_laid (completions g (x ∷ past)) x.client base d below) new call (completed_by k) (same base d le) refl refl
           ∙ (ap (own_op (own_laid (completions g (x ∷ past)) x.client base d below) call) (sym found)
           ∙ sym (laid_own (completions g (x ∷ past)) x.client base d call below above refl))))
       now base d le (inr up) =
@@ -217,7 +217,7 @@ module _ (g : Group) (x : TraceStep) (past : List TraceStep) (steps : AreSteps g
           ∙ (laid_below (completions g (x ∷ past)) x.client base d below (omega arith) ∙ sym (laid_below (completions g (x ∷ past)) x.client base d p up))))
   lays_kept before (is_updated k) = subst (λ v. Lays (completions g (x ∷ past)) x.client v.next) (sym k.moved) (λ base d le.
       sym (laid_first k.first k.rest base d (subst (λ n. n ≤ base) (sym k.next_is) le))
-      ∙ (ap (λ own. laid own base d) (sym k.own_is) ∙ before base d (omega (arith, le, k.sealing.goes))))
+      ∙ (ap (λ own. own_calls_over own base d) (sym k.own_is) ∙ before base d (omega (arith, le, k.sealing.goes))))
   lays_kept before (is_listed k) = subst (λ v. Lays (completions g (x ∷ past)) x.client v.next) (sym k.moved) (λ base d le.
       before base d (le_trans k.sealing.goes le) ∙ sym (laid_others (completions g (x ∷ past)) g.count x.client base d k.others (standing g x.client past).path k.from_others))
 
@@ -235,7 +235,7 @@ lays g (x ∷ past) steps me = now (cases_eq x.client me) (lays g past steps.0 x
 
 -- what a client lays over the part of its Reply is laid by the path below the call, in the whole history
 pub lays_at : (g : Group) (whole : List TraceStep) → AreSteps g whole → (later : List TraceStep) (x : TraceStep) (past : List TraceStep) → whole ≡ later ++ x ∷ past → (r : RepliedAt g past x)
-    → laid (standing g x.client past).own r.seal.position (walked r.part r.op) ≡ own_laid (completions g whole) x.client r.seal.position (walked r.part r.op) (r.others ++ path g x.client past)
+    → own_calls_over (standing g x.client past).own r.seal.position (walked r.part r.op) ≡ own_laid (completions g whole) x.client r.seal.position (walked r.part r.op) (r.others ++ path g x.client past)
 lays_at g whole lawful later x past e r =
     let p = path g x.client past in
     let steps = earlier_steps g later (x ∷ past) (subst (AreSteps g) e lawful) in

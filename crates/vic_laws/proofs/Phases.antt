@@ -31,10 +31,10 @@ use Rattle.vic_rules.specs.declared.trace.Input.{Input}
 use Rattle.vic_rules.specs.declared.trace.Input.TheVariants as input
 use Rattle.vic_rules.specs.declared.object.Next.{Next}
 use Rattle.vic_rules.specs.declared.object.Next.TheVariants as next
-use Rattle.vic_rules.specs.Objects.{over_with, content_hash, reference_text, is_reference, hash_in, length_in, is_content_of, begun, kept_at, after_decision, ended_by, Stepped}
+use Rattle.vic_rules.specs.Objects.{final_outcome, content_hash, reference_text, is_reference, hash_in, length_in, is_content_of, first_step, step_on_kept, after_decision, outcome_after_decision, ObjectStep}
 use Rattle.vic_rules.specs.Views.{AsksFor}
-use Rattle.vic_rules.specs.Client.{is_wanted, Standing, Move, Sending, Invokes, Commits, Polls, Syncs, Seals, Keeps, Fetches as Fetch, moves_with, calls_op, goes_to, waited, refused_at, replied, updated, halts, is_load, is_awaited, is_done, decision, awaits_nothing, MayStep, taken, taken_or_halts, on_payload, step, verdict, verdict_on, grown}
-use Rattle.vic_rules.specs.Trust.{taken_by}
+use Rattle.vic_rules.specs.Client.{is_wanted, Standing, Move, Sending, Invokes, Commits, Polls, Syncs, Seals, Keeps, Fetches as Fetch, move_with_object, move_to_call, move_by_object_step, move_on_wait, move_on_refusal, move_on_reply, move_on_update, move_to_halt, is_load, is_awaited, is_done, decision, awaits_nothing, MayStep, move_on_answer, move_on_verdict, move_on_payload, step, verdict, verdict_on, path_with_entries}
+use Rattle.vic_rules.specs.Trust.{answer_unless_halted}
 use Rattle.vic_laws.proofs.Words.{none_is_some}
 use Rattle.vic_laws.proofs.Steps.{Passes}
 use Rattle.vic_laws.proofs.StepKinds.{all_passed, takes_read}
@@ -84,7 +84,7 @@ pub record Phased (s : Standing) (i : Input) (v : Move) : Type 0 where
   pub together : Together v.next.phase v.next.awaiting
   pub fetching : (h : Digest32) (len : ℕ) → v.next.phase ≡ phase.Fetching h len → (s.phase ≡ phase.Fetching h len) ⊎ Finds v.returns h len
   pub keeping : (k : List ℕ) (h : Digest32) (len : ℕ) → v.next.halted ≡ None → v.next.phase ≡ phase.Keeping k h len → Stores i v.sends k h len
-  pub content : (c : List ℕ) → v.object ≡ Some (ended.Content c) → Fetches s (taken_by v.next i) c
+  pub content : (c : List ℕ) → v.object ≡ Some (ended.Content c) → Fetches s (answer_unless_halted v.next i) c
   pub puts : (n : ℕ) (q u : List ℕ) → v.sends ≡ Some (Invokes n (op.Put q u)) → (i ≡ input.Call (op.Put q u)) ⊎ Puts s (op.Put q u)
   pub gets : (n : ℕ) (q : List ℕ) → v.sends ≡ Some (Invokes n (op.Get q)) → (i ≡ input.Call (op.Get q)) ⊎ (i ≡ input.Object (object.Load q))
   pub calls : (n : ℕ) (o : Op) → v.sends ≡ Some (Invokes n o) → AsksFor i o ⊎ Puts s o
@@ -95,7 +95,7 @@ nothing_ended c e = cc
 nothing_sent : (n : ℕ) (o : Op) → ◌≡◌ {A = Option Sending} None (Some (Invokes n o)) → ⊥
 nothing_sent n o e = cc
 
-phased_halt : (s : Standing) (i : Input) (k : ℕ) → Together s.phase s.awaiting → Phased s i (halts s k)
+phased_halt : (s : Standing) (i : Input) (k : ℕ) → Together s.phase s.awaiting → Phased s i (move_to_halt s k)
 phased_halt s i k t = record {
   together = t;
   fetching = λ h len e. inl e;
@@ -147,7 +147,7 @@ phased_call : (s : Standing) (i : Input) (p : Phase) (o : Op) (load : Bool) → 
     → ((h : Digest32) (len : ℕ) → p ≡ phase.Fetching h len → ⊥) → ((k : List ℕ) (h : Digest32) (len : ℕ) → p ≡ phase.Keeping k h len → ⊥)
     → ((q u : List ℕ) → o ≡ op.Put q u → (i ≡ input.Call (op.Put q u)) ⊎ Puts s (op.Put q u))
     → ((q : List ℕ) → o ≡ op.Get q → (i ≡ input.Call (op.Get q)) ⊎ (i ≡ input.Object (object.Load q)))
-    → AsksFor i o ⊎ Puts s o → Phased s i (calls_op s p o load)
+    → AsksFor i o ⊎ Puts s o → Phased s i (move_to_call s p o load)
 phased_call s i p o load together apart kept puts gets asks = record {
   together = together (awaits.Reply (s.calls + 1) o load) refl;
   fetching = λ h len e. absurd (apart h len e);
@@ -176,7 +176,7 @@ closed_so n o load a e = ((λ h len f. reply_no_content n o load h len (sym e �
 pub same_key : (k q : List ℕ) → op.Get k ≡ op.Get q → k ≡ q
 same_key k q e = cc
 
-phased_object : (s : Standing) (c : ObjectCall) → Phased s (input.Object c) (goes_to s (is_load c) (begun c))
+phased_object : (s : Standing) (c : ObjectCall) → Phased s (input.Object c) (move_by_object_step s (is_load c) (first_step c))
 phased_object s (object.Store k c) = record {
   together = refl;
   fetching = λ h len e. absurd (keeping_apart k _ _ h len e);
@@ -210,8 +210,8 @@ phased_object s (object.Names p) = phased_call s _ phase.Calling (op.List p) fal
 
 -- a step that stays Closed
 phased_closed : (s : Standing) (i : Input) (a : Awaiting) (sends : Option Sending) (returns : Option Outcome) (object : Option ObjectOutcome) (p : Phase) → p ≡ phase.Closed → Together phase.Closed a
-    → ((c : List ℕ) → object ≡ Some (ended.Content c) → Fetches s (taken_by (record s { awaiting = a; phase = p }) i) c)
-    → ((n : ℕ) (o : Op) → sends ≡ Some (Invokes n o) → ⊥) → Phased s i (moves_with (record s { awaiting = a; phase = p }) sends returns object)
+    → ((c : List ℕ) → object ≡ Some (ended.Content c) → Fetches s (answer_unless_halted (record s { awaiting = a; phase = p }) i) c)
+    → ((n : ℕ) (o : Op) → sends ≡ Some (Invokes n o) → ⊥) → Phased s i (move_with_object (record s { awaiting = a; phase = p }) sends returns object)
 phased_closed s i a sends returns object p is t gives quiet = record {
   together = subst (λ q. Together q a) (sym is) t;
   fetching = λ h len e. absurd (closed_apart h len (sym is ∙ e));
@@ -247,7 +247,7 @@ decided_phase phase.Calling (outcome.Done answer.Absent) h len e = absurd (close
 decided_phase phase.Calling (outcome.Done (answer.Names names)) h len e = absurd (closed_apart h len e)
 decided_phase phase.Calling (outcome.Done (answer.Found v)) h len e = found (is_reference v) _ _ refl e
   where
-    found : (b : Bool) (x y : Next) → is_reference v ≡ b → (if◌then◌else◌ {A = Stepped} b (phase.Fetching (record { bytes = hash_in v }) (length_in v), x) (phase.Closed, y)).0 ≡ phase.Fetching h len
+    found : (b : Bool) (x y : Next) → is_reference v ≡ b → (if◌then◌else◌ {A = ObjectStep} b (phase.Fetching (record { bytes = hash_in v }) (length_in v), x) (phase.Closed, y)).0 ≡ phase.Fetching h len
         → (phase.Calling ≡ phase.Fetching h len) ⊎ Finds (Some (outcome.Done (answer.Found v))) h len
     found true x y size e = inr (record { value = v; is = refl; size = size; hash_is = (let f : h ≡ record { bytes = hash_in v } = cc in ap (λ x. x.bytes) f); length_is = cc })
     found false x y size e = absurd (closed_apart h len e)
@@ -266,7 +266,7 @@ decided_kept phase.Calling (outcome.Done answer.Absent) k h len e = absurd (clos
 decided_kept phase.Calling (outcome.Done (answer.Names names)) k h len e = absurd (closed_kept k h len e)
 decided_kept phase.Calling (outcome.Done (answer.Found v)) k h len e = found (is_reference v) _ _ e
   where
-    found : (b : Bool) (x y : Next) → (if◌then◌else◌ {A = Stepped} b (phase.Fetching (record { bytes = hash_in v }) (length_in v), x) (phase.Closed, y)).0 ≡ phase.Keeping k h len → phase.Calling ≡ phase.Keeping k h len
+    found : (b : Bool) (x y : Next) → (if◌then◌else◌ {A = ObjectStep} b (phase.Fetching (record { bytes = hash_in v }) (length_in v), x) (phase.Closed, y)).0 ≡ phase.Keeping k h len → phase.Calling ≡ phase.Keeping k h len
     found true x y e = absurd (fetching_kept _ _ k h len e)
     found false x y e = absurd (closed_kept k h len e)
 
@@ -288,12 +288,12 @@ decided_together phase.Calling (outcome.Done answer.Absent) n q load t = turn_cl
 decided_together phase.Calling (outcome.Done (answer.Names names)) n q load t = turn_closed
 decided_together phase.Calling (outcome.Done (answer.Found v)) n q load t = found (is_reference v) _ _
   where
-    found : (b : Bool) (x y : Next) → Together (if◌then◌else◌ {A = Stepped} b (phase.Fetching (record { bytes = hash_in v }) (length_in v), x) (phase.Closed, y)).0 awaits.Turn
+    found : (b : Bool) (x y : Next) → Together (if◌then◌else◌ {A = ObjectStep} b (phase.Fetching (record { bytes = hash_in v }) (length_in v), x) (phase.Closed, y)).0 awaits.Turn
     found true x y = inl refl
     found false x y = turn_closed
 
 -- a decision returns no content
-decided_content : (p : Phase) (o : Outcome) (c : List ℕ) → ended_by p o ≡ Some (ended.Content c) → ⊥
+decided_content : (p : Phase) (o : Outcome) (c : List ℕ) → outcome_after_decision p o ≡ Some (ended.Content c) → ⊥
 decided_content phase.Closed o c e = nothing_ended c e
 decided_content (phase.Keeping k h len) o c e = nothing_ended c e
 decided_content (phase.Fetching h len) o c e = nothing_ended c e
@@ -307,7 +307,7 @@ decided_content phase.Calling (outcome.Done answer.Absent) c e = cc
 decided_content phase.Calling (outcome.Done (answer.Names names)) c e = cc
 decided_content phase.Calling (outcome.Done (answer.Found v)) c e = found (is_reference v) e
   where
-    found : (b : Bool) → over_with (if◌then◌else◌ {A = Stepped} b (phase.Fetching (record { bytes = hash_in v }) (length_in v), next.Fetch (record { bytes = hash_in v }) (length_in v)) (phase.Closed, next.Bad)).1 ≡ Some (ended.Content c) → ⊥
+    found : (b : Bool) → final_outcome (if◌then◌else◌ {A = ObjectStep} b (phase.Fetching (record { bytes = hash_in v }) (length_in v), next.Fetch (record { bytes = hash_in v }) (length_in v)) (phase.Closed, next.Bad)).1 ≡ Some (ended.Content c) → ⊥
     found true e = nothing_ended c e
     found false e = nothing_ended c e
 
@@ -320,7 +320,7 @@ no_seal : (n : ℕ) (o : Op) → Some Seals ≡ Some (Invokes n o) → ⊥
 no_seal n o e = cc
 
 phased_reply : (me : ℕ) (s : Standing) (i : Input) (seal : Seal) (path : List Entry) (part : Option Part) (a : Awaiting) → Together s.phase s.awaiting → s.awaiting ≡ a
-    → Phased s i (replied me s seal path part a)
+    → Phased s i (move_on_reply me s seal path part a)
 phased_reply me s i seal (e ∷ below) (Some part) (awaits.Reply n o load) t same =
     let ends : Outcome = decision me s below seal.position part o in
     record {
@@ -343,7 +343,7 @@ phased_reply me s i seal (e ∷ below) (Some part) (awaits.Content h len) t same
 turn_no_kept : awaits.Turn ≡ awaits.Kept → ⊥
 turn_no_kept e = cc
 
-phased_update : (s : Standing) (i : Input) (seal : Seal) (part : Option Part) (own : List Own) → Together s.phase s.awaiting → s.awaiting ≡ awaits.Turn → Phased s i (updated s seal part own)
+phased_update : (s : Standing) (i : Input) (seal : Seal) (part : Option Part) (own : List Own) → Together s.phase s.awaiting → s.awaiting ≡ awaits.Turn → Phased s i (move_on_update s seal part own)
 phased_update s i seal (Some part) (o ∷ others) t same = record {
   together = subst (Together s.phase) same t;
   fetching = λ h len e. inl e;
@@ -375,7 +375,7 @@ update_awaited (awaits.Content h len) seal part e = absurd (true≢false (sym e)
 no_content : (s : Standing) (took : Option ToClient) (c : List ℕ) → ◌≡◌ {A = Option ObjectOutcome} None (Some (ended.Content c)) → Fetches s took c
 no_content s took c e = absurd (nothing_ended c e)
 
-phased_wait : (s : Standing) (i : Input) (p : Phase) → s.phase ≡ p → Together p awaits.Turn → Phased s i (waited s p)
+phased_wait : (s : Standing) (i : Input) (p : Phase) → s.phase ≡ p → Together p awaits.Turn → Phased s i (move_on_wait s p)
 phased_wait s i phase.Closed is t = phased_closed s i awaits.Nothing None None None s.phase is nothing_closed (λ c e. no_content s _ c e) nothing_sent
 phased_wait s i (phase.Keeping k h len) is t = absurd (turn_no_kept t)
 phased_wait s i phase.Calling is t = absurd (let e = t.3 in cc)
@@ -393,13 +393,13 @@ phased_wait s i (phase.Fetching h len) is t = record {
     no_fetch h n o e = cc
 
 -- a refusal ends the call on objects
-phased_refused : (s : Standing) (i : Input) (r : ℕ) (a : Awaiting) → s.awaiting ≡ a → is_awaited a (say.Refused r) ≡ true → Together s.phase s.awaiting → Phased s i (refused_at s r a)
+phased_refused : (s : Standing) (i : Input) (r : ℕ) (a : Awaiting) → s.awaiting ≡ a → is_awaited a (say.Refused r) ≡ true → Together s.phase s.awaiting → Phased s i (move_on_refusal s r a)
 phased_refused s i r awaits.Kept is form t = phased_closed s i awaits.Nothing None None (Some (ended.Refused r)) phase.Closed refl nothing_closed (λ c e. absurd (refused_apart r c e)) nothing_sent
   where
     refused_apart : (r : ℕ) (c : List ℕ) → Some (ended.Refused r) ≡ Some (ended.Content c) → ⊥
     refused_apart r c e = cc
 phased_refused s i r (awaits.Reply n o load) is form t =
-    phased_closed s i awaits.Nothing None (Some (outcome.Refused r)) (ended_by s.phase (outcome.Refused r)) (after_decision s.phase (outcome.Refused r)) (closes s.phase (subst (Together s.phase) is t)) nothing_closed
+    phased_closed s i awaits.Nothing None (Some (outcome.Refused r)) (outcome_after_decision s.phase (outcome.Refused r)) (after_decision s.phase (outcome.Refused r)) (closes s.phase (subst (Together s.phase) is t)) nothing_closed
     (λ c e. absurd (decided_content s.phase (outcome.Refused r) c e)) nothing_sent
   where
     closes : (p : Phase) → Together p (awaits.Reply n o load) → after_decision p (outcome.Refused r) ≡ phase.Closed
@@ -413,7 +413,7 @@ phased_refused s i r awaits.Turn is form t = absurd (true≢false (sym form))
 phased_refused s i r awaits.Entries is form t = absurd (true≢false (sym form))
 phased_refused s i r (awaits.Content h len) is form t = absurd (true≢false (sym form))
 
-phased_kept : (s : Standing) (i : Input) (p : Phase) → s.halted ≡ None → s.phase ≡ p → Together s.phase s.awaiting → Phased s i (goes_to s false (kept_at p))
+phased_kept : (s : Standing) (i : Input) (p : Phase) → s.halted ≡ None → s.phase ≡ p → Together s.phase s.awaiting → Phased s i (move_by_object_step s false (step_on_kept p))
 phased_kept s i (phase.Keeping k h len) alive is t =
     phased_call s i phase.Calling (op.Put k (reference_text h.bytes len)) false (calling_so (s.calls + 1) (op.Put k (reference_text h.bytes len)) false) calling_apart calling_kept
     (λ q u e. inr (record { name = k; h = h; len = len; alive = alive; keeping = is; is = sym e })) (λ q e. absurd (let f = e in cc))
@@ -434,7 +434,7 @@ fetching_so (phase.Fetching g l) h len (inr e) = same g h l len e
     same g h l len e = let a : g ≡ h = cc in let b : l ≡ len = cc in ap (λ x. phase.Fetching x l) a ∙ ap (phase.Fetching h) b
 
 phased_content : (s : Standing) (b : List ℕ) (c : List ℕ) (a : Awaiting) → s.halted ≡ None → read_answer b ≡ Some (say.Content c) → s.awaiting ≡ a → is_wanted a c ≡ true → Together s.phase s.awaiting
-    → Phased s (input.Payload b) (moves_with (record s { awaiting = awaits.Nothing; phase = phase.Closed }) None None (Some (ended.Content c)))
+    → Phased s (input.Payload b) (move_with_object (record s { awaiting = awaits.Nothing; phase = phase.Closed }) None None (Some (ended.Content c)))
 phased_content s b c (awaits.Content h len) alive read is wanted t =
     phased_closed s (input.Payload b) awaits.Nothing None None (Some (ended.Content c)) phase.Closed refl nothing_closed (λ d e. record {
       h = h;
@@ -467,9 +467,9 @@ awaits_entries awaits.Turn seal entries e = absurd (true≢false (sym e))
 awaits_entries awaits.Kept seal entries e = absurd (true≢false (sym e))
 awaits_entries (awaits.Content h len) seal entries e = absurd (true≢false (sym e))
 
-phased_taken : (g : Group) (me : ℕ) (s : Standing) (b : List ℕ) (m : ToClient) → s.halted ≡ None → read_answer b ≡ Some m → Passes g me s m → Together s.phase s.awaiting → Phased s (input.Payload b) (taken me s m)
+phased_taken : (g : Group) (me : ℕ) (s : Standing) (b : List ℕ) (m : ToClient) → s.halted ≡ None → read_answer b ≡ Some m → Passes g me s m → Together s.phase s.awaiting → Phased s (input.Payload b) (move_on_answer me s m)
 phased_taken g me s b say.Hi alive read passes t = phased_halt s (input.Payload b) 1 t
-phased_taken g me s b (say.Reply seal entries part) alive read passes t = phased_reply me s (input.Payload b) seal (grown s entries) (read_part part) s.awaiting t refl
+phased_taken g me s b (say.Reply seal entries part) alive read passes t = phased_reply me s (input.Payload b) seal (path_with_entries s entries) (read_part part) s.awaiting t refl
 phased_taken g me s b say.Wait alive read passes t = phased_wait s (input.Payload b) s.phase refl (subst (Together s.phase) (wait_awaited s.awaiting passes.form) t)
 phased_taken g me s b (say.Update seal part) alive read passes t =
     phased_update s (input.Payload b) seal (read_part part) s.own t (update_awaited s.awaiting seal part (and_parts (is_awaited s.awaiting (say.Update seal part)) _ passes.form).0)
@@ -491,12 +491,12 @@ phased_taken g me s b say.Gone alive read passes t = phased_halt s (input.Payloa
 phased_taken g me s b say.Absent alive read passes t = phased_halt s (input.Payload b) 1 t
 
 phased_read : (g : Group) (me : ℕ) (s : Standing) (b : List ℕ) (m : Option ToClient) (k : Option ℕ) → s.halted ≡ None → read_answer b ≡ m → verdict_on g me s m ≡ k → AreBytes b
-    → Together s.phase s.awaiting → Phased s (input.Payload b) (taken_or_halts me s m k)
+    → Together s.phase s.awaiting → Phased s (input.Payload b) (move_on_verdict me s m k)
 phased_read g me s b m (Some k) alive read e h t = phased_halt s (input.Payload b) k t
 phased_read g me s b (Some m) None alive read e h t = phased_taken g me s b m alive read (all_passed g me s m (answer_fits b m h read) e) t
 phased_read g me s b None None alive read e h t = phased_halt s (input.Payload b) 1 t
 
-phased_payload : (g : Group) (me : ℕ) (s : Standing) (b : List ℕ) (halted : Option ℕ) → s.halted ≡ halted → AreBytes b → Together s.phase s.awaiting → Phased s (input.Payload b) (on_payload g me s halted b)
+phased_payload : (g : Group) (me : ℕ) (s : Standing) (b : List ℕ) (halted : Option ℕ) → s.halted ≡ halted → AreBytes b → Together s.phase s.awaiting → Phased s (input.Payload b) (move_on_payload g me s halted b)
 unfolding verdict
 phased_payload g me s b (Some k) e h t = phased_halt s (input.Payload b) k t
 phased_payload g me s b None e h t = phased_read g me s b (read_answer b) (verdict_on g me s (read_answer b)) e refl refl h t

@@ -13,7 +13,7 @@ use Rattle.vic_rules.specs.declared.trace.Input.{Input}
 use Rattle.vic_rules.specs.declared.trace.TraceStep.{TraceStep}
 use Rattle.vic_rules.specs.Client.{Standing, Move}
 use Rattle.vic_rules.specs.History.{standing, path, move_of, AreSteps, Completion, completion, completions}
-use Rattle.vic_rules.specs.Trust.{took, taken_by, parts_in, parts_taken}
+use Rattle.vic_rules.specs.Trust.{answer_taken, answer_unless_halted, parts_in, parts_taken}
 use Rattle.vic_rules.specs.Views.{last_prefix, view_of}
 use Rattle.vic_spellings.specs.Spellings.{PartHoldsBytes}
 use Rattle.vic_spellings.proofs.Steps.{bytes-rest}
@@ -73,17 +73,17 @@ no_parts : (o : Option ToClient) → ((m : ToClient) → o ≡ Some m → m ≡ 
 no_parts None h = refl
 no_parts (Some m) h = ap (λ x. parts_in (Some x)) (h m refl)
 
-kind_parts : (g : Group) (me : ℕ) (s : Standing) (i : Input) (v : Move) → Kind g me s i v → (bytes : List ℕ) → IsIn (parts_in (taken_by v.next i)) bytes → IsProperPart bytes
+kind_parts : (g : Group) (me : ℕ) (s : Standing) (i : Input) (v : Move) → Kind g me s i v → (bytes : List ℕ) → IsIn (parts_in (answer_unless_halted v.next i)) bytes → IsProperPart bytes
 kind_parts g me s i v (is_quiet k) bytes there = absurd (subst (λ l. IsIn l bytes) k.shows_nothing there)
-kind_parts g me s i v (is_called k) bytes there = absurd (subst (λ l. IsIn l bytes) (no_parts (taken_by v.next i) k.takes) there)
+kind_parts g me s i v (is_called k) bytes there = absurd (subst (λ l. IsIn l bytes) (no_parts (answer_unless_halted v.next i) k.takes) there)
 kind_parts g me s i v (is_replied k) bytes there = proper_part k.bytes k.part bytes k.are_bytes k.is_part (subst (λ m. IsIn (parts_in m) bytes) k.takes there)
 kind_parts g me s i v (is_updated k) bytes there = proper_part k.bytes k.part bytes k.are_bytes k.is_part (subst (λ m. IsIn (parts_in m) bytes) k.takes there)
 kind_parts g me s i v (is_listed k) bytes there = absurd (subst (λ m. IsIn (parts_in m) bytes) k.takes there)
 
 parts_proper : (g : Group) (h : List TraceStep) → AreSteps g h → (bytes : List ℕ) → IsIn (parts_taken g h) bytes → IsProperPart bytes
-unfolding parts_taken took
+unfolding parts_taken answer_taken
 parts_proper g [] steps bytes there = absurd there
-parts_proper g (x ∷ past) steps bytes there = elim (in_either (parts_in (took g past x)) (parts_taken g past) bytes there) [
+parts_proper g (x ∷ past) steps bytes there = elim (in_either (parts_in (answer_taken g past x)) (parts_taken g past) bytes there) [
   | inl now ↦ kind_parts g x.client (standing g x.client past) x.input (move_of g past x) (step_kind g x.client (standing g x.client past) x.input steps.1.may) bytes now
   | inr before ↦ parts_proper g past steps.0 bytes before
 ]

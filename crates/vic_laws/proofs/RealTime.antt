@@ -16,7 +16,7 @@ use Rattle.vic_rules.specs.declared.trace.Shown.{Shown}
 use Rattle.vic_rules.specs.Client.{Standing, Move, commit_text_on, seal_text_on}
 use Rattle.vic_rules.specs.History.{standing, path, move_of, IsStep, AreSteps, Completion, completions}
 use Rattle.vic_rules.specs.Views.{confirmed_calls, last_prefix, view_of, IsCompleted, ReturnedBefore, Earlier, IsInRealTime}
-use Rattle.vic_rules.specs.Trust.{took, taken_by, checked_texts, texts_taken, text_sent, texts_made, IsForged}
+use Rattle.vic_rules.specs.Trust.{answer_taken, answer_unless_halted, checked_texts, texts_taken, text_sent, texts_made, IsForged}
 use Rattle.vic_laws.specs.OrderClaims.{CompletedAs, ViewsInRealTime}
 use Rattle.vic_laws.proofs.Words.{in_right, in_either}
 use Rattle.vic_laws.proofs.Steps.{PhaseFits, Kind, is_quiet, is_called, is_replied, is_updated, is_listed, call_of}
@@ -163,13 +163,13 @@ taken_was_made_before g past x honest t w =
 
 -- a new entry of a path came with a text that was checked
 new_entry_checked : (g : Group) (me : ℕ) (s : Standing) (i : Input) (v : Move) → Kind g me s i v → (e : Entry) → IsIn v.next.path e
-    → IsIn s.path e ⊎ IsIn (checked_texts g v.next.path (taken_by v.next i)) (invoke_text e)
+    → IsIn s.path e ⊎ IsIn (checked_texts g v.next.path (answer_unless_halted v.next i)) (invoke_text e)
 new_entry_checked g me s i v (is_quiet q) e w = inl (subst (λ (p : List Entry). IsIn p e) q.path w)
 new_entry_checked g me s i v (is_called a) e w = inl (subst (λ (m : Move). IsIn m.next.path e) a.moved w)
 new_entry_checked g me s i v (is_replied r) e w =
     let call : Entry = call_of me r.seq r.op in
     let there : IsIn ((call ∷ r.others) ++ s.path) e = subst (λ (m : Move). IsIn m.next.path e) r.moved w in
-    let Goal : IsIn (call ∷ r.others) e ⊎ IsIn s.path e → Type 0 = λ k. IsIn s.path e ⊎ IsIn (checked_texts g v.next.path (taken_by v.next i)) (invoke_text e) in
+    let Goal : IsIn (call ∷ r.others) e ⊎ IsIn s.path e → Type 0 = λ k. IsIn s.path e ⊎ IsIn (checked_texts g v.next.path (answer_unless_halted v.next i)) (invoke_text e) in
     elim (in_either (call ∷ r.others) s.path e there) as Goal [
       | inl new ↦ inr (r.arrived.checked e new)
       | inr old ↦ inl old
@@ -177,14 +177,14 @@ new_entry_checked g me s i v (is_replied r) e w =
 new_entry_checked g me s i v (is_updated u) e w = inl (subst (λ (m : Move). IsIn m.next.path e) u.moved w)
 new_entry_checked g me s i v (is_listed l) e w =
     let there : IsIn (l.others ++ s.path) e = subst (λ (m : Move). IsIn m.next.path e) l.moved w in
-    let Goal : IsIn l.others e ⊎ IsIn s.path e → Type 0 = λ k. IsIn s.path e ⊎ IsIn (checked_texts g v.next.path (taken_by v.next i)) (invoke_text e) in
+    let Goal : IsIn l.others e ⊎ IsIn s.path e → Type 0 = λ k. IsIn s.path e ⊎ IsIn (checked_texts g v.next.path (answer_unless_halted v.next i)) (invoke_text e) in
     elim (in_either l.others s.path e there) as Goal [
       | inl new ↦ inr (l.arrived.checked e new)
       | inr old ↦ inl old
     ]
 
-took_is : (g : Group) (past : List TraceStep) (x : TraceStep) → took g past x ≡ taken_by (move_of g past x).next x.input
-unfolding took
+took_is : (g : Group) (past : List TraceStep) (x : TraceStep) → answer_taken g past x ≡ answer_unless_halted (move_of g past x).next x.input
+unfolding answer_taken
 took_is g past x = refl
 
 -- unless a tag was forged, each entry of a path was called
@@ -199,7 +199,7 @@ path_made g (x ∷ past) steps honest me e w =
     elim (cases_eq x.client me) as Goal [
       | inl same ↦
           (let there : IsIn v.next.path e = subst (λ (s : Standing). IsIn s.path e) (standing_moved g me x past same) w in
-          let Arrives : IsIn (path g x.client past) e ⊎ IsIn (checked_texts g v.next.path (taken_by v.next x.input)) (invoke_text e) → Type 0 = λ k. IsIn (texts_made g past) (invoke_text e) in
+          let Arrives : IsIn (path g x.client past) e ⊎ IsIn (checked_texts g v.next.path (answer_unless_halted v.next x.input)) (invoke_text e) → Type 0 = λ k. IsIn (texts_made g past) (invoke_text e) in
           in_right new (texts_made g past) (invoke_text e)
           (elim (new_entry_checked g x.client (standing g x.client past) x.input v (kind_of g past x steps.1) e there) as Arrives [
             | inl old ↦ older x.client old

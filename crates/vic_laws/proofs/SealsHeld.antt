@@ -20,8 +20,8 @@ use Rattle.vic_rules.specs.declared.trace.Input.{Input}
 use Rattle.vic_rules.specs.declared.trace.TraceStep.{TraceStep}
 use Rattle.vic_rules.specs.Client.{Standing, Move, Seals, is_done, is_write, new_root, seal_of, seal_text_on, commit_text_on}
 use Rattle.vic_rules.specs.History.{standing, path, move_of, AreSteps, Completion, completions}
-use Rattle.vic_rules.specs.Views.{confirmed, confirmed_calls, left_by, outcome_leaves}
-use Rattle.vic_rules.specs.Trust.{IsForged, Collides, IsListed, of_genesis, of_part, of_sealed, texts_made, texts_taken, text_sent, taken_by, took, checked_texts, chain_texts, parts_in, parts_taken, applied}
+use Rattle.vic_rules.specs.Views.{confirmation, confirmed_calls, left_by, outcome_leaves}
+use Rattle.vic_rules.specs.Trust.{IsForged, Collides, IsListed, of_genesis, of_part, of_sealed, texts_made, texts_taken, text_sent, answer_unless_halted, answer_taken, checked_texts, chain_texts, parts_in, parts_taken, node_texts_left}
 use Rattle.vic_spellings.proofs.SpelledParts.{part_takes}
 use Rattle.vic_laws.specs.Claims.{AllConfirmed, SealHolds, SealsHold, SealAt, of_answer, of_its_own}
 use Rattle.vic_laws.proofs.Words.{some_same, tail_same, none_is_some, in_left, in_either}
@@ -40,7 +40,7 @@ use Rattle.vic_laws.proofs.MadeSeals.{seal_checked, MadeSeal, made_stays, made_h
 
 -- the seal of an own call that stands above a seal that holds
 seal_next : (cs : List Completion) (p below : List Entry) (e : Entry) (by : Completion) (first : Own) (part : Part) (root : List ℕ) (n : ℕ)
-    → n + 1 ≤ length p → front (n + 1) p ≡ e ∷ below → below ≡ front n p → confirmed cs (e ∷ below) ≡ Some by → e.op ≡ first.op → is_done by.outcome ≡ first.done
+    → n + 1 ≤ length p → front (n + 1) p ≡ e ∷ below → below ≡ front n p → confirmation cs (e ∷ below) ≡ Some by → e.op ≡ first.op → is_done by.outcome ≡ first.done
     → SealHolds cs p n root → IsProper (left_by (confirmed_calls cs (front n p))) → AreBytesIn first.op → IsCut part (tree_of (left_by (confirmed_calls cs (front n p)))) → (not (first.done && is_write first.op) || reaches part first.op) ≡ true
     → SealHolds cs p (n + 1) (new_root first part root)
 seal_next cs p below e by first part root n within is rest found op status holds proper bytes cut reached = record {
@@ -89,14 +89,14 @@ only_updates_seal : (g : Group) (me : ℕ) (s : Standing) (i : Input) (v : Move)
 only_updates_seal g me s i v k e = subst (λ o. IsIn (text_sent g me v.next o) (seal_text_on g v.next.path v.next.sealed v.next.root)) (sym e) (inl refl)
 
 -- what is taken at a step, by its move
-pub taken_at : (g : Group) (past : List TraceStep) (x : TraceStep) (m : ToClient) → taken_by (move_of g past x).next x.input ≡ Some m → took g past x ≡ Some m
-unfolding took
+pub taken_at : (g : Group) (past : List TraceStep) (x : TraceStep) (m : ToClient) → answer_unless_halted (move_of g past x).next x.input ≡ Some m → answer_taken g past x ≡ Some m
+unfolding answer_taken
 taken_at g past x m e = e
 
 -- the seal of an answer that was taken passed the checks
 kind_sealing : (g : Group) (x : TraceStep) (past : List TraceStep) → Kind g x.client (standing g x.client past) x.input (move_of g past x) → (m : ToClient) (seal : Seal)
-    → took g past x ≡ Some m → seal_of m ≡ Some seal → Sealing g (standing g x.client past) (move_of g past x).next.path seal
-unfolding took
+    → answer_taken g past x ≡ Some m → seal_of m ≡ Some seal → Sealing g (standing g x.client past) (move_of g past x).next.path seal
+unfolding answer_taken
 kind_sealing g x past (is_quiet k) m seal t has = absurd (none_is_some (sym (k.seals_nothing m t).0 ∙ has))
 kind_sealing g x past (is_called k) m seal t has = absurd (none_is_some (ap seal_of (sym (k.takes m t)) ∙ has))
 kind_sealing g x past (is_replied k) m seal t has =
@@ -139,15 +139,15 @@ module _ (g : Group) (whole : List TraceStep) (lawful : AreSteps g whole) (hones
       let same_front : front n (path g me (later ++ h)) ≡ front n (path g me h) = ap (front n) grown.1 ∙ front_grows grown.0 (path g me h) n (le_trans le within) in
       let same_calls : confirmed_calls (completions g (later ++ h)) (front n (path g me (later ++ h))) ≡ confirmed_calls (completions g h) (front n (path g me h)) =
       ap (confirmed_calls (completions g (later ++ h))) same_front ∙ (ap (λ cs. confirmed_calls cs (front n (path g me h))) more.1 ∙ confirmed_calls_stay more.0 (completions g h) (front n (path g me h)) all) in
-      let there : IsIn (applied g (later ++ h) (front n (path g me (later ++ h)))) t = subst (λ v. IsIn (node_texts (tree_of (left_by v))) t) (sym same_calls) i in
-      of_sealed me n (subst (λ w. n ≤ (standing g me w).sealed) (sym e) (le_trans le (sealed_later g later h steps me))) (subst (λ w. IsIn (applied g w (front n (path g me w))) t) (sym e) there)
+      let there : IsIn (node_texts_left g (later ++ h) (front n (path g me (later ++ h)))) t = subst (λ v. IsIn (node_texts (tree_of (left_by v))) t) (sym same_calls) i in
+      of_sealed me n (subst (λ w. n ≤ (standing g me w).sealed) (sym e) (le_trans le (sealed_later g later h steps me))) (subst (λ w. IsIn (node_texts_left g w (front n (path g me w))) t) (sym e) there)
 
   -- each seal that was made in an earlier history holds
   abbrev MadeAll : List TraceStep → Type 0
   MadeAll h = (t : List ℕ) → IsIn (texts_made g h) t → (rest : List ℕ) → t ≡ 19 ∷ rest → MadeSeal g (IsListed g whole) (completions g h) t
 
   -- a seal that a client takes holds of the path that it then has
-  taken_seal : (later : List TraceStep) (x : TraceStep) (past : List TraceStep) → whole ≡ later ++ x ∷ past → MadeAll past → (m : ToClient) (seal : Seal) → took g past x ≡ Some m → seal_of m ≡ Some seal
+  taken_seal : (later : List TraceStep) (x : TraceStep) (past : List TraceStep) → whole ≡ later ++ x ∷ past → MadeAll past → (m : ToClient) (seal : Seal) → answer_taken g past x ≡ Some m → seal_of m ≡ Some seal
       → (p : List Entry) → (move_of g past x).next.path ≡ p → Sealing g (standing g x.client past) p seal → SealHolds (completions g past) p seal.position seal.root.bytes
   taken_seal later x past e made m seal takes has p is sealing = now (cases_eq seal.position 0)
     where
@@ -192,13 +192,13 @@ module _ (g : Group) (whole : List TraceStep) (lawful : AreSteps g whole) (hones
 
   -- the part of an answer is a cut of the tree of what its seal's front leaves
   pub part_is_left : (later : List TraceStep) (x : TraceStep) (past : List TraceStep) → whole ≡ later ++ x ∷ past → (bytes : List ℕ) (part : Part) (n : ℕ) (root : List ℕ)
-      → IsIn (parts_in (took g past x)) bytes → AreBytes bytes → read_part bytes ≡ Some part → part_root part ≡ root → n ≤ (standing g x.client (x ∷ past)).sealed
+      → IsIn (parts_in (answer_taken g past x)) bytes → AreBytes bytes → read_part bytes ≡ Some part → part_root part ≡ root → n ≤ (standing g x.client (x ∷ past)).sealed
       → (p : List Entry) → path g x.client (x ∷ past) ≡ p → SealHolds (completions g (x ∷ past)) p n root → IsCut part (tree_of (left_by (confirmed_calls (completions g (x ∷ past)) (front n p))))
   unfolding parts_taken
   part_is_left later x past e bytes part n root there are_bytes is_part root_is le p path_is holds =
       part_told (IsListed g whole) two_apart part (left_by (confirmed_calls (completions g (x ∷ past)) (front n p))) (part_takes bytes part are_bytes is_part).0
       (left_proper (completions g (x ∷ past)) (front n p) (all_drop IsEntry _ p (subst (AllByRecursion IsEntry) path_is (path_spelled g (x ∷ past) (steps_of later (x ∷ past) e) x.client))))
-      (λ t i. of_part bytes part (subst (λ w. IsIn (parts_taken g w) bytes) (sym e) (parts_later g later (x ∷ past) bytes (in_left (parts_in (took g past x)) (parts_taken g past) bytes there))) is_part i)
+      (λ t i. of_part bytes part (subst (λ w. IsIn (parts_taken g w) bytes) (sym e) (parts_later g later (x ∷ past) bytes (in_left (parts_in (answer_taken g past x)) (parts_taken g past) bytes there))) is_part i)
       (subst (λ q. (t : List ℕ) → IsIn (node_texts (tree_of (left_by (confirmed_calls (completions g (x ∷ past)) (front n q))))) t → IsListed g whole t) path_is
       (sealed_texts later (x ∷ past) e x.client n le (subst (λ q. AllConfirmed (completions g (x ∷ past)) (front n q)) (sym path_is) holds.all)))
       (root_is ∙ holds.is_root)
@@ -243,8 +243,8 @@ module _ (g : Group) (whole : List TraceStep) (lawful : AreSteps g whole) (hones
       let up = front_next n s.path (subst (λ j. j ≤ length s.path) (add-one n) within) in
       let is : front (n + 1) s.path ≡ mine.entry ∷ mine.below = ap (λ j. front j s.path) (sym k.next_is) ∙ mine.is in
       let more = completions_grow g (x ∷ []) past in
-      let found : confirmed (completions g (x ∷ past)) (mine.entry ∷ mine.below) ≡ Some mine.by =
-      ap (λ cs. confirmed cs (mine.entry ∷ mine.below)) more.1 ∙ confirmed_stays more.0 (completions g past) (mine.entry ∷ mine.below) mine.by mine.found in
+      let found : confirmation (completions g (x ∷ past)) (mine.entry ∷ mine.below) ≡ Some mine.by =
+      ap (λ cs. confirmation cs (mine.entry ∷ mine.below)) more.1 ∙ confirmed_stays more.0 (completions g past) (mine.entry ∷ mine.below) mine.by mine.found in
       let here : path g x.client (x ∷ past) ≡ s.path = ap (λ w. w.path) (standing_moved g x.client x past refl) ∙ path_is in
       let spelled_path : AllByRecursion IsEntry s.path = subst (AllByRecursion IsEntry) here (path_spelled g (x ∷ past) steps x.client) in
       let spelled_front : AllByRecursion IsEntry (front n s.path) = all_drop IsEntry _ s.path spelled_path in
@@ -334,7 +334,7 @@ module _ (g : Group) (whole : List TraceStep) (lawful : AreSteps g whole) (hones
       lasts : (n : ℕ) (r : List ℕ) → SealHolds (completions g (x ∷ past)) (path g x.client (x ∷ past)) n r → SealHolds (completions g (later ++ x ∷ past)) (path g x.client (x ∷ past)) n r
       lasts n r s = subst (λ cs. SealHolds cs (path g x.client (x ∷ past)) n r) (sym more.1) (seal_stays more.0 (completions g (x ∷ past)) [] (path g x.client (x ∷ past)) n r s)
 
-      answered : (m : ToClient) (s : Seal) → took g past x ≡ Some m → seal_of m ≡ Some s → SealHolds (completions g (later ++ x ∷ past)) (path g x.client (x ∷ past)) s.position s.root.bytes
+      answered : (m : ToClient) (s : Seal) → answer_taken g past x ≡ Some m → seal_of m ≡ Some s → SealHolds (completions g (later ++ x ∷ past)) (path g x.client (x ∷ past)) s.position s.root.bytes
       answered m s takes has =
           let sealing = kind_sealing g x past (kind_of g past x (steps_of later (x ∷ past) e).1) m s takes has in
           let held = taken_seal later x past e (all_hold (later ++ x ∷ []) past (e ∙ sym (append_assoc later (x ∷ []) past))).0 m s takes has (move_of g past x).next.path refl sealing in

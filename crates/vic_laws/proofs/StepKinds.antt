@@ -23,8 +23,8 @@ use Rattle.vic_rules.specs.declared.state.Awaiting.{Awaiting}
 use Rattle.vic_rules.specs.declared.state.Awaiting.TheVariants as awaits
 use Rattle.vic_rules.specs.declared.trace.Input.{Input}
 use Rattle.vic_rules.specs.declared.trace.Input.TheVariants as input
-use Rattle.vic_rules.specs.Client.{is_write, Standing, Sending, Polls, Syncs, moves, IsIdle, MayStep, awaits_nothing, onto, newest_first, grown, is_awaited, has_form, has_members, has_tags, has_turn, is_other, is_reply_to, goes_on, is_sealed, keeps_own, shows, shows_open, shows_own, is_next, is_proved, entries_of, seal_of, seal_text_on, first_failing, verdict_on, verdict, halts, replied, replied_to, updated, sealed_to, listed_to, new_root, decision, is_done, taken, taken_or_halts, on_payload, step, has_content, calls_op, waited, goes_to, refused_at, moves_with, Invokes, Keeps, Fetches}
-use Rattle.vic_rules.specs.Trust.{taken_by, checked_texts, seal_texts, parts_in, text_sent}
+use Rattle.vic_rules.specs.Client.{is_write, Standing, Sending, Polls, Syncs, move_without_object, IsIdle, MayStep, awaits_nothing, onto, newest_first, path_with_entries, is_awaited, has_form, has_members, has_tags, has_turn, is_other, is_reply_to, is_not_older, is_sealed, keeps_own, has_root, has_open_op, has_own_op, is_next, is_proved, entries_of, seal_of, seal_text_on, first_failing, verdict_on, verdict, move_to_halt, move_on_reply, move_on_outcome, move_on_update, move_to_seal, move_on_entries, new_root, decision, is_done, move_on_answer, move_on_verdict, move_on_payload, step, has_content, move_to_call, move_on_wait, move_by_object_step, move_on_refusal, move_with_object, Invokes, Keeps, Fetches}
+use Rattle.vic_rules.specs.Trust.{answer_unless_halted, checked_texts, seal_texts, parts_in, text_sent}
 use Rattle.std.specs.Prelude.{◌<◌, ◌^◌}
 use Rattle.std.specs.Int.{w32, to_be_bytes}
 use Rattle.std.proofs.Common.{length-append}
@@ -41,7 +41,7 @@ use Rattle.vic_rules.specs.declared.object.ObjectCall.TheVariants as object
 use Rattle.vic_rules.specs.declared.object.ObjectOutcome.{ObjectOutcome}
 use Rattle.vic_rules.specs.declared.object.Phase.{Phase}
 use Rattle.vic_rules.specs.declared.object.Phase.TheVariants as phase
-use Rattle.vic_rules.specs.Objects.{FitsObject, AreBytesInObject, reference_text, is_reference, begun, kept_at, answered, after_decision, Stepped}
+use Rattle.vic_rules.specs.Objects.{FitsObject, AreBytesInObject, reference_text, is_reference, first_step, step_on_kept, step_on_answer, after_decision, ObjectStep}
 use Rattle.vic_rules.specs.Client.{is_load}
 use Rattle.vic_rules.specs.History.{completion}
 use Rattle.vic_spellings.proofs.SpelledAnswers.{answer_fits, answer_spelled}
@@ -100,8 +100,8 @@ each_passed (c ∷ cs) e = let p = passed c.0 c.1 cs e in (p.0, each_passed cs p
 -- a verdict of none shows all nine
 pub all_passed : (g : Group) (me : ℕ) (s : Standing) (m : ToClient) → HasSpelling m → verdict_on g me s (Some m) ≡ None → Passes g me s m
 all_passed g me s m spelled e =
-    let p = each_passed ((1, has_form s m) ∷ (2, has_members g me s m) ∷ (3, has_tags g m) ∷ (4, goes_on s (seal_of m))
-    ∷ (5, is_sealed g (grown s (entries_of m)) (seal_of m)) ∷ (6, keeps_own s (seal_of m)) ∷ (7, is_proved s m) ∷ (8, has_turn s m) ∷ (9, has_content me s m) ∷ []) e in
+    let p = each_passed ((1, has_form s m) ∷ (2, has_members g me s m) ∷ (3, has_tags g m) ∷ (4, is_not_older s (seal_of m))
+    ∷ (5, is_sealed g (path_with_entries s (entries_of m)) (seal_of m)) ∷ (6, keeps_own s (seal_of m)) ∷ (7, is_proved s m) ∷ (8, has_turn s m) ∷ (9, has_content me s m) ∷ []) e in
     record {
       form = p.0;
       members = p.1.0;
@@ -139,7 +139,7 @@ awaits_entries : (a : Awaiting) (seal : Seal) (entries : List Tagged) → is_awa
 awaits_entries awaits.Entries seal entries e = refl
 awaits_entries _ seal entries e = absurd (true≢false (sym e))
 
-sealing_from : (g : Group) (s : Standing) (p : List Entry) (seal : Seal) → IsSeal seal → goes_on s (Some seal) ≡ true → is_sealed g p (Some seal) ≡ true
+sealing_from : (g : Group) (s : Standing) (p : List Entry) (seal : Seal) → IsSeal seal → is_not_older s (Some seal) ≡ true → is_sealed g p (Some seal) ≡ true
     → keeps_own s (Some seal) ≡ true → seal.position ≤ length p → Sealing g s p seal
 sealing_from g s p seal spelled goes holds own within = record {
   spelled = spelled;
@@ -158,7 +158,7 @@ arrived_from ts news before e tagged = subst (λ x. Arrived (before ++ map (λ t
 
 -- ---- quiet steps
 
-quiet_halt : (g : Group) (me k : ℕ) (s : Standing) (b : List ℕ) → ((j : ℕ) → s.halted ≡ Some j → k ≡ j) → Quiet g me s (input.Payload b) (halts s k)
+quiet_halt : (g : Group) (me k : ℕ) (s : Standing) (b : List ℕ) → ((j : ℕ) → s.halted ≡ Some j → k ≡ j) → Quiet g me s (input.Payload b) (move_to_halt s k)
 quiet_halt g me k s b same = record {
   path = refl;
   sealed = refl;
@@ -177,7 +177,7 @@ quiet_halt g me k s b same = record {
 }
 
 -- what is taken where the client goes on
-pub takes_read : (after : Standing) (b : List ℕ) (m : Option ToClient) → after.halted ≡ None → read_answer b ≡ m → taken_by after (input.Payload b) ≡ m
+pub takes_read : (after : Standing) (b : List ℕ) (m : Option ToClient) → after.halted ≡ None → read_answer b ≡ m → answer_unless_halted after (input.Payload b) ≡ m
 takes_read after b m e r = ap (λ h. if is_none h then read_answer b else None) e ∙ r
 
 -- a quiet answer: where the client goes, what it sends, and what it returns
@@ -186,9 +186,9 @@ quiet_answer : (g : Group) (me : ℕ) (s : Standing) (b : List ℕ) (m : ToClien
     → seal_of m ≡ None → entries_of m ≡ [] → parts_in (Some m) ≡ [] → ((p : List Entry) → checked_texts g p (Some m) ≡ []) → ((c : ℕ) (p : List Entry) → completion c p returns ≡ [])
     → ((n : ℕ) (o : Op) (load : Bool) → a ≡ awaits.Reply n o load → ⊥) → ((n : ℕ) (o : Op) → sends ≡ Some (Invokes n o) → ⊥) → ((x : Standing) → text_sent g me x sends ≡ [])
     → (PhaseFits s.calls s.phase → PhaseFits s.calls turned)
-    → Quiet g me s (input.Payload b) (moves_with (record s { awaiting = a; phase = turned }) sends returns object)
+    → Quiet g me s (input.Payload b) (move_with_object (record s { awaiting = a; phase = turned }) sends returns object)
 quiet_answer g me s b m a turned sends returns object alive r e1 e2 e3 e4 e5 waits calls silent opens =
-    let t : taken_by (record s { awaiting = a; phase = turned }) (input.Payload b) ≡ Some m = takes_read (record s { awaiting = a; phase = turned }) b (Some m) alive r in
+    let t : answer_unless_halted (record s { awaiting = a; phase = turned }) (input.Payload b) ≡ Some m = takes_read (record s { awaiting = a; phase = turned }) b (Some m) alive r in
     record {
       path = refl;
       sealed = refl;
@@ -221,11 +221,11 @@ decided_opens s (phase.Keeping k h len) o f = f
 decided_opens s (phase.Fetching h len) o f = tt
 decided_opens s phase.Calling (outcome.Done a) f = answered_opens a
   where
-    chosen : (b : Bool) (x y : Stepped) → PhaseFits s.calls x.0 → PhaseFits s.calls y.0 → PhaseFits s.calls (if◌then◌else◌ {A = Stepped} b x y).0
+    chosen : (b : Bool) (x y : ObjectStep) → PhaseFits s.calls x.0 → PhaseFits s.calls y.0 → PhaseFits s.calls (if◌then◌else◌ {A = ObjectStep} b x y).0
     chosen true x y p q = p
     chosen false x y p q = q
 
-    answered_opens : (a : Answer) → PhaseFits s.calls (answered a).0
+    answered_opens : (a : Answer) → PhaseFits s.calls (step_on_answer a).0
     answered_opens answer.Stored = tt
     answered_opens (answer.Found v) = chosen (is_reference v) _ _ tt tt
     answered_opens answer.NotFound = tt
@@ -236,7 +236,7 @@ decided_opens s phase.Calling (outcome.Aborted u) f = tt
 decided_opens s phase.Calling (outcome.Refused r) f = tt
 decided_opens s phase.Calling (outcome.Halted k) f = tt
 
-wait_kind : (g : Group) (me : ℕ) (s : Standing) (b : List ℕ) (p : Phase) → s.phase ≡ p → s.halted ≡ None → read_answer b ≡ Some say.Wait → Quiet g me s (input.Payload b) (waited s p)
+wait_kind : (g : Group) (me : ℕ) (s : Standing) (b : List ℕ) (p : Phase) → s.phase ≡ p → s.halted ≡ None → read_answer b ≡ Some say.Wait → Quiet g me s (input.Payload b) (move_on_wait s p)
 wait_kind g me s b phase.Closed e alive read = quiet_answer g me s b say.Wait awaits.Nothing s.phase None None None alive read refl refl refl (λ p. refl) (λ c p. refl) rests_nothing (λ n o f. absurd (none_is_some f)) (λ x. refl) (λ f. f)
 wait_kind g me s b (phase.Keeping k h len) e alive read = quiet_answer g me s b say.Wait awaits.Nothing s.phase None None None alive read refl refl refl (λ p. refl) (λ c p. refl) rests_nothing (λ n o f. absurd (none_is_some f)) (λ x. refl) (λ f. f)
 wait_kind g me s b phase.Calling e alive read = quiet_answer g me s b say.Wait awaits.Nothing s.phase None None None alive read refl refl refl (λ p. refl) (λ c p. refl) rests_nothing (λ n o f. absurd (none_is_some f)) (λ x. refl) (λ f. f)
@@ -244,7 +244,7 @@ wait_kind g me s b (phase.Fetching h len) e alive read =
     quiet_answer g me s b say.Wait (awaits.Content h len) s.phase (Some (Fetches h.bytes)) None None alive read refl refl refl (λ p. refl) (λ c p. refl) (rests_content h len) (fetches_no_call h.bytes) (λ x. refl) (λ f. f)
 
 refused_quiet : (g : Group) (me : ℕ) (s : Standing) (b : List ℕ) (r : ℕ) (a : Awaiting) → s.halted ≡ None → read_answer b ≡ Some (say.Refused r)
-    → Quiet g me s (input.Payload b) (refused_at s r a)
+    → Quiet g me s (input.Payload b) (move_on_refusal s r a)
 refused_quiet g me s b r awaits.Kept alive read = quiet_answer g me s b (say.Refused r) awaits.Nothing phase.Closed None None _ alive read refl refl refl (λ p. refl) (λ c p. refl) rests_nothing (λ n o f. absurd (none_is_some f)) (λ x. refl) (λ f. tt)
 refused_quiet g me s b r awaits.Nothing alive read = quiet_answer g me s b (say.Refused r) awaits.Nothing _ None (Some (outcome.Refused r)) _ alive read refl refl refl (λ p. refl) (λ c p. refl) rests_nothing (λ n o f. absurd (none_is_some f)) (λ x. refl) (decided_opens s s.phase (outcome.Refused r))
 refused_quiet g me s b r (awaits.Reply n o load) alive read = quiet_answer g me s b (say.Refused r) awaits.Nothing _ None (Some (outcome.Refused r)) _ alive read refl refl refl (λ p. refl) (λ c p. refl) rests_nothing (λ n o f. absurd (none_is_some f)) (λ x. refl) (decided_opens s s.phase (outcome.Refused r))
@@ -257,23 +257,23 @@ refused_quiet g me s b r (awaits.Content h len) alive read = quiet_answer g me s
 -- the client that goes on takes what it read
 reply_moves : (me : ℕ) (s : Standing) (seal : Seal) (path below : List Entry) (e : Entry) (found : Option Part) (part : Part) (a : Awaiting) (n : ℕ) (o : Op) (load : Bool)
     → path ≡ e ∷ below → found ≡ Some part → a ≡ awaits.Reply n o load
-    → replied me s seal path found a ≡ replied_to s (e ∷ below) seal.position seal.root.bytes (s.own ++ record { position = length (e ∷ below); op = o; done = is_done (decision me s below seal.position part o) } ∷ []) (decision me s below seal.position part o)
+    → move_on_reply me s seal path found a ≡ move_on_outcome s (e ∷ below) seal.position seal.root.bytes (s.own ++ record { position = length (e ∷ below); op = o; done = is_done (decision me s below seal.position part o) } ∷ []) (decision me s below seal.position part o)
 reply_moves me s seal path below e found part a n o load e1 e2 e3 =
-    ap (λ p. replied me s seal p found a) e1 ∙ (ap (λ f. replied me s seal (e ∷ below) f a) e2 ∙ ap (λ w. replied me s seal (e ∷ below) (Some part) w) e3)
+    ap (λ p. move_on_reply me s seal p found a) e1 ∙ (ap (λ f. move_on_reply me s seal (e ∷ below) f a) e2 ∙ ap (λ w. move_on_reply me s seal (e ∷ below) (Some part) w) e3)
 
 update_moves : (s : Standing) (seal : Seal) (found : Option Part) (part : Part) (own : List Own) (first : Own) (rest : List Own)
-    → found ≡ Some part → own ≡ first ∷ rest → updated s seal found own ≡ sealed_to s (seal.position + 1) (new_root first part seal.root.bytes) rest
-update_moves s seal found part own first rest e1 e2 = ap (λ f. updated s seal f own) e1 ∙ ap (λ w. updated s seal (Some part) w) e2
+    → found ≡ Some part → own ≡ first ∷ rest → move_on_update s seal found own ≡ move_to_seal s (seal.position + 1) (new_root first part seal.root.bytes) rest
+update_moves s seal found part own first rest e1 e2 = ap (λ f. move_on_update s seal f own) e1 ∙ ap (λ w. move_on_update s seal (Some part) w) e2
 
 -- the part shows the walk of the call that is open, and that of the first own call where this is a done put or del
-open_shown : (found : Option Part) (part : Part) (a : Awaiting) (n : ℕ) (o : Op) (load : Bool) → found ≡ Some part → a ≡ awaits.Reply n o load → shows_open found a ≡ true → reaches part o ≡ true
-open_shown found part a n o load e f h = sym (ap (λ x. shows_open x a) e ∙ ap (shows_open (Some part)) f) ∙ h
+open_shown : (found : Option Part) (part : Part) (a : Awaiting) (n : ℕ) (o : Op) (load : Bool) → found ≡ Some part → a ≡ awaits.Reply n o load → has_open_op found a ≡ true → reaches part o ≡ true
+open_shown found part a n o load e f h = sym (ap (λ x. has_open_op x a) e ∙ ap (has_open_op (Some part)) f) ∙ h
 
-own_shown : (found : Option Part) (part : Part) (own : List Own) (first : Own) (rest : List Own) → found ≡ Some part → own ≡ first ∷ rest → shows_own found own ≡ true → (not (first.done && is_write first.op) || reaches part first.op) ≡ true
-own_shown found part own first rest e f h = sym (ap (λ x. shows_own x own) e ∙ ap (shows_own (Some part)) f) ∙ h
+own_shown : (found : Option Part) (part : Part) (own : List Own) (first : Own) (rest : List Own) → found ≡ Some part → own ≡ first ∷ rest → has_own_op found own ≡ true → (not (first.done && is_write first.op) || reaches part first.op) ≡ true
+own_shown found part own first rest e f h = sym (ap (λ x. has_own_op x own) e ∙ ap (has_own_op (Some part)) f) ∙ h
 
-part_shown : (bytes : List ℕ) (part : Part) (root : List ℕ) → read_part bytes ≡ Some part → shows (read_part bytes) root ≡ true → part_root part ≡ root
-part_shown bytes part root e h = bytes_same _ _ (subst (λ f. shows f root ≡ true) e h)
+part_shown : (bytes : List ℕ) (part : Part) (root : List ℕ) → read_part bytes ≡ Some part → has_root (read_part bytes) root ≡ true → part_root part ≡ root
+part_shown bytes part root e h = bytes_same _ _ (subst (λ f. has_root f root ≡ true) e h)
 
 next_shown : (position : ℕ) (own : List Own) → is_next position own ≡ true → (first : Own) × (rest : List Own) × (own ≡ first ∷ rest) × (first.position ≡ position)
 next_shown position [] e = absurd (true≢false (sym e))
@@ -285,21 +285,21 @@ same_length ts p news e = sym (length-onto ts p) ∙ (ap length (onto_is ts p) �
 
 reply_kind : (g : Group) (me : ℕ) (s : Standing) (b : List ℕ) (seal : Seal) (entries : List Tagged) (bytes : List ℕ) → s.halted ≡ None → AreBytes bytes
     → read_answer b ≡ Some (say.Reply seal entries bytes) → Passes g me s (say.Reply seal entries bytes)
-    → Kind g me s (input.Payload b) (taken me s (say.Reply seal entries bytes))
+    → Kind g me s (input.Payload b) (move_on_answer me s (say.Reply seal entries bytes))
 reply_kind g me s b seal entries bytes alive are_bytes read passes =
     let n = length s.path + length entries in
     let f = all_five (is_awaited s.awaiting (say.Reply seal entries bytes)) (is_some (read_part bytes)) (nat_le n 1048576) (nat_lt seal.position n) (nat_le (n - seal.position) 1024) passes.form in
     let w = awaits_reply s.awaiting seal entries bytes f.0 in
     let r = reply_to_shown g.count me w.0 w.1 w.2 (newest_first entries) (subst (λ a. is_reply_to g.count me a (newest_first entries) ≡ true) w.3 passes.members) in
     let t = some_of (read_part bytes) f.1 in
-    let e1 : grown s entries ≡ call_of me w.0 w.1 ∷ (r.0 ++ s.path) = onto_is entries s.path ∙ ap (λ x. x ++ s.path) r.1 in
+    let e1 : path_with_entries s entries ≡ call_of me w.0 w.1 ∷ (r.0 ++ s.path) = onto_is entries s.path ∙ ap (λ x. x ++ s.path) r.1 in
     let l : length s.path + length entries ≡ length (call_of me w.0 w.1 ∷ (r.0 ++ s.path)) = same_length entries s.path (call_of me w.0 w.1 ∷ r.0) r.1 in
-    let v = reply_moves me s seal (grown s entries) (r.0 ++ s.path) (call_of me w.0 w.1) (read_part bytes) t.0 s.awaiting w.0 w.1 w.2 e1 t.1 w.3 in
+    let v = reply_moves me s seal (path_with_entries s entries) (r.0 ++ s.path) (call_of me w.0 w.1) (read_part bytes) t.0 s.awaiting w.0 w.1 w.2 e1 t.1 w.3 in
     let n0 = leb-true n 1048576 f.2 in
     let n1 = ltb-true seal.position n f.3 in
     let n2 = leb-true (n - seal.position) 1024 f.4 in
-    let goes_on : (taken me s (say.Reply seal entries bytes)).next.halted ≡ None = ap (λ x. x.next.halted) v ∙ alive in
-    let takes = takes_read (taken me s (say.Reply seal entries bytes)).next b (Some (say.Reply seal entries bytes)) goes_on read in
+    let goes_on : (move_on_answer me s (say.Reply seal entries bytes)).next.halted ≡ None = ap (λ x. x.next.halted) v ∙ alive in
+    let takes = takes_read (move_on_answer me s (say.Reply seal entries bytes)).next b (Some (say.Reply seal entries bytes)) goes_on read in
     is_replied (record {
       payload = b;
       seal = seal;
@@ -317,12 +317,12 @@ reply_kind g me s b seal entries bytes alive are_bytes read passes =
       awaited = w.3;
       news = r.1;
       from_others = r.2;
-      arrived = subst (λ m. Arrived (checked_texts g (taken me s (say.Reply seal entries bytes)).next.path m) (call_of me w.0 w.1 ∷ r.0)) (sym takes)
-          (arrived_from entries (call_of me w.0 w.1 ∷ r.0) (seal_texts g (taken me s (say.Reply seal entries bytes)).next.path (Some seal)) r.1 passes.spelled.1.1.1);
+      arrived = subst (λ m. Arrived (checked_texts g (move_on_answer me s (say.Reply seal entries bytes)).next.path m) (call_of me w.0 w.1 ∷ r.0)) (sym takes)
+          (arrived_from entries (call_of me w.0 w.1 ∷ r.0) (seal_texts g (move_on_answer me s (say.Reply seal entries bytes)).next.path (Some seal)) r.1 passes.spelled.1.1.1);
       are_bytes = are_bytes;
       is_part = t.1;
-      root_is = part_shown bytes t.0 seal.root.bytes t.1 (and_parts (shows (read_part bytes) seal.root.bytes) (shows_open (read_part bytes) s.awaiting) passes.proof).0;
-      reached = open_shown (read_part bytes) t.0 s.awaiting w.0 w.1 w.2 t.1 w.3 (and_parts (shows (read_part bytes) seal.root.bytes) (shows_open (read_part bytes) s.awaiting) passes.proof).1;
+      root_is = part_shown bytes t.0 seal.root.bytes t.1 (and_parts (has_root (read_part bytes) seal.root.bytes) (has_open_op (read_part bytes) s.awaiting) passes.proof).0;
+      reached = open_shown (read_part bytes) t.0 s.awaiting w.0 w.1 w.2 t.1 w.3 (and_parts (has_root (read_part bytes) seal.root.bytes) (has_open_op (read_part bytes) s.awaiting) passes.proof).1;
       sealing = sealing_from g s (call_of me w.0 w.1 ∷ (r.0 ++ s.path)) seal passes.spelled.0 passes.goes (subst (λ p. is_sealed g p (Some seal) ≡ true) e1 passes.sealing) passes.own (omega arith);
       below = omega arith;
       few = omega arith;
@@ -332,13 +332,13 @@ reply_kind g me s b seal entries bytes alive are_bytes read passes =
 
 update_kind : (g : Group) (me : ℕ) (s : Standing) (b : List ℕ) (seal : Seal) (bytes : List ℕ) → s.halted ≡ None → AreBytes bytes
     → read_answer b ≡ Some (say.Update seal bytes) → Passes g me s (say.Update seal bytes)
-    → Kind g me s (input.Payload b) (taken me s (say.Update seal bytes))
+    → Kind g me s (input.Payload b) (move_on_answer me s (say.Update seal bytes))
 update_kind g me s b seal bytes alive are_bytes read passes =
     let f = all_four (is_awaited s.awaiting (say.Update seal bytes)) (is_some (read_part bytes)) (nat_le (length s.path) 1048576) (nat_le seal.position (length s.path)) passes.form in
     let t = some_of (read_part bytes) f.1 in
     let o = next_shown (seal.position + 1) s.own passes.turn in
     let v = update_moves s seal (read_part bytes) t.0 s.own o.0 o.1 t.1 o.2 in
-    let goes_on : (taken me s (say.Update seal bytes)).next.halted ≡ None = ap (λ x. x.next.halted) v ∙ alive in
+    let goes_on : (move_on_answer me s (say.Update seal bytes)).next.halted ≡ None = ap (λ x. x.next.halted) v ∙ alive in
     is_updated (record {
       payload = b;
       seal = seal;
@@ -348,13 +348,13 @@ update_kind g me s b seal bytes alive are_bytes read passes =
       rest = o.1;
       asked = refl;
       alive = alive;
-      takes = takes_read (taken me s (say.Update seal bytes)).next b (Some (say.Update seal bytes)) goes_on read;
+      takes = takes_read (move_on_answer me s (say.Update seal bytes)).next b (Some (say.Update seal bytes)) goes_on read;
       passes = passes;
       awaited = awaits_update s.awaiting seal bytes f.0;
       are_bytes = are_bytes;
       is_part = t.1;
-      root_is = part_shown bytes t.0 seal.root.bytes t.1 (and_parts (shows (read_part bytes) seal.root.bytes) (shows_own (read_part bytes) s.own) passes.proof).0;
-      reached = own_shown (read_part bytes) t.0 s.own o.0 o.1 t.1 o.2 (and_parts (shows (read_part bytes) seal.root.bytes) (shows_own (read_part bytes) s.own) passes.proof).1;
+      root_is = part_shown bytes t.0 seal.root.bytes t.1 (and_parts (has_root (read_part bytes) seal.root.bytes) (has_own_op (read_part bytes) s.own) passes.proof).0;
+      reached = own_shown (read_part bytes) t.0 s.own o.0 o.1 t.1 o.2 (and_parts (has_root (read_part bytes) seal.root.bytes) (has_own_op (read_part bytes) s.own) passes.proof).1;
       sealing = sealing_from g s s.path seal passes.spelled passes.goes passes.sealing passes.own (leb-true _ _ f.3);
       own_is = o.2;
       next_is = o.3;
@@ -364,16 +364,16 @@ update_kind g me s b seal bytes alive are_bytes read passes =
 
 entries_kind : (g : Group) (me : ℕ) (s : Standing) (b : List ℕ) (seal : Seal) (entries : List Tagged) → s.halted ≡ None
     → read_answer b ≡ Some (say.Entries seal entries) → Passes g me s (say.Entries seal entries)
-    → Kind g me s (input.Payload b) (taken me s (say.Entries seal entries))
+    → Kind g me s (input.Payload b) (move_on_answer me s (say.Entries seal entries))
 entries_kind g me s b seal entries alive read passes =
     let n = length s.path + length entries in
     let f = all_four (is_awaited s.awaiting (say.Entries seal entries)) (nat_le n 1048576) (nat_le seal.position n) (nat_le (n - seal.position) 1024) passes.form in
-    let e1 : grown s entries ≡ newest_first entries ++ s.path = onto_is entries s.path in
+    let e1 : path_with_entries s entries ≡ newest_first entries ++ s.path = onto_is entries s.path in
     let l : length s.path + length entries ≡ length (newest_first entries ++ s.path) = same_length entries s.path (newest_first entries) refl in
     let n0 = leb-true n 1048576 f.1 in
     let n1 = leb-true seal.position n f.2 in
     let n2 = leb-true (n - seal.position) 1024 f.3 in
-    let takes = takes_read (taken me s (say.Entries seal entries)).next b (Some (say.Entries seal entries)) alive read in
+    let takes = takes_read (move_on_answer me s (say.Entries seal entries)).next b (Some (say.Entries seal entries)) alive read in
     is_listed (record {
       payload = b;
       seal = seal;
@@ -386,17 +386,17 @@ entries_kind g me s b seal entries alive read passes =
       awaited = awaits_entries s.awaiting seal entries f.0;
       news = refl;
       from_others = all_true (is_other g.count me) (IsOther g.count me) (other_shown g.count me) (newest_first entries) passes.members;
-      arrived = subst (λ m. Arrived (checked_texts g (taken me s (say.Entries seal entries)).next.path m) (newest_first entries)) (sym takes)
-          (arrived_from entries (newest_first entries) (seal_texts g (taken me s (say.Entries seal entries)).next.path (Some seal)) refl passes.spelled.1.1);
+      arrived = subst (λ m. Arrived (checked_texts g (move_on_answer me s (say.Entries seal entries)).next.path m) (newest_first entries)) (sym takes)
+          (arrived_from entries (newest_first entries) (seal_texts g (move_on_answer me s (say.Entries seal entries)).next.path (Some seal)) refl passes.spelled.1.1);
       sealing = sealing_from g s (newest_first entries ++ s.path) seal passes.spelled.0 passes.goes (subst (λ p. is_sealed g p (Some seal) ≡ true) e1 passes.sealing) passes.own (omega arith);
       few = omega arith;
       near = omega arith;
-      moved = ap (λ p. listed_to s p seal.position seal.root.bytes) e1;
+      moved = ap (λ p. move_on_entries s p seal.position seal.root.bytes) e1;
     })
 
 -- ---- every step
 
-halts_kind : (g : Group) (me k : ℕ) (s : Standing) (b : List ℕ) → s.halted ≡ None → Kind g me s (input.Payload b) (halts s k)
+halts_kind : (g : Group) (me k : ℕ) (s : Standing) (b : List ℕ) → s.halted ≡ None → Kind g me s (input.Payload b) (move_to_halt s k)
 halts_kind g me k s b alive = is_quiet (quiet_halt g me k s b (λ j e. absurd cc))
 
 -- a part within a text of bytes
@@ -411,7 +411,7 @@ reference_length h len e = let l : length (h ++ to_be_bytes w32 len) ≡ length 
 
 -- a store that is told that its content is kept calls its put; else nobody awaits that
 kept_kind : (g : Group) (me : ℕ) (s : Standing) (b : List ℕ) (p : Phase) → s.phase ≡ p → s.halted ≡ None → read_answer b ≡ Some say.Kept
-    → Kind g me s (input.Payload b) (goes_to s false (kept_at p))
+    → Kind g me s (input.Payload b) (move_by_object_step s false (step_on_kept p))
 kept_kind g me s b (phase.Keeping k h len) e alive read = is_called (record {
   op = op.Put k (reference_text h.bytes len);
   load = false;
@@ -420,7 +420,7 @@ kept_kind g me s b (phase.Keeping k h len) e alive read = is_called (record {
   few = λ f. (subst (PhaseFits s.calls) e f).1;
   fits = λ f. let w = (subst (PhaseFits s.calls) e f).0 in ((w.0.0, reference_length h.bytes len w.1.0), (w.0.1, reference_bytes h.bytes len w.1.1));
   opens = λ calls. tt;
-  takes = λ m t. sym (some_same (sym (takes_read (calls_op s phase.Calling (op.Put k (reference_text h.bytes len)) false).next b (Some say.Kept) alive read) ∙ t));
+  takes = λ m t. sym (some_same (sym (takes_read (move_to_call s phase.Calling (op.Put k (reference_text h.bytes len)) false).next b (Some say.Kept) alive read) ∙ t));
   moved = refl;
 })
 kept_kind g me s b phase.Closed e alive read = halts_kind g me 1 s b alive
@@ -428,7 +428,7 @@ kept_kind g me s b phase.Calling e alive read = halts_kind g me 1 s b alive
 kept_kind g me s b (phase.Fetching h len) e alive read = halts_kind g me 1 s b alive
 
 taken_kind : (g : Group) (me : ℕ) (s : Standing) (b : List ℕ) (m : ToClient) → s.halted ≡ None → AreBytes b → read_answer b ≡ Some m → Passes g me s m
-    → b ≡ answer_text m → Kind g me s (input.Payload b) (taken me s m)
+    → b ≡ answer_text m → Kind g me s (input.Payload b) (move_on_answer me s m)
 taken_kind g me s b say.Hi alive h read passes text = halts_kind g me 1 s b alive
 taken_kind g me s b (say.Reply seal entries bytes) alive h read passes text =
     reply_kind g me s b seal entries bytes alive (part_bytes b (0x42 ∷ seal_field seal ++ entries_field entries) bytes h text) read passes
@@ -444,13 +444,13 @@ taken_kind g me s b say.Gone alive h read passes text = halts_kind g me 1 s b al
 taken_kind g me s b say.Absent alive h read passes text = halts_kind g me 1 s b alive
 
 read_kind : (g : Group) (me : ℕ) (s : Standing) (b : List ℕ) (m : Option ToClient) (k : Option ℕ) → s.halted ≡ None → AreBytes b → read_answer b ≡ m
-    → verdict_on g me s m ≡ k → Kind g me s (input.Payload b) (taken_or_halts me s m k)
+    → verdict_on g me s m ≡ k → Kind g me s (input.Payload b) (move_on_verdict me s m k)
 read_kind g me s b m (Some k) alive h read e = halts_kind g me k s b alive
 read_kind g me s b (Some m) None alive h read e =
     taken_kind g me s b m alive h read (all_passed g me s m (answer_fits b m h read) e) (answer_spelled b m h read)
 read_kind g me s b None None alive h read e = halts_kind g me 1 s b alive
 
-payload_kind : (g : Group) (me : ℕ) (s : Standing) (b : List ℕ) (halted : Option ℕ) → s.halted ≡ halted → AreBytes b → Kind g me s (input.Payload b) (on_payload g me s halted b)
+payload_kind : (g : Group) (me : ℕ) (s : Standing) (b : List ℕ) (halted : Option ℕ) → s.halted ≡ halted → AreBytes b → Kind g me s (input.Payload b) (move_on_payload g me s halted b)
 unfolding verdict
 payload_kind g me s b (Some k) e h = is_quiet (quiet_halt g me k s b (λ j f. some_same (sym e ∙ f)))
 payload_kind g me s b None e h = read_kind g me s b (read_answer b) (verdict_on g me s (read_answer b)) e h refl refl
@@ -476,9 +476,9 @@ rests_entries n o load e = cc
 rests_kept : (n : ℕ) (o : Op) (load : Bool) → awaits.Kept ≡ awaits.Reply n o load → ⊥
 rests_kept n o load e = cc
 
-quiet_ask : (g : Group) (me : ℕ) (s : Standing) (i : Input) (a : Awaiting) (turned : Phase) (sends : Sending) → ((after : Standing) → taken_by after i ≡ None)
+quiet_ask : (g : Group) (me : ℕ) (s : Standing) (i : Input) (a : Awaiting) (turned : Phase) (sends : Sending) → ((after : Standing) → answer_unless_halted after i ≡ None)
     → ((n : ℕ) (o : Op) (load : Bool) → a ≡ awaits.Reply n o load → ⊥) → ((n : ℕ) (o : Op) → Some sends ≡ Some (Invokes n o) → ⊥) → ((x : Standing) → text_sent g me x (Some sends) ≡ [])
-    → (PhaseFits s.calls s.phase → PhaseFits s.calls turned) → Quiet g me s i (moves (record s { awaiting = a; phase = turned }) (Some sends) None)
+    → (PhaseFits s.calls s.phase → PhaseFits s.calls turned) → Quiet g me s i (move_without_object (record s { awaiting = a; phase = turned }) (Some sends) None)
 quiet_ask g me s i a turned sends takes waits calls silent opens = record {
   path = refl;
   sealed = refl;
@@ -496,8 +496,8 @@ quiet_ask g me s i a turned sends takes waits calls silent opens = record {
   shows_nothing = ap parts_in (takes (record s { awaiting = a; phase = turned }));
 }
 
-asked_kind : (g : Group) (me : ℕ) (s : Standing) (i : Input) (o : Op) (load : Bool) (turned : Phase) → ((after : Standing) → taken_by after i ≡ None) → s.halted ≡ None
-    → s.calls + 1 < 2 ^ 32 → Fits o × AreBytesIn o → ((calls : ℕ) → PhaseFits calls turned) → Kind g me s i (calls_op s turned o load)
+asked_kind : (g : Group) (me : ℕ) (s : Standing) (i : Input) (o : Op) (load : Bool) (turned : Phase) → ((after : Standing) → answer_unless_halted after i ≡ None) → s.halted ≡ None
+    → s.calls + 1 < 2 ^ 32 → Fits o × AreBytesIn o → ((calls : ℕ) → PhaseFits calls turned) → Kind g me s i (move_to_call s turned o load)
 asked_kind g me s i o load turned none alive few fits opens = is_called (record {
   op = o;
   load = load;
@@ -506,12 +506,12 @@ asked_kind g me s i o load turned none alive few fits opens = is_called (record 
   few = λ f. few;
   fits = λ f. fits;
   opens = opens;
-  takes = λ m t. absurd (none_is_some (sym (none (calls_op s turned o load).next) ∙ t));
+  takes = λ m t. absurd (none_is_some (sym (none (move_to_call s turned o load).next) ∙ t));
   moved = refl;
 })
 
 object_kind : (g : Group) (me : ℕ) (s : Standing) (c : ObjectCall) → s.halted ≡ None → FitsObject c → AreBytesInObject c → s.calls + 1 < 2 ^ 32
-    → Kind g me s (input.Object c) (goes_to s (is_load c) (begun c))
+    → Kind g me s (input.Object c) (move_by_object_step s (is_load c) (first_step c))
 object_kind g me s (object.Store k c) alive fits are_bytes few =
     is_quiet (quiet_ask g me s (input.Object (object.Store k c)) awaits.Kept _ (Keeps c) (λ a. refl) rests_kept (no_keep c) (λ x. refl)
     (λ f. (((fits.0, are_bytes.0), (length-sha256 (content_text c), bytes-sha256 (content_text c))), few)))

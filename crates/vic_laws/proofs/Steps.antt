@@ -19,17 +19,17 @@ use Rattle.vic_rules.specs.declared.state.Own.{Own}
 use Rattle.vic_rules.specs.declared.state.Awaiting.TheVariants as awaits
 use Rattle.vic_rules.specs.declared.trace.Input.{Input}
 use Rattle.vic_rules.specs.declared.trace.Input.TheVariants as input
-use Rattle.vic_rules.specs.Client.{Standing, Move, Invokes, decision, is_done, is_write, new_root, replied_to, sealed_to, listed_to, has_form, has_members, has_tags, goes_on, is_sealed, keeps_own, is_proved, has_turn, entries_of, seal_of, grown, newest_first, seal_text_on, has_content, calls_op}
+use Rattle.vic_rules.specs.Client.{Standing, Move, Invokes, decision, is_done, is_write, new_root, move_on_outcome, move_to_seal, move_on_entries, has_form, has_members, has_tags, is_not_older, is_sealed, keeps_own, is_proved, has_turn, entries_of, seal_of, path_with_entries, newest_first, seal_text_on, has_content, move_to_call}
 use Rattle.vic_rules.specs.History.{completion}
-use Rattle.vic_rules.specs.Trust.{taken_by, checked_texts, text_sent, parts_in}
+use Rattle.vic_rules.specs.Trust.{answer_unless_halted, checked_texts, text_sent, parts_in}
 
 -- all nine checks passed, and the answer has a spelling
 pub record Passes (g : Group) (me : ℕ) (s : Standing) (m : ToClient) : Type 0 where
   pub form : has_form s m ≡ true
   pub members : has_members g me s m ≡ true
   pub tags : has_tags g m ≡ true
-  pub goes : goes_on s (seal_of m) ≡ true
-  pub sealing : is_sealed g (grown s (entries_of m)) (seal_of m) ≡ true
+  pub goes : is_not_older s (seal_of m) ≡ true
+  pub sealing : is_sealed g (path_with_entries s (entries_of m)) (seal_of m) ≡ true
   pub own : keeps_own s (seal_of m) ≡ true
   pub proof : is_proved s m ≡ true
   pub turn : has_turn s m ≡ true
@@ -81,9 +81,9 @@ pub record Quiet (g : Group) (me : ℕ) (s : Standing) (i : Input) (v : Move) : 
   pub opens : PhaseFits s.calls s.phase → PhaseFits s.calls v.next.phase
   pub sends_nothing : text_sent g me v.next v.sends ≡ []
   pub completes_nothing : (client : ℕ) (p : List Entry) → completion client p v.returns ≡ []
-  pub checks_nothing : (p : List Entry) → checked_texts g p (taken_by v.next i) ≡ []
-  pub seals_nothing : (m : ToClient) → taken_by v.next i ≡ Some m → (seal_of m ≡ None) × (entries_of m ≡ [])
-  pub shows_nothing : parts_in (taken_by v.next i) ≡ []
+  pub checks_nothing : (p : List Entry) → checked_texts g p (answer_unless_halted v.next i) ≡ []
+  pub seals_nothing : (m : ToClient) → answer_unless_halted v.next i ≡ Some m → (seal_of m ≡ None) × (entries_of m ≡ [])
+  pub shows_nothing : parts_in (answer_unless_halted v.next i) ≡ []
 
 -- the client called an operation: of its own, or of a call on objects, which may have been told that its content is kept
 pub record Called (g : Group) (me : ℕ) (s : Standing) (i : Input) (v : Move) : Type 0 where
@@ -94,8 +94,8 @@ pub record Called (g : Group) (me : ℕ) (s : Standing) (i : Input) (v : Move) :
   pub few : PhaseFits s.calls s.phase → s.calls + 1 < 2 ^ 32
   pub fits : PhaseFits s.calls s.phase → Fits op × AreBytesIn op
   pub opens : (calls : ℕ) → PhaseFits calls turned
-  pub takes : (m : ToClient) → taken_by v.next i ≡ Some m → m ≡ say.Kept
-  pub moved : v ≡ calls_op s turned op load
+  pub takes : (m : ToClient) → answer_unless_halted v.next i ≡ Some m → m ≡ say.Kept
+  pub moved : v ≡ move_to_call s turned op load
 
 -- the client took the Reply to its call
 pub record Replied (g : Group) (me : ℕ) (s : Standing) (i : Input) (v : Move) : Type 0 where
@@ -110,12 +110,12 @@ pub record Replied (g : Group) (me : ℕ) (s : Standing) (i : Input) (v : Move) 
   pub part : Part
   pub asked : i ≡ input.Payload payload
   pub alive : s.halted ≡ None
-  pub takes : taken_by v.next i ≡ Some (say.Reply seal entries bytes)
+  pub takes : answer_unless_halted v.next i ≡ Some (say.Reply seal entries bytes)
   pub passes : Passes g me s (say.Reply seal entries bytes)
   pub awaited : s.awaiting ≡ awaits.Reply seq op load
   pub news : newest_first entries ≡ call_of me seq op ∷ others
   pub from_others : AllByRecursion (IsOther g.count me) others
-  pub arrived : Arrived (checked_texts g v.next.path (taken_by v.next i)) (call_of me seq op ∷ others)
+  pub arrived : Arrived (checked_texts g v.next.path (answer_unless_halted v.next i)) (call_of me seq op ∷ others)
   pub are_bytes : AreBytes bytes
   pub is_part : read_part bytes ≡ Some part
   pub root_is : part_root part ≡ seal.root.bytes
@@ -124,7 +124,7 @@ pub record Replied (g : Group) (me : ℕ) (s : Standing) (i : Input) (v : Move) 
   pub below : seal.position < length (call_of me seq op ∷ (others ++ s.path))
   pub few : length (call_of me seq op ∷ (others ++ s.path)) ≤ 1048576
   pub near : length (call_of me seq op ∷ (others ++ s.path)) ≤ seal.position + 1024
-  pub moved : v ≡ replied_to s (call_of me seq op ∷ (others ++ s.path)) seal.position seal.root.bytes
+  pub moved : v ≡ move_on_outcome s (call_of me seq op ∷ (others ++ s.path)) seal.position seal.root.bytes
       (s.own ++ record { position = length (call_of me seq op ∷ (others ++ s.path)); op = op; done = is_done (decision me s (others ++ s.path) seal.position part op) } ∷ [])
       (decision me s (others ++ s.path) seal.position part op)
 
@@ -138,7 +138,7 @@ pub record Updated (g : Group) (me : ℕ) (s : Standing) (i : Input) (v : Move) 
   pub rest : List Own
   pub asked : i ≡ input.Payload payload
   pub alive : s.halted ≡ None
-  pub takes : taken_by v.next i ≡ Some (say.Update seal bytes)
+  pub takes : answer_unless_halted v.next i ≡ Some (say.Update seal bytes)
   pub passes : Passes g me s (say.Update seal bytes)
   pub awaited : s.awaiting ≡ awaits.Turn
   pub are_bytes : AreBytes bytes
@@ -149,7 +149,7 @@ pub record Updated (g : Group) (me : ℕ) (s : Standing) (i : Input) (v : Move) 
   pub reached : (not (first.done && is_write first.op) || reaches part first.op) ≡ true
   pub next_is : first.position ≡ seal.position + 1
   pub few : length s.path ≤ 1048576
-  pub moved : v ≡ sealed_to s (seal.position + 1) (new_root first part seal.root.bytes) rest
+  pub moved : v ≡ move_to_seal s (seal.position + 1) (new_root first part seal.root.bytes) rest
 
 -- the client took the entries that it asked for
 pub record Listed (g : Group) (me : ℕ) (s : Standing) (i : Input) (v : Move) : Type 0 where
@@ -159,16 +159,16 @@ pub record Listed (g : Group) (me : ℕ) (s : Standing) (i : Input) (v : Move) :
   pub others : List Entry
   pub asked : i ≡ input.Payload payload
   pub alive : s.halted ≡ None
-  pub takes : taken_by v.next i ≡ Some (say.Entries seal entries)
+  pub takes : answer_unless_halted v.next i ≡ Some (say.Entries seal entries)
   pub passes : Passes g me s (say.Entries seal entries)
   pub awaited : s.awaiting ≡ awaits.Entries
   pub news : newest_first entries ≡ others
   pub from_others : AllByRecursion (IsOther g.count me) others
-  pub arrived : Arrived (checked_texts g v.next.path (taken_by v.next i)) others
+  pub arrived : Arrived (checked_texts g v.next.path (answer_unless_halted v.next i)) others
   pub sealing : Sealing g s (others ++ s.path) seal
   pub few : length (others ++ s.path) ≤ 1048576
   pub near : length (others ++ s.path) ≤ seal.position + 1024
-  pub moved : v ≡ listed_to s (others ++ s.path) seal.position seal.root.bytes
+  pub moved : v ≡ move_on_entries s (others ++ s.path) seal.position seal.root.bytes
 
 -- the kinds of a step
 pub data Kind (g : Group) (me : ℕ) (s : Standing) (i : Input) (v : Move) : Type 0 where

@@ -13,7 +13,7 @@ use Rattle.vic_rules.specs.declared.trace.Input.{Input}
 use Rattle.vic_rules.specs.declared.trace.TraceStep.{TraceStep}
 use Rattle.vic_rules.specs.Client.{Standing, Move, entries_of, seal_of, seal_text_on, is_tagged}
 use Rattle.vic_rules.specs.History.{standing, path, move_of, AreSteps, IsStep}
-use Rattle.vic_rules.specs.Trust.{took, taken_by}
+use Rattle.vic_rules.specs.Trust.{answer_taken, answer_unless_halted}
 use Rattle.vic_laws.specs.Claims.{TagsOf}
 use Rattle.vic_laws.proofs.Words.{some_same, none_is_some, all_true, all_at, bytes_same}
 use Rattle.vic_laws.proofs.Steps.{Passes, Sealing, Kind, is_quiet, is_called, is_replied, is_updated, is_listed}
@@ -38,7 +38,7 @@ nothing_taken g p m e = record {
   seal = λ s f apart. absurd (none_is_some (sym e.0 ∙ f));
 }
 
-kind_tags : (g : Group) (me : ℕ) (s : Standing) (i : Input) (v : Move) → Kind g me s i v → (m : ToClient) → taken_by v.next i ≡ Some m → TagsOf g v.next.path m
+kind_tags : (g : Group) (me : ℕ) (s : Standing) (i : Input) (v : Move) → Kind g me s i v → (m : ToClient) → answer_unless_halted v.next i ≡ Some m → TagsOf g v.next.path m
 kind_tags g me s i v (is_quiet k) m e = nothing_taken g v.next.path m (k.seals_nothing m e)
 kind_tags g me s i v (is_called k) m e = nothing_taken g v.next.path m (subst (λ x. (seal_of x ≡ None) × (entries_of x ≡ [])) (sym (k.takes m e)) (refl, refl))
 kind_tags g me s i v (is_replied k) m e =
@@ -49,11 +49,11 @@ kind_tags g me s i v (is_listed k) m e =
     subst (λ p. TagsOf g p m) (ap (λ w. w.next.path) (sym k.moved)) (subst (TagsOf g _) (some_same (sym k.takes ∙ e)) (tags_shown g me s _ (say.Entries k.seal k.entries) k.seal refl k.passes k.sealing))
 
 -- at each step the answer that was taken had the right tags
-pub tags_at : (g : Group) (x : TraceStep) (past : List TraceStep) → IsStep g past x → (m : ToClient) → took g past x ≡ Some m → TagsOf g (path g x.client (x ∷ past)) m
-unfolding took
+pub tags_at : (g : Group) (x : TraceStep) (past : List TraceStep) → IsStep g past x → (m : ToClient) → answer_taken g past x ≡ Some m → TagsOf g (path g x.client (x ∷ past)) m
+unfolding answer_taken
 tags_at g x past is m e = subst (λ s. TagsOf g s.path m) (sym (standing_moved g x.client x past refl))
     (kind_tags g x.client (standing g x.client past) x.input (move_of g past x) (step_kind g x.client (standing g x.client past) x.input is.may) m e)
 
 pub tags_hold : (g : Group) (h : List TraceStep) → AreSteps g h → (later : List TraceStep) (x : TraceStep) (past : List TraceStep) → h ≡ later ++ x ∷ past
-    → (m : ToClient) → took g past x ≡ Some m → TagsOf g (path g x.client (x ∷ past)) m
+    → (m : ToClient) → answer_taken g past x ≡ Some m → TagsOf g (path g x.client (x ∷ past)) m
 tags_hold g h steps later x past e m t = tags_at g x past (earlier_steps g later (x ∷ past) (subst (AreSteps g) e steps)).1 m t

@@ -11,7 +11,7 @@ use Rattle.vic_rules.specs.Client.{Sending, Invokes, Commits, Polls, Seals, Sync
 use Rattle.vic_rules.specs.Objects.{reference_of}
 use Rattle.vic_rules.specs.History.{IsLawful, move_of}
 use Rattle.vic_rules.specs.Views.{NoStepOf, AsksFor}
-use Rattle.vic_rules.specs.Trust.{took}
+use Rattle.vic_rules.specs.Trust.{answer_taken}
 
 -- a client's last step was to be asked for a store, whose put this operation is
 pub record StoresBefore (past : List TraceStep) (client : ℕ) (o : Op) : Type 0 where
@@ -64,7 +64,7 @@ pub record CallsWhatItIsAsked (g : Group) (past : List TraceStep) (x : TraceStep
   pub erase : (name : List ℕ) → x.input ≡ input.Object (object.Erase name) → (move_of g past x).sends ≡ Some (Invokes (suc (calls_made g x.client past)) (op.Del name))
   pub names : (prefix : List ℕ) → x.input ≡ input.Object (object.Names prefix) → (move_of g past x).sends ≡ Some (Invokes (suc (calls_made g x.client past)) (op.List prefix))
   pub store : (name content : List ℕ) → x.input ≡ input.Object (object.Store name content) → (move_of g past x).sends ≡ Some (Keeps content)
-  pub put : took g past x ≡ Some say.Kept → (o : Op) × ((move_of g past x).sends ≡ Some (Invokes (suc (calls_made g x.client past)) o)) × StoresBefore past x.client o
+  pub put : answer_taken g past x ≡ Some say.Kept → (o : Op) × ((move_of g past x).sends ≡ Some (Invokes (suc (calls_made g x.client past)) o)) × StoresBefore past x.client o
 
 -- a client that is asked for a call makes it at that step, and the put of a store at the step at which it took that the content is kept
 abbrev pub AskedAreCalled : Type 0

@@ -19,7 +19,7 @@ use Rattle.vic_rules.specs.declared.trace.Shown.{Shown}
 use Rattle.vic_rules.specs.Client.{entries_of, seal_of}
 use Rattle.vic_rules.specs.History.{standing, path, IsLawful, completions}
 use Rattle.vic_rules.specs.Views.{confirmed_calls, view_of, IsAnswered, IsCompleted, ReturnedBefore}
-use Rattle.vic_rules.specs.Trust.{took, texts_taken, texts_made}
+use Rattle.vic_rules.specs.Trust.{answer_taken, texts_taken, texts_made}
 
 -- ---- real-time order
 
@@ -41,7 +41,7 @@ pub record TakesAnswer (g : Group) (past : List TraceStep) (x : TraceStep) (m : 
   pub goes_on : (standing g x.client (x ∷ past)).halted ≡ None
 
 abbrev pub TookIs : Type 0
-TookIs = (g : Group) (past : List TraceStep) (x : TraceStep) (m : ToClient) → (took g past x ≡ Some m) ↔ TakesAnswer g past x m
+TookIs = (g : Group) (past : List TraceStep) (x : TraceStep) (m : ToClient) → (answer_taken g past x ≡ Some m) ↔ TakesAnswer g past x m
 
 -- the text of an entry of such an answer, or of its seal above position 0 on the path that the client then has
 pub data TakesText (g : Group) (past : List TraceStep) (x : TraceStep) (t : List ℕ) : Type 0 where

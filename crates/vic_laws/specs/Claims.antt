@@ -14,8 +14,8 @@ use Rattle.vic_spellings.specs.Spellings.{PartHoldsBytes}
 use Rattle.vic_rules.specs.declared.trace.TraceStep.{TraceStep}
 use Rattle.vic_rules.specs.Client.{Seals, entries_of, seal_of, seal_text_on, commit_text_on, is_done}
 use Rattle.vic_rules.specs.History.{IsLawful, path, move_of, Completion, completions}
-use Rattle.vic_rules.specs.Views.{confirmed, confirmed_calls, left_by, view_of, IsLegal}
-use Rattle.vic_rules.specs.Trust.{IsForged, Collides, took, parts_taken, texts_made}
+use Rattle.vic_rules.specs.Views.{confirmation, confirmed_calls, left_by, view_of, IsLegal}
+use Rattle.vic_rules.specs.Trust.{IsForged, Collides, answer_taken, parts_taken, texts_made}
 
 -- ---- tags
 
@@ -27,7 +27,7 @@ pub record TagsOf (g : Group) (after : List Entry) (m : ToClient) : Type 0 where
 -- each answer that a client took without halting holds no other entry or seal
 abbrev pub TagsHold : Type 0
 TagsHold = (g : Group) (h : List TraceStep) → IsLawful g h → (later : List TraceStep) (x : TraceStep) (past : List TraceStep) → h ≡ later ++ x ∷ past
-    → (m : ToClient) → took g past x ≡ Some m → TagsOf g (path g x.client (x ∷ past)) m
+    → (m : ToClient) → answer_taken g past x ≡ Some m → TagsOf g (path g x.client (x ∷ past)) m
 
 -- ---- paths
 
@@ -45,7 +45,7 @@ HashesTellPaths = (g : Group) (h : List TraceStep) → IsLawful g h → HashesTe
 -- each position of a path is confirmed
 abbrev pub AllConfirmed : List Completion → List Entry → Type 0
 AllConfirmed cs [] = Unit {0}
-AllConfirmed cs (e ∷ p) = ((c : Completion) × (confirmed cs (e ∷ p) ≡ Some c)) × AllConfirmed cs p
+AllConfirmed cs (e ∷ p) = ((c : Completion) × (confirmation cs (e ∷ p) ≡ Some c)) × AllConfirmed cs p
 
 -- a seal at a position of a path: it stands within the path, everything up to it is confirmed, and the root is that of the dictionary which that leaves
 pub record SealHolds (cs : List Completion) (p : List Entry) (position : ℕ) (root : List ℕ) : Type 0 where
@@ -55,7 +55,7 @@ pub record SealHolds (cs : List Completion) (p : List Entry) (position : ℕ) (r
 
 -- the client took a seal at a step, or made one
 pub data SealAt (g : Group) (past : List TraceStep) (x : TraceStep) (position : ℕ) (root : List ℕ) : Type 0 where
-  of_answer : (m : ToClient) (s : Seal) → took g past x ≡ Some m → seal_of m ≡ Some s → position ≡ s.position → root ≡ s.root.bytes → SealAt g past x position root
+  of_answer : (m : ToClient) (s : Seal) → answer_taken g past x ≡ Some m → seal_of m ≡ Some s → position ≡ s.position → root ≡ s.root.bytes → SealAt g past x position root
   of_its_own : (move_of g past x).sends ≡ Some Seals → position ≡ (move_of g past x).next.sealed → root ≡ (move_of g past x).next.root → SealAt g past x position root
 
 -- unless a tag was forged or two texts collide, each seal that a client took or made holds of the path that it then has
@@ -99,7 +99,7 @@ PartsAreProper = (g : Group) (h : List TraceStep) → IsLawful g h → (bytes : 
 -- the owner of the last entry of a path completed that call on this very path, as done or else as aborted
 pub record CommittedAs (cs : List Completion) (p : List Entry) (done : Bool) : Type 0 where
   pub by : Completion
-  pub found : confirmed cs p ≡ Some by
+  pub found : confirmation cs p ≡ Some by
   pub ends : is_done by.outcome ≡ done
 
 -- unless two texts collide, a commit text of a front of a client's path that some client made tells how that front's last call was completed

@@ -22,17 +22,17 @@ use Rattle.vic_rules.specs.Views.{NoStepOf, view_of}
 use Rattle.vic_rules.specs.Trust.{IsForged, Collides}
 
 -- whether an operation puts this key
-abbrev pub puts : List ℕ → Op → Bool
-puts k (op.Put q v) = bytes_eq k q
-puts k (op.Get q) = false
-puts k (op.Del q) = false
-puts k (op.List p) = false
+abbrev pub is_put_of : List ℕ → Op → Bool
+is_put_of k (op.Put q v) = bytes_eq k q
+is_put_of k (op.Get q) = false
+is_put_of k (op.Del q) = false
+is_put_of k (op.List p) = false
 
 -- the last done store of a name in a view: the newest done put of this key, whatever dels are newer. (In LoadsLast the get found what it put,
 -- by `found`, so it is the last change of the key)
 abbrev pub last_put : List ℕ → List Shown → Option Shown
 last_put k [] = None
-last_put k (x ∷ v) = if is_done x.outcome && puts k x.entry.op then Some x else last_put k v
+last_put k (x ∷ v) = if is_done x.outcome && is_put_of k x.entry.op then Some x else last_put k v
 
 -- the call of an entry is the put of a store: its client was asked to store this content under this name, and at its next step it called
 -- the put of the content's reference

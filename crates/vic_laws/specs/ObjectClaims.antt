@@ -15,7 +15,7 @@ use Rattle.vic_rules.specs.declared.trace.Input.TheVariants as input
 use Rattle.vic_rules.specs.declared.trace.TraceStep.{TraceStep}
 use Rattle.vic_rules.specs.Objects.{hash_in}
 use Rattle.vic_rules.specs.History.{IsLawful}
-use Rattle.vic_rules.specs.Trust.{took, contents_known}
+use Rattle.vic_rules.specs.Trust.{answer_taken, contents_known}
 use Rattle.vic_laws.specs.ByCases.{TakesAnswer}
 use Rattle.vic_laws.specs.ContentClaims.{NoAskOf}
 
@@ -30,8 +30,8 @@ pub record EndsObject (g : Group) (past : List TraceStep) (x : TraceStep) : Type
   pub names : (l : List (List ℕ)) → (x.object ≡ Some (ended.Names l)) ↔ (x.returned ≡ Some (outcome.Done (answer.Names l)))
   pub aborted : (u : ℕ) → (x.object ≡ Some (ended.Aborted u)) ↔ (x.returned ≡ Some (outcome.Aborted u))
   -- the operation was refused, or the content of a store, before the operation was called
-  pub refused : (r : ℕ) → (x.object ≡ Some (ended.Refused r)) ↔ ((x.returned ≡ Some (outcome.Refused r)) ⊎ ((x.returned ≡ None) × (took g past x ≡ Some (say.Refused r))))
-  pub content : (c : List ℕ) → (x.object ≡ Some (ended.Content c)) ↔ (took g past x ≡ Some (say.Content c))
+  pub refused : (r : ℕ) → (x.object ≡ Some (ended.Refused r)) ↔ ((x.returned ≡ Some (outcome.Refused r)) ⊎ ((x.returned ≡ None) × (answer_taken g past x ≡ Some (say.Refused r))))
+  pub content : (c : List ℕ) → (x.object ≡ Some (ended.Content c)) ↔ (answer_taken g past x ≡ Some (say.Content c))
   -- what was found is a reference, and the load isn't over
   pub found : (v : List ℕ) → x.returned ≡ Some (outcome.Done (answer.Found v)) → (x.object ≡ None) × (length v ≡ 36)
   pub halted : (k : ℕ) → x.returned ≡ Some (outcome.Halted k) → x.object ≡ None
@@ -62,7 +62,7 @@ pub record FoundSince (past : List TraceStep) (client : ℕ) (hash : List ℕ) :
 -- group without objects it asks for none
 pub record FetchesByMode (g : Group) (past : List TraceStep) (x : TraceStep) (d : Digest32) : Type 0 where
   pub plain : g.mode ≡ mode.Plain → x.sent ≡ Some (request_text (ask.Fetch d)) → ⊥
-  pub objects : g.mode ≡ mode.Objects → (x.sent ≡ Some (request_text (ask.Fetch d))) ↔ ((took g past x ≡ Some say.Wait) × FoundSince past x.client d.bytes)
+  pub objects : g.mode ≡ mode.Objects → (x.sent ≡ Some (request_text (ask.Fetch d))) ↔ ((answer_taken g past x ≡ Some say.Wait) × FoundSince past x.client d.bytes)
 
 abbrev pub FetchesSo : Type 0
 FetchesSo = (g : Group) (h : List TraceStep) → IsLawful g h → (later : List TraceStep) (x : TraceStep) (past : List TraceStep) → h ≡ later ++ x ∷ past → (d : Digest32) → FetchesByMode g past x d

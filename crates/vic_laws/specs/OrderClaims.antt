@@ -16,8 +16,8 @@ use Rattle.vic_wire.specs.Parts.{Part, read_part, walked}
 use Rattle.vic_rules.specs.declared.trace.TraceStep.{TraceStep}
 use Rattle.vic_rules.specs.Client.{same_op, same_entry, least_above, is_in_the_way, is_done}
 use Rattle.vic_rules.specs.History.{IsLawful, path, Completion, completions}
-use Rattle.vic_rules.specs.Trust.{IsForged, took}
-use Rattle.vic_rules.specs.Views.{confirmed, view_of, IsSameCall, IsAnswered, IsCompleted, Agree, HasAll, ShowsOnlyCalls, IsInRealTime}
+use Rattle.vic_rules.specs.Trust.{IsForged, answer_taken}
+use Rattle.vic_rules.specs.Views.{confirmation, view_of, IsSameCall, IsAnswered, IsCompleted, Agree, HasAll, ShowsOnlyCalls, IsInRealTime}
 
 -- ---- the words
 
@@ -52,11 +52,11 @@ NoneAboveIs = (base : ℕ) (test : ℕ → Entry → Bool) (path : List Entry)
 -- what confirms a path is the one completion with this path, and it is that of the newest entry's client
 abbrev pub ConfirmedIs : Type 0
 ConfirmedIs = (g : Group) (h : List TraceStep) → IsLawful g h → (p : List Entry) (c : Completion)
-    → (confirmed (completions g h) p ≡ Some c) ↔ (IsIn (completions g h) c × (c.prefix ≡ p))
+    → (confirmation (completions g h) p ≡ Some c) ↔ (IsIn (completions g h) c × (c.prefix ≡ p))
 
 abbrev pub ConfirmedByOwner : Type 0
 ConfirmedByOwner = (g : Group) (h : List TraceStep) → IsLawful g h → (e : Entry) (below : List Entry) (c : Completion)
-    → confirmed (completions g h) (e ∷ below) ≡ Some c → c.client ≡ e.client
+    → confirmation (completions g h) (e ∷ below) ≡ Some c → c.client ≡ e.client
 
 -- ---- decisions
 
@@ -72,7 +72,7 @@ pub record BlocksAt (me : ℕ) (o : Op) (base : ℕ) (path : List Entry) (u : �
 -- a call that its client decided as done has nothing in its way, between the seal of its Reply and itself
 abbrev pub DoneMeetsNoConflictIn : Group → List TraceStep → Type 0
 DoneMeetsNoConflictIn g h = (later : List TraceStep) (x : TraceStep) (past : List TraceStep) → h ≡ later ++ x ∷ past
-    → (seal : Seal) (entries : List Tagged) (part : List ℕ) → took g past x ≡ Some (say.Reply seal entries part) → (e : Entry) (below : List Entry) → path g x.client (x ∷ past) ≡ e ∷ below
+    → (seal : Seal) (entries : List Tagged) (part : List ℕ) → answer_taken g past x ≡ Some (say.Reply seal entries part) → (e : Entry) (below : List Entry) → path g x.client (x ∷ past) ≡ e ∷ below
     → (a : Answer) → x.returned ≡ Some (outcome.Done a) → (u : ℕ) → BlocksAt x.client e.op seal.position below u → ⊥
 
 abbrev pub DoneMeetsNoConflict : Type 0
@@ -81,7 +81,7 @@ DoneMeetsNoConflict = (g : Group) (h : List TraceStep) → IsLawful g h → Done
 -- a call is aborted exactly by the least position at which the client's own test finds what is in the way
 abbrev pub AbortedByTheLeast : Type 0
 AbortedByTheLeast = (g : Group) (h : List TraceStep) → IsLawful g h → (later : List TraceStep) (x : TraceStep) (past : List TraceStep) → h ≡ later ++ x ∷ past
-    → (seal : Seal) (entries : List Tagged) (part : List ℕ) → took g past x ≡ Some (say.Reply seal entries part) → (e : Entry) (below : List Entry) → path g x.client (x ∷ past) ≡ e ∷ below
+    → (seal : Seal) (entries : List Tagged) (part : List ℕ) → answer_taken g past x ≡ Some (say.Reply seal entries part) → (e : Entry) (below : List Entry) → path g x.client (x ∷ past) ≡ e ∷ below
     → (u : ℕ) → (x.returned ≡ Some (outcome.Aborted u)) ↔ IsLeastAbove seal.position (is_in_the_way x.client e.op) below u
 
 -- what a path's entries leave of a dictionary where those above a base take effect that a choice picks; a choice sees the path that ends with the entry
@@ -96,13 +96,13 @@ was_done (Some c) = is_done c.outcome
 
 -- a choice by which a client's own entries take effect exactly where the client completed them, on this very path, as done
 abbrev pub PicksOwn : List Completion → ℕ → (List Entry → Bool) → Type 0
-PicksOwn cs me picks = (e : Entry) (p : List Entry) → e.client ≡ me → picks (e ∷ p) ≡ was_done (confirmed cs (e ∷ p))
+PicksOwn cs me picks = (e : Entry) (p : List Entry) → e.client ≡ me → picks (e ∷ p) ≡ was_done (confirmation cs (e ∷ p))
 
 -- a call that is done has the answer of its Reply's part after the client's own done calls that stand above the seal and below the call,
 -- whichever entries of others there take effect as well
 abbrev pub AnswersStandIn : Group → List TraceStep → Type 0
 AnswersStandIn g h = (later : List TraceStep) (x : TraceStep) (past : List TraceStep) → h ≡ later ++ x ∷ past
-    → (seal : Seal) (entries : List Tagged) (bytes : List ℕ) → took g past x ≡ Some (say.Reply seal entries bytes) → (e : Entry) (below : List Entry) → path g x.client (x ∷ past) ≡ e ∷ below
+    → (seal : Seal) (entries : List Tagged) (bytes : List ℕ) → answer_taken g past x ≡ Some (say.Reply seal entries bytes) → (e : Entry) (below : List Entry) → path g x.client (x ∷ past) ≡ e ∷ below
     → (a : Answer) → x.returned ≡ Some (outcome.Done a) → (part : Part) → read_part bytes ≡ Some part
     → (picks : List Entry → Bool) → PicksOwn (completions g h) x.client picks → a ≡ reply (effect_of picks seal.position (walked part e.op) below) e.op
 

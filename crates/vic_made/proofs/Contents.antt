@@ -12,7 +12,7 @@ use Rattle.vic_dict.specs.declared.op.Answer.TheVariants as answer
 use Rattle.vic_dict.specs.declared.op.Outcome.TheVariants as outcome
 use Rattle.vic_dict.specs.declared.op.Entry.{Entry}
 use Rattle.vic_dict.specs.Lists.{AreBytes}
-use Rattle.vic_dict.specs.Dictionary.{Dictionary, Fits, AreBytesIn, IsKey, IsProper, nothing, found, gone, reply, after}
+use Rattle.vic_dict.specs.Dictionary.{Dictionary, Fits, AreBytesIn, IsKey, IsProper, nothing, answer_of_get, answer_of_del, reply, after}
 use Rattle.vic_wire.specs.declared.message.Digest32.{Digest32}
 use Rattle.vic_wire.specs.declared.message.Seal.{Seal}
 use Rattle.vic_wire.specs.declared.message.ToClient.{ToClient}
@@ -20,7 +20,7 @@ use Rattle.vic_wire.specs.declared.message.ToClient.TheVariants as say
 use Rattle.vic_wire.specs.Bits.{key_bit}
 use Rattle.vic_wire.specs.Hashes.{Group}
 use Rattle.vic_wire.specs.Trees.{Tree, Empty, Leaf, Inner, Stub, Pair, pairs_of}
-use Rattle.vic_wire.specs.Walks.{end_at, gathered}
+use Rattle.vic_wire.specs.Walks.{end_at, dictionary_with_pairs}
 use Rattle.vic_wire.specs.Parts.{Part, IsPart, IsNodeFrom, read_part, walked}
 use Rattle.vic_wire.specs.Reading.{read_answer}
 use Rattle.vic_rules.specs.declared.object.ObjectCall.{ObjectCall}
@@ -33,8 +33,8 @@ use Rattle.vic_rules.specs.declared.state.Awaiting.TheVariants as awaits
 use Rattle.vic_rules.specs.declared.trace.Input.{Input}
 use Rattle.vic_rules.specs.declared.trace.Input.TheVariants as input
 use Rattle.vic_rules.specs.declared.trace.TraceStep.{TraceStep}
-use Rattle.vic_rules.specs.Client.{Standing, Move, Sending, Invokes, Commits, Polls, Seals, Syncs, Keeps, Fetches, MayStep, at_start, step, decision, decided, in_the_way, laid, done_op, replied, updated, waited, refused_at, goes_to, is_load, taken, taken_or_halts, on_payload, verdict, grown}
-use Rattle.vic_rules.specs.Objects.{is_reference, hash_in, begun, kept_at}
+use Rattle.vic_rules.specs.Client.{Standing, Move, Sending, Invokes, Commits, Polls, Seals, Syncs, Keeps, Fetches, MayStep, at_start, step, decision, decided_outcome, in_the_way, own_calls_over, done_op, move_on_reply, move_on_update, move_on_wait, move_on_refusal, move_by_object_step, is_load, move_on_answer, move_on_verdict, move_on_payload, verdict, path_with_entries}
+use Rattle.vic_rules.specs.Objects.{is_reference, hash_in, first_step, step_on_kept}
 use Rattle.vic_rules.specs.History.{standing, AreSteps, completion}
 use Rattle.vic_spellings.specs.Spellings.{PartHoldsBytes}
 use Rattle.vic_spellings.proofs.Bytes.{bytes-cons}
@@ -78,7 +78,7 @@ part_end k (Stub root) is holds = tt
 abbrev FitsPair : Pair → Type 0
 FitsPair p = (IsKey p.0 × AreBytes p.0) × ((length p.1 < 65) × AreBytes p.1)
 
-gathered_proper : (ps : List Pair) (d : Dictionary) → AllByRecursion FitsPair ps → IsProper d → IsProper (gathered d ps)
+gathered_proper : (ps : List Pair) (d : Dictionary) → AllByRecursion FitsPair ps → IsProper d → IsProper (dictionary_with_pairs d ps)
 gathered_proper [] d all proper = proper
 gathered_proper (p ∷ ps) d all proper = gathered_proper ps (map.insert d p.0 p.1) all.1 (proper-insert d p.0 p.1 proper all.0)
 
@@ -86,7 +86,7 @@ gathered_proper (p ∷ ps) d all proper = gathered_proper ps (map.insert d p.0 p
 walk_proper : (k : List ℕ) (part : Part) → IsPart part → PartHoldsBytes part → IsProper (walked part (op.Get k))
 walk_proper k part is holds = at_end (end_at k part) (part_end k part is holds)
   where
-    at_end : (t : Tree) → FitsEnd t → IsProper (gathered nothing (pairs_of t))
+    at_end : (t : Tree) → FitsEnd t → IsProper (dictionary_with_pairs nothing (pairs_of t))
     at_end Empty fits = proper-nothing
     at_end (Leaf q v) fits = gathered_proper ((q, v) ∷ []) nothing (fits, tt) proper-nothing
     at_end (Inner i l r) fits = absurd fits
@@ -108,7 +108,7 @@ laid_more : (b : Bool) (d : Dictionary) (o : Own) (own : List Own) → ((e : Dic
 laid_more true d o own rest fits proper = rest (done_op d o) (done_proper d o fits proper)
 laid_more false d o own rest fits proper = rest d proper
 
-laid_proper : (own : List Own) (base : ℕ) (d : Dictionary) → AllByRecursion FitsOwn own → IsProper d → IsProper (laid own base d)
+laid_proper : (own : List Own) (base : ℕ) (d : Dictionary) → AllByRecursion FitsOwn own → IsProper d → IsProper (own_calls_over own base d)
 laid_proper [] base d all proper = proper
 laid_proper (o ∷ own) base d all proper =
     laid_more (nat_lt base o.position) d o (filter (λ x. nat_lt base x.position) own) (λ e. laid_proper own base e all.1) all.0 proper
@@ -116,7 +116,7 @@ laid_proper (o ∷ own) base d all proper =
 same_value : (v w : List ℕ) → answer.Found v ≡ answer.Found w → v ≡ w
 same_value v w e = cc
 
-found_value : (o : Option (List ℕ)) (v : List ℕ) → found o ≡ answer.Found v → o ≡ Some v
+found_value : (o : Option (List ℕ)) (v : List ℕ) → answer_of_get o ≡ answer.Found v → o ≡ Some v
 found_value None v e = absurd cc
 found_value (Some w) v e = ap Some (same_value w v e)
 
@@ -129,17 +129,17 @@ found_bytes : (me : ℕ) (s : Standing) (below : List Entry) (base : ℕ) (part 
 unfolding decision
 found_bytes me s below base part o v own is holds e = now (in_the_way me o base below) e
   where
-    looked : (o : Op) → reply (laid s.own base (walked part o)) o ≡ answer.Found v → AreBytes v
+    looked : (o : Op) → reply (own_calls_over s.own base (walked part o)) o ≡ answer.Found v → AreBytes v
     looked (op.Put k w) f = absurd cc
-    looked (op.Get k) f = (laid_proper s.own base (walked part (op.Get k)) own (walk_proper k part is holds) k v (found_value (map.get (laid s.own base (walked part (op.Get k))) k) v f)).1.1
-    looked (op.Del k) f = absurd (not_gone (map.get (laid s.own base (walked part (op.Del k))) k) f)
+    looked (op.Get k) f = (laid_proper s.own base (walked part (op.Get k)) own (walk_proper k part is holds) k v (found_value (map.get (own_calls_over s.own base (walked part (op.Get k))) k) v f)).1.1
+    looked (op.Del k) f = absurd (not_gone (map.get (own_calls_over s.own base (walked part (op.Del k))) k) f)
       where
-        not_gone : (x : Option (List ℕ)) → gone x ≡ answer.Found v → ⊥
+        not_gone : (x : Option (List ℕ)) → answer_of_del x ≡ answer.Found v → ⊥
         not_gone None f = cc
         not_gone (Some w) f = cc
     looked (op.List p) f = absurd cc
 
-    now : (u : Option ℕ) → decided u (laid s.own base (walked part o)) o ≡ outcome.Done (answer.Found v) → AreBytes v
+    now : (u : Option ℕ) → decided_outcome u (own_calls_over s.own base (walked part o)) o ≡ outcome.Done (answer.Found v) → AreBytes v
     now None f = looked o (same_answer _ _ f)
     now (Some u) f = absurd cc
 
@@ -221,7 +221,7 @@ ContentFits (Some Syncs) = Unit {0}
 ContentFits (Some (Keeps content)) = (length content ≤ 8388608) × AreBytes content
 ContentFits (Some (Fetches h)) = IsDigestText h
 
-fits_reply : (me : ℕ) (s : Standing) (seal : Seal) (path : List Entry) (part : Option Part) (a : Awaiting) → ContentFits (replied me s seal path part a).sends
+fits_reply : (me : ℕ) (s : Standing) (seal : Seal) (path : List Entry) (part : Option Part) (a : Awaiting) → ContentFits (move_on_reply me s seal path part a).sends
 fits_reply me s seal (e ∷ below) (Some part) (awaits.Reply n o load) = tt
 fits_reply me s seal [] part a = tt
 fits_reply me s seal (e ∷ below) None a = tt
@@ -231,18 +231,18 @@ fits_reply me s seal (e ∷ below) (Some part) awaits.Entries = tt
 fits_reply me s seal (e ∷ below) (Some part) awaits.Kept = tt
 fits_reply me s seal (e ∷ below) (Some part) (awaits.Content h len) = tt
 
-fits_update : (s : Standing) (seal : Seal) (part : Option Part) (own : List Own) → ContentFits (updated s seal part own).sends
+fits_update : (s : Standing) (seal : Seal) (part : Option Part) (own : List Own) → ContentFits (move_on_update s seal part own).sends
 fits_update s seal (Some part) (o ∷ others) = tt
 fits_update s seal None own = tt
 fits_update s seal (Some part) [] = tt
 
-fits_wait : (s : Standing) (p : Phase) → FetchFits p → ContentFits (waited s p).sends
+fits_wait : (s : Standing) (p : Phase) → FetchFits p → ContentFits (move_on_wait s p).sends
 fits_wait s phase.Closed fits = tt
 fits_wait s (phase.Keeping k h len) fits = tt
 fits_wait s phase.Calling fits = tt
 fits_wait s (phase.Fetching h len) fits = fits h len refl
 
-fits_refused : (s : Standing) (r : ℕ) (a : Awaiting) → ContentFits (refused_at s r a).sends
+fits_refused : (s : Standing) (r : ℕ) (a : Awaiting) → ContentFits (move_on_refusal s r a).sends
 fits_refused s r awaits.Kept = tt
 fits_refused s r (awaits.Reply n o load) = tt
 fits_refused s r awaits.Nothing = tt
@@ -250,15 +250,15 @@ fits_refused s r awaits.Turn = tt
 fits_refused s r awaits.Entries = tt
 fits_refused s r (awaits.Content h len) = tt
 
-fits_kept : (s : Standing) (p : Phase) → ContentFits (goes_to s false (kept_at p)).sends
+fits_kept : (s : Standing) (p : Phase) → ContentFits (move_by_object_step s false (step_on_kept p)).sends
 fits_kept s (phase.Keeping k h len) = tt
 fits_kept s phase.Closed = tt
 fits_kept s phase.Calling = tt
 fits_kept s (phase.Fetching h len) = tt
 
-fits_taken : (me : ℕ) (s : Standing) (m : ToClient) → FetchFits s.phase → ContentFits (taken me s m).sends
+fits_taken : (me : ℕ) (s : Standing) (m : ToClient) → FetchFits s.phase → ContentFits (move_on_answer me s m).sends
 fits_taken me s say.Hi fits = tt
-fits_taken me s (say.Reply seal entries part) fits = fits_reply me s seal (grown s entries) (read_part part) s.awaiting
+fits_taken me s (say.Reply seal entries part) fits = fits_reply me s seal (path_with_entries s entries) (read_part part) s.awaiting
 fits_taken me s say.Wait fits = fits_wait s s.phase fits
 fits_taken me s (say.Update seal part) fits = fits_update s seal (read_part part) s.own
 fits_taken me s (say.Entries seal entries) fits = tt
@@ -268,16 +268,16 @@ fits_taken me s (say.Content c) fits = tt
 fits_taken me s say.Gone fits = tt
 fits_taken me s say.Absent fits = tt
 
-fits_read : (me : ℕ) (s : Standing) (m : Option ToClient) (k : Option ℕ) → FetchFits s.phase → ContentFits (taken_or_halts me s m k).sends
+fits_read : (me : ℕ) (s : Standing) (m : Option ToClient) (k : Option ℕ) → FetchFits s.phase → ContentFits (move_on_verdict me s m k).sends
 fits_read me s m (Some k) fits = tt
 fits_read me s (Some m) None fits = fits_taken me s m fits
 fits_read me s None None fits = tt
 
-fits_payload : (g : Group) (me : ℕ) (s : Standing) (halted : Option ℕ) (payload : List ℕ) → FetchFits s.phase → ContentFits (on_payload g me s halted payload).sends
+fits_payload : (g : Group) (me : ℕ) (s : Standing) (halted : Option ℕ) (payload : List ℕ) → FetchFits s.phase → ContentFits (move_on_payload g me s halted payload).sends
 fits_payload g me s (Some k) payload fits = tt
 fits_payload g me s None payload fits = fits_read me s (read_answer payload) (verdict g me s payload) fits
 
-fits_object : (g : Group) (s : Standing) (c : ObjectCall) → MayStep g s (input.Object c) → ContentFits (goes_to s (is_load c) (begun c)).sends
+fits_object : (g : Group) (s : Standing) (c : ObjectCall) → MayStep g s (input.Object c) → ContentFits (move_by_object_step s (is_load c) (first_step c)).sends
 fits_object g s (object.Store k c) may = (may.1.1.0.1, may.1.1.1.0.1)
 fits_object g s (object.Load k) may = tt
 fits_object g s (object.Erase k) may = tt

@@ -20,7 +20,7 @@ use Rattle.vic_rules.specs.declared.trace.Input.TheVariants as input
 use Rattle.vic_rules.specs.declared.trace.TraceStep.{TraceStep}
 use Rattle.vic_rules.specs.Client.{Standing, Move, Sending, Invokes, Commits, Polls, Seals, Syncs, Keeps, Fetches, MayStep, step, request_of, new_root, is_write}
 use Rattle.vic_rules.specs.History.{path, standing, move_of, AreSteps}
-use Rattle.vic_rules.specs.Trust.{taken_by, text_sent}
+use Rattle.vic_rules.specs.Trust.{answer_unless_halted, text_sent}
 use Rattle.vic_spellings.specs.Spellings.{HoldsBytes, RequestHoldsBytes}
 use Rattle.vic_spellings.proofs.Bytes.{bytes-sha256}
 use Rattle.vic_spellings.proofs.SpelledAnswers.{answer_holds_bytes}
@@ -66,7 +66,7 @@ root_digest_after o bytes part root are read e =
     (root_digest (tree_after part o.op) (after_stubs part o.op (read_stubs bytes part are read))) e
 
 taken_read : (after : Standing) (payload : List ℕ) (m : ToClient)
-    → taken_by after (input.Payload payload) ≡ Some m → read_answer payload ≡ Some m
+    → answer_unless_halted after (input.Payload payload) ≡ Some m → read_answer payload ≡ Some m
 taken_read after payload m e = now (is_none after.halted) e
   where
     now : (b : Bool) → (if b then read_answer payload else None) ≡ Some m → read_answer payload ≡ Some m
@@ -126,7 +126,7 @@ move_spelled g me s i v may (is_updated k) few opens fits =
     let below : k.seal.position ≤ length s.path = k.sealing.within in
     let answer : ToClient = say.Update k.seal k.bytes in
     let are : AreBytes k.payload = subst (MayStep g s) k.asked may in
-    let takes = subst (λ (j : Input). taken_by v.next j ≡ Some answer) k.asked k.takes in
+    let takes = subst (λ (j : Input). answer_unless_halted v.next j ≡ Some answer) k.asked k.takes in
     let seal : HoldsBytes answer = answer_holds_bytes k.payload answer are (taken_read v.next k.payload answer takes) in
     let was : IsDigestText k.seal.root.bytes = (k.sealing.spelled.root, seal.0.0) in
     one_spelled g me v Seals (ap (λ (m : Move). m.sends) k.moved)

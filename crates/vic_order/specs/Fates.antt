@@ -4,7 +4,7 @@ use Rattle.vic_dict.specs.declared.op.Op.{Op}
 use Rattle.vic_dict.specs.declared.op.Outcome.{Outcome}
 use Rattle.vic_dict.specs.declared.op.Entry.{Entry}
 use Rattle.vic_dict.specs.Dictionary.{Dictionary, nothing, after}
-use Rattle.vic_rules.specs.Client.{in_the_way, decided, is_done}
+use Rattle.vic_rules.specs.Client.{in_the_way, decided_outcome, is_done}
 use Rattle.vic_order.specs.Order.{Ordered}
 
 -- the entries of a log
@@ -13,7 +13,7 @@ entries log = map (λ o. o.entry) log
 
 -- what becomes of an entry, given the log below it and the dictionary that this leaves
 abbrev pub fate_on : Ordered → List Ordered → Dictionary → Outcome
-fate_on o below d = decided (in_the_way o.entry.client o.entry.op o.sealed_then (entries below)) d o.entry.op
+fate_on o below d = decided_outcome (in_the_way o.entry.client o.entry.op o.sealed_then (entries below)) d o.entry.op
 
 abbrev pub done_after : Dictionary → Op → Outcome → Dictionary
 done_after d o x = if is_done x then after d o else d

@@ -35,18 +35,18 @@ pub record IsHonestRun (s : Scene) (server : Server) (events : List Event) : Typ
   pub one : server_at s.servers 1 ≡ Some server
 
 -- the scene with a server that follows the rule in place of its own
-abbrev pub ruled : {V : Type 0} → SceneOf V → Server → Scene
-ruled s server = record { group = s.group; history = s.history; up = s.up; down = s.down; served_by = s.served_by; servers = Some server ∷ None ∷ None ∷ None ∷ [] }
+abbrev pub scene_by_rule : {V : Type 0} → SceneOf V → Server → Scene
+scene_by_rule s server = record { group = s.group; history = s.history; up = s.up; down = s.down; served_by = s.served_by; servers = Some server ∷ None ∷ None ∷ None ∷ [] }
 
 -- honest events lead to a scene of servers of any kind, but that its one server is, as far as R says, the one that follows the rule
 pub record ComesHonestly {V : Type 0} (R : V → Server → Type 0) (s : SceneOf V) : Type 0 where
   pub events : List Event
   pub server : Server
-  pub run : IsHonestRun (ruled s server) server events
+  pub run : IsHonestRun (scene_by_rule s server) server events
   pub own : V
   pub only : s.servers ≡ Some own ∷ None ∷ None ∷ None ∷ []
   pub same : R own server
 
 -- it is that server. (Of servers of any kind R says `AnswersAs`.)
-abbrev pub IsSame : Server → Server → Type 0
-IsSame own server = own ≡ server
+abbrev pub IsSameServer : Server → Server → Type 0
+IsSameServer own server = own ≡ server

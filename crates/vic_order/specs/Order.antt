@@ -51,11 +51,11 @@ pub record Server : Type 0 where
   pub contents : List (List ℕ)
   pub members : List Member
 
-abbrev pub away : Member
-away = record { last = 0; stage = stage.Away }
+abbrev pub away_member : Member
+away_member = record { last = 0; stage = stage.Away }
 
-abbrev pub ready : Member
-ready = record { last = 0; stage = stage.Ready }
+abbrev pub ready_member : Member
+ready_member = record { last = 0; stage = stage.Ready }
 
 -- a server of so many clients, all in one stage
 abbrev pub fresh_server : Mode → ℕ → Member → Server
@@ -63,7 +63,7 @@ fresh_server kind count m = record { mode = kind; log = []; commits = []; seals 
 
 abbrev pub or_away : Option Member → Member
 or_away (Some m) = m
-or_away None = away
+or_away None = away_member
 
 abbrev pub member : Server → ℕ → Member
 member s i = or_away (slice_get s.members (i - 1))
@@ -106,13 +106,13 @@ commit_in (c ∷ commits) n = if nat_eq c.position n then Some c.done else commi
 abbrev pub commit_at : Server → ℕ → Option Bool
 commit_at s n = commit_in s.commits n
 
-abbrev pub tagged : Ordered → Tagged
-tagged o = record { entry = o.entry; tag = o.tag }
+abbrev pub tagged_entry : Ordered → Tagged
+tagged_entry o = record { entry = o.entry; tag = o.tag }
 
 -- the entries above a position, the oldest first
 unfoldable pub entries_above : ℕ → List Ordered → List Tagged
 entries_above known [] = []
-entries_above known (o ∷ log) = if nat_lt known (length (o ∷ log)) then entries_above known log ++ tagged o ∷ [] else []
+entries_above known (o ∷ log) = if nat_lt known (length (o ∷ log)) then entries_above known log ++ tagged_entry o ∷ [] else []
 
 -- ---- weight
 
@@ -139,20 +139,20 @@ pub record Answered : Type 0 where
   pub change : Bool
 
 -- it answers, and stays as it is
-abbrev pub says : Server → ToClient → Answered
-says s a = record { next = s; answer = a; change = false }
+abbrev pub answer_alone : Server → ToClient → Answered
+answer_alone s a = record { next = s; answer = a; change = false }
 
 -- it becomes another, and answers
-abbrev pub becomes : Server → ToClient → Answered
-becomes next a = record { next = next; answer = a; change = true }
+abbrev pub answer_with_change : Server → ToClient → Answered
+answer_with_change next a = record { next = next; answer = a; change = true }
 
 -- the first test that fails gives the refusal's number; a refusal changes nothing
-abbrev pub unless_refused : Server → Option ℕ → Answered → Answered
-unless_refused s (Some r) a = says s (say.Refused r)
-unless_refused s None a = a
+abbrev pub answer_unless_refused : Server → Option ℕ → Answered → Answered
+answer_unless_refused s (Some r) a = answer_alone s (say.Refused r)
+answer_unless_refused s None a = a
 
-abbrev pub guarded : Server → List (ℕ × Bool) → Answered → Answered
-guarded s tests a = unless_refused s (first_failing tests) a
+abbrev pub answer_by_tests : Server → List (ℕ × Bool) → Answered → Answered
+answer_by_tests s tests a = answer_unless_refused s (first_failing tests) a
 
 abbrev pub is_ready : Stage → Bool
 is_ready stage.Ready = true
@@ -219,49 +219,49 @@ ordered_next s who seq o tag =
 
 -- a request of a client that has come in
 abbrev pub on_request : Server → ℕ → ToServer → Answered
-on_request s who (ask.Hello kind client) = says s (say.Refused 5)
+on_request s who (ask.Hello kind client) = answer_alone s (say.Refused 5)
 on_request s who (ask.Invoke known seq o tag) =
     let m = member s who in
     let t = size s + 1 in
-    guarded s (
+    answer_by_tests s (
     (5, is_ready m.stage && (nat_lt m.last seq && nat_le known (size s)))
     ∷ (4, not (nat_eq (size s) 1048576))
     ∷ (2, not (nat_eq (size s - sealed_count s) 1024))
     ∷ (3, not (is_put o) || nat_le (weight s + op_weight o) 8388608)
     ∷ (1, nat_le (t - known) 8192) ∷ [])
-    (let next = ordered_next s who seq o tag in becomes next (say.Reply (top_seal s) (entries_above known next.log) (part_for s.dictionary o)))
+    (let next = ordered_next s who seq o tag in answer_with_change next (say.Reply (top_seal s) (entries_above known next.log) (part_for s.dictionary o)))
 on_request s who (ask.Commit position done tag) =
-    guarded s ((5, is_open_at position (member s who).stage) ∷ [])
-    (let next = set_stage (with_commit s position done tag) who stage.Ready in becomes next (turn next who))
-on_request s who ask.Poll = guarded s ((5, is_ready (member s who).stage) ∷ []) (says s (turn s who))
+    answer_by_tests s ((5, is_open_at position (member s who).stage) ∷ [])
+    (let next = set_stage (with_commit s position done tag) who stage.Ready in answer_with_change next (turn next who))
+on_request s who ask.Poll = answer_by_tests s ((5, is_ready (member s who).stage) ∷ []) (answer_alone s (turn s who))
 on_request s who (ask.Seal position root tag) =
-    guarded s ((5, is_ready (member s who).stage && (nat_eq position (sealed_count s + 1) && owns_committed who (ordered_at s position) (commit_at s position))) ∷ [])
-    (let next = with_seal s (record { position = position; root = root; tag = tag }) in becomes next (turn next who))
+    answer_by_tests s ((5, is_ready (member s who).stage && (nat_eq position (sealed_count s + 1) && owns_committed who (ordered_at s position) (commit_at s position))) ∷ [])
+    (let next = with_seal s (record { position = position; root = root; tag = tag }) in answer_with_change next (turn next who))
 on_request s who (ask.Sync known) =
     let e = min (size s) (known + 8192) in
-    guarded s ((5, is_ready (member s who).stage && nat_le known (size s)) ∷ [])
-    (says s (say.Entries (seal_at_position s (min (sealed_count s) e)) (entries_above known (front e s.log))))
+    answer_by_tests s ((5, is_ready (member s who).stage && nat_le known (size s)) ∷ [])
+    (answer_alone s (say.Entries (seal_at_position s (min (sealed_count s) e)) (entries_above known (front e s.log))))
 on_request s who (ask.Keep content) =
-    guarded s ((5, is_ready (member s who).stage && same_mode s.mode mode.Objects) ∷ [])
-    (if is_kept s.contents (hash (content_text content)) then says s say.Kept
-    else guarded s ((7, not (nat_le 1048576 (length s.contents)) && nat_le (sum_by length s.contents + length content) 1073741824) ∷ [])
-    (becomes (record s { contents = content ∷ s.contents }) say.Kept))
+    answer_by_tests s ((5, is_ready (member s who).stage && same_mode s.mode mode.Objects) ∷ [])
+    (if is_kept s.contents (hash (content_text content)) then answer_alone s say.Kept
+    else answer_by_tests s ((7, not (nat_le 1048576 (length s.contents)) && nat_le (sum_by length s.contents + length content) 1073741824) ∷ [])
+    (answer_with_change (record s { contents = content ∷ s.contents }) say.Kept))
 on_request s who (ask.Fetch h) =
-    guarded s ((5, is_ready (member s who).stage && same_mode s.mode mode.Objects) ∷ []) (says s (content_with s.contents h.bytes))
-on_request s who ask.Bye = guarded s ((5, is_ready (member s who).stage) ∷ []) (becomes (set_stage s who stage.Left) say.Gone)
+    answer_by_tests s ((5, is_ready (member s who).stage && same_mode s.mode mode.Objects) ∷ []) (answer_alone s (content_with s.contents h.bytes))
+on_request s who ask.Bye = answer_by_tests s ((5, is_ready (member s who).stage) ∷ []) (answer_with_change (set_stage s who stage.Left) say.Gone)
 
 abbrev pub on_hello : Server → ℕ → Mode → ℕ → Answered
 on_hello s who kind client =
-    guarded s ((5, nat_eq who 0) ∷ (6, nat_lt 0 client && (nat_le client (length s.members) && (same_mode kind s.mode && is_away (member s client).stage))) ∷ [])
-    (becomes (set_stage s client stage.Ready) say.Hi)
+    answer_by_tests s ((5, nat_eq who 0) ∷ (6, nat_lt 0 client && (nat_le client (length s.members) && (same_mode kind s.mode && is_away (member s client).stage))) ∷ [])
+    (answer_with_change (set_stage s client stage.Ready) say.Hi)
 
 abbrev pub is_member : Server → ℕ → Bool
 is_member s who = nat_lt 0 who && (nat_le who (length s.members) && is_inside (member s who).stage)
 
 abbrev pub serve_read : Server → ℕ → Option ToServer → Answered
-serve_read s who None = says s (say.Refused 5)
+serve_read s who None = answer_alone s (say.Refused 5)
 serve_read s who (Some (ask.Hello kind client)) = on_hello s who kind client
-serve_read s who (Some r) = guarded s ((6, is_member s who) ∷ []) (on_request s who r)
+serve_read s who (Some r) = answer_by_tests s ((6, is_member s who) ∷ []) (on_request s who r)
 
 -- one request served
 unfoldable pub serve : Server → ℕ → List ℕ → Answered

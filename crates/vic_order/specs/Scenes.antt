@@ -8,7 +8,7 @@ use Rattle.vic_rules.specs.declared.trace.Input.TheVariants as input
 use Rattle.vic_rules.specs.declared.trace.TraceStep.{TraceStep}
 use Rattle.vic_rules.specs.Client.{Standing, step, payload_of, MayStep}
 use Rattle.vic_rules.specs.History.{standing}
-use Rattle.vic_order.specs.Order.{Server, fresh_server, ready}
+use Rattle.vic_order.specs.Order.{Server, fresh_server, ready_member}
 use Rattle.vic_order.specs.Serving.{Serving}
 
 -- payloads that wait, the oldest first
@@ -42,7 +42,7 @@ opening_with g server = record {
 
 -- the same with a server that follows the rule
 abbrev pub opening : Group → Scene
-opening g = opening_with g (fresh_server g.mode g.count ready)
+opening g = opening_with g (fresh_server g.mode g.count ready_member)
 
 -- a client's queue
 abbrev pub queue_of : List Queue → ℕ → Queue
@@ -52,9 +52,9 @@ abbrev pub set_queue : List Queue → ℕ → Queue → List Queue
 set_queue queues i queue = slice_set queues (i - 1) queue
 
 -- a payload joins a queue, if there is one
-abbrev pub queued : Queue → Option (List ℕ) → Queue
-queued queue None = queue
-queued queue (Some payload) = queue ++ payload ∷ []
+abbrev pub queue_with : Queue → Option (List ℕ) → Queue
+queue_with queue None = queue
+queue_with queue (Some payload) = queue ++ payload ∷ []
 
 abbrev pub or_none : {V : Type 0} → Option (Option V) → Option V
 or_none None = None
@@ -72,51 +72,51 @@ abbrev pub server_of : List ℕ → ℕ → ℕ
 server_of served_by i = unwrap_or (slice_get served_by (i - 1)) 0
 
 -- where a client stands
-abbrev pub stands : {V : Type 0} → SceneOf V → ℕ → Standing
-stands s i = standing s.group i s.history
+abbrev pub standing_in : {V : Type 0} → SceneOf V → ℕ → Standing
+standing_in s i = standing s.group i s.history
 
 -- ---- what happens
 
 -- a client makes a step: it joins the history, and what was sent joins the queue of requests
-unfoldable pub steps : {V : Type 0} → SceneOf V → ℕ → Input → SceneOf V
-steps s i given =
-    let v = step s.group i (stands s i) given in
+unfoldable pub after_step : {V : Type 0} → SceneOf V → ℕ → Input → SceneOf V
+after_step s i given =
+    let v = step s.group i (standing_in s i) given in
     let sent = payload_of s.group i v.next v.sends in
     record s {
       history = record { client = i; input = given; sent = sent; returned = v.returns; object = v.object } ∷ s.history;
-      up = set_queue s.up i (queued (queue_of s.up i) sent);
+      up = set_queue s.up i (queue_with (queue_of s.up i) sent);
     }
 
 -- the server of a client serves its request, and the answer joins the queue of answers. There is always such a server
-abbrev pub served_with : {V : Type 0} → SceneOf V → ℕ → Queue → List ℕ × V → SceneOf V
-served_with s i rest a = record s {
+abbrev pub after_serving_with : {V : Type 0} → SceneOf V → ℕ → Queue → List ℕ × V → SceneOf V
+after_serving_with s i rest a = record s {
   up = set_queue s.up i rest;
   down = set_queue s.down i (queue_of s.down i ++ a.0 ∷ []);
   servers = set_server s.servers (server_of s.served_by i) (Some a.1);
 }
 
-abbrev pub served : {V : Type 0} → Serving V → SceneOf V → ℕ → Queue → Option V → SceneOf V
-served rule s i [] server = s
-served rule s i (payload ∷ rest) None = s
-served rule s i (payload ∷ rest) (Some server) = served_with s i rest (rule server i i payload)
+abbrev pub after_serving_from : {V : Type 0} → Serving V → SceneOf V → ℕ → Queue → Option V → SceneOf V
+after_serving_from rule s i [] server = s
+after_serving_from rule s i (payload ∷ rest) None = s
+after_serving_from rule s i (payload ∷ rest) (Some server) = after_serving_with s i rest (rule server i i payload)
 
-unfoldable pub serves : {V : Type 0} → Serving V → SceneOf V → ℕ → SceneOf V
-serves rule s i = served rule s i (queue_of s.up i) (server_at s.servers (server_of s.served_by i))
+unfoldable pub after_serving : {V : Type 0} → Serving V → SceneOf V → ℕ → SceneOf V
+after_serving rule s i = after_serving_from rule s i (queue_of s.up i) (server_at s.servers (server_of s.served_by i))
 
 -- a client takes its oldest answer, as it comes through a change
-abbrev pub taken : {V : Type 0} → (List ℕ → List ℕ) → SceneOf V → ℕ → Queue → SceneOf V
-taken change s i [] = s
-taken change s i (payload ∷ rest) = steps (record s { down = set_queue s.down i rest }) i (input.Payload (change payload))
+abbrev pub after_taking_from : {V : Type 0} → (List ℕ → List ℕ) → SceneOf V → ℕ → Queue → SceneOf V
+after_taking_from change s i [] = s
+after_taking_from change s i (payload ∷ rest) = after_step (record s { down = set_queue s.down i rest }) i (input.Payload (change payload))
 
-unfoldable pub takes : {V : Type 0} → (List ℕ → List ℕ) → SceneOf V → ℕ → SceneOf V
-takes change s i = taken change s i (queue_of s.down i)
+unfoldable pub after_taking : {V : Type 0} → (List ℕ → List ℕ) → SceneOf V → ℕ → SceneOf V
+after_taking change s i = after_taking_from change s i (queue_of s.down i)
 
-abbrev pub unchanged : List ℕ → List ℕ
-unchanged payload = payload
+abbrev pub payload_as_is : List ℕ → List ℕ
+payload_as_is payload = payload
 
 -- the lowest bit of one byte changes; bytes are counted from 0
-abbrev pub flipped : ℕ → List ℕ → List ℕ
-flipped n payload = slice_set payload n (bit_xor (unwrap_or (slice_get payload n) 0) 1)
+abbrev pub payload_with_flip : ℕ → List ℕ → List ℕ
+payload_with_flip n payload = slice_set payload n (bit_xor (unwrap_or (slice_get payload n) 0) 1)
 
 -- ---- what a client took and sent last
 
@@ -142,18 +142,18 @@ last_sent i [] = None
 last_sent i (x ∷ past) = if nat_eq x.client i then or_before x.sent (last_sent i past) else last_sent i past
 
 -- it joins the client's requests again
-abbrev pub resends : {V : Type 0} → SceneOf V → ℕ → SceneOf V
-resends s i = record s { up = set_queue s.up i (queued (queue_of s.up i) (last_sent i s.history)) }
+abbrev pub after_resending : {V : Type 0} → SceneOf V → ℕ → SceneOf V
+after_resending s i = record s { up = set_queue s.up i (queue_with (queue_of s.up i) (last_sent i s.history)) }
 
 -- ---- servers
 
 -- a server becomes a copy of another
-abbrev pub copies : {V : Type 0} → SceneOf V → ℕ → ℕ → SceneOf V
-copies s n t = record s { servers = set_server s.servers t (server_at s.servers n) }
+abbrev pub after_copying : {V : Type 0} → SceneOf V → ℕ → ℕ → SceneOf V
+after_copying s n t = record s { servers = set_server s.servers t (server_at s.servers n) }
 
 -- a client is served by another server from now on
-abbrev pub joins : {V : Type 0} → SceneOf V → ℕ → ℕ → SceneOf V
-joins s i n = record s { served_by = slice_set s.served_by (i - 1) n }
+abbrev pub after_joining : {V : Type 0} → SceneOf V → ℕ → ℕ → SceneOf V
+after_joining s i n = record s { served_by = slice_set s.served_by (i - 1) n }
 
 -- ---- tests
 
@@ -167,13 +167,13 @@ abbrev pub waits_in : List Queue → ℕ → Bool
 waits_in queues i = nat_lt 0 (length (queue_of queues i))
 
 -- the oldest payload of a queue; of no bytes where none waits
-abbrev pub oldest : Queue → List ℕ
-oldest [] = []
-oldest (payload ∷ rest) = payload
+abbrev pub oldest_payload : Queue → List ℕ
+oldest_payload [] = []
+oldest_payload (payload ∷ rest) = payload
 
 -- the oldest payload has a byte of this number
 abbrev pub has_byte : List Queue → ℕ → ℕ → Bool
-has_byte queues i n = nat_lt n (length (oldest (queue_of queues i)))
+has_byte queues i n = nat_lt n (length (oldest_payload (queue_of queues i)))
 
 -- ---- events
 
@@ -196,25 +196,25 @@ pub data Event : Type 0 where
   -- a client is served by another server from now on
   Joins : (client server : ℕ) → Event
 
-abbrev pub happens : {V : Type 0} → Serving V → SceneOf V → Event → SceneOf V
-happens rule s (Asks i given) = steps s i given
-happens rule s (Serves i) = serves rule s i
-happens rule s (Takes i) = takes unchanged s i
-happens rule s (Flips i n) = takes (flipped n) s i
-happens rule s (Hears i payload) = steps s i (input.Payload payload)
-happens rule s (Resends i) = resends s i
-happens rule s (Copies n t) = copies s n t
-happens rule s (Joins i n) = joins s i n
+abbrev pub after_event : {V : Type 0} → Serving V → SceneOf V → Event → SceneOf V
+after_event rule s (Asks i given) = after_step s i given
+after_event rule s (Serves i) = after_serving rule s i
+after_event rule s (Takes i) = after_taking payload_as_is s i
+after_event rule s (Flips i n) = after_taking (payload_with_flip n) s i
+after_event rule s (Hears i payload) = after_step s i (input.Payload payload)
+after_event rule s (Resends i) = after_resending s i
+after_event rule s (Copies n t) = after_copying s n t
+after_event rule s (Joins i n) = after_joining s i n
 
 -- a scene after events, the newest first
 abbrev pub after_events : {V : Type 0} → Serving V → SceneOf V → List Event → SceneOf V
 after_events rule s [] = s
-after_events rule s (m ∷ before) = happens rule (after_events rule s before) m
+after_events rule s (m ∷ before) = after_event rule (after_events rule s before) m
 
 -- what a client may be asked for; a payload is none of it
 abbrev pub MayAsk : {V : Type 0} → SceneOf V → ℕ → Input → Type 0
 MayAsk s i (input.Payload payload) = ⊥
-MayAsk s i given = MayStep s.group (stands s i) given
+MayAsk s i given = MayStep s.group (standing_in s i) given
 
 -- an event may happen: the client is one of the group, and it may be asked for this, or a payload waits, or what it takes is bytes; and a
 -- server that is copied or joined exists

@@ -15,7 +15,7 @@ const ONE_READ: usize = 4096;
 
 /// What reading a source gave.
 #[derive(Debug, Drop)]
-pub enum Input {
+pub enum InputRead {
     /// All of it; the source has ended.
     Whole(Bytes),
     /// The front of an input that goes on past the limit.
@@ -28,7 +28,7 @@ pub enum Input {
 
 /// Reads a source to its end, or past the limit, in reads of at most 4,096 bytes; so it takes at most so many past the limit. Each read
 /// takes at least one byte, so it ends.
-pub fn read_input<S: Source>(alloc: Global, source: &mut S) -> Input
+pub fn read_input<S: Source>(alloc: Global, source: &mut S) -> InputRead
     ensures given { InputGives (S.left source.old) (S.left source.new) (S.faults source.old) (S.faults source.new) (S.ended source.new) result }
     ensures taken { TakesAtMost most_taken (S.left source.old) (S.left source.new) }
     ensures later { S.faults source.old ≤ S.faults source.new }
@@ -39,12 +39,12 @@ pub fn read_input<S: Source>(alloc: Global, source: &mut S) -> Input
         match source.read(&mut buffer) {
             Got::Bytes(n) => {
                 if all.append(&buffer[..n]).is_err() {
-                    return Input::NoMemory;
+                    return InputRead::NoMemory;
                 }
             }
-            Got::End => return Input::Whole(all),
-            Got::Failed => return Input::Fault,
+            Got::End => return InputRead::Whole(all),
+            Got::Failed => return InputRead::Fault,
         }
     }
-    Input::TooLong(all)
+    InputRead::TooLong(all)
 }

@@ -4,7 +4,7 @@ use Rattle.std.specs.Prelude.{◌==◌, if◌then◌else◌}
 use Rattle.std.specs.Int.{w16}
 use Rattle.std.proofs.lemmas.Bool.{ltb-true, leb-true, and_parts}
 use Rattle.vic_wire.specs.Trees.{Tree, Empty, Inner}
-use Rattle.vic_wire.specs.Reading.{FieldFault, Read, ◌>>=◌, byte_at, number_at, allowed}
+use Rattle.vic_wire.specs.Reading.{FieldFault, Read, ◌>>=◌, byte_at, number_at, if_allowed}
 use Rattle.vic_wire.specs.Reading as reading
 use Rattle.vic_wire.specs.Parts.{PartFault, PartRead, BadTag, IndexNotRising, ◌then◌, place, field, leaf_at, index_at, stub_at, node_at, tree_at}
 use Rattle.vic_proof.specs.Nodes.{node_from, inner_from, after_byte}
@@ -18,11 +18,11 @@ field_ok all left bad (Ok y) x e = cc
 field_ok all left bad (Err reading.Short) x e = absurd cc
 field_ok all left bad (Err reading.Value) x e = absurd cc
 
-allowed_small : (b : Bool) (i x : ℕ × List ℕ) → allowed b i ≡ Ok x → (b ≡ true) × (i ≡ x)
+allowed_small : (b : Bool) (i x : ℕ × List ℕ) → if_allowed b i ≡ Ok x → (b ≡ true) × (i ≡ x)
 allowed_small true i x e = (refl, cc)
 allowed_small false i x e = absurd cc
 
-index_small : (low : ℕ) (r : Read ℕ) (x : ℕ × List ℕ) → (r >>= (λ i. allowed (leb low i.0 && ltb i.0 2296) i)) ≡ Ok x → (low ≤ x.0) × (x.0 < 2296)
+index_small : (low : ℕ) (r : Read ℕ) (x : ℕ × List ℕ) → (r >>= (λ i. if_allowed (leb low i.0 && ltb i.0 2296) i)) ≡ Ok x → (low ≤ x.0) × (x.0 < 2296)
 index_small low (Ok i) x e =
     let a = allowed_small (leb low i.0 && ltb i.0 2296) i x e in
     let g = and_parts (leb low i.0) (ltb i.0 2296) a.0 in

@@ -11,7 +11,7 @@ ghost use Rattle.vic_dict.specs.declared.op.Answer.TheVariants as answer;
 ghost use Rattle.vic_dict.specs.declared.op.Outcome.{Outcome as AnOutcome};
 ghost use Rattle.vic_dict.specs.declared.op.Outcome.TheVariants as outcome;
 ghost use Rattle.vic_rules.specs.declared.object.Phase.TheVariants as phase;
-ghost use Rattle.vic_rules.specs.Objects.{FitsObject, AreBytesInObject, begun, kept_at, decided_as, decided_at, refused_at, answered, fetched, is_content_of, is_reference, reference_text, hash_in, length_in, content_hash};
+ghost use Rattle.vic_rules.specs.Objects.{FitsObject, AreBytesInObject, first_step, step_on_kept, step_on_outcome, step_on_decision, step_on_refusal, step_on_answer, step_on_content, is_content_of, is_reference, reference_text, hash_in, length_in, content_hash};
 
 use std::alloc::Global;
 use std::marker::Model;
@@ -126,7 +126,7 @@ impl Proxy {
     /// A call on objects begins. Of a store it costs the hash of the content, and a copy.
     pub fn begin(alloc: Global, call: &ObjectCall) -> Result<(Proxy, Next), NoMemory>
         requires { FitsObject call.now }
-        ensures { IfOk result (λ r. r ≡ begun call.now) }
+        ensures { IfOk result (λ r. r ≡ first_step call.now) }
     {
         match call {
             ObjectCall::Store(name, content) => {
@@ -156,7 +156,7 @@ impl Proxy {
 
     /// The content of a store is kept. After want of memory the call is as before.
     pub fn kept(&mut self, alloc: Global) -> Result<Next, NoMemory>
-        ensures ok { IfOk result (λ n. (self.new, n) ≡ kept_at self.old) }
+        ensures ok { IfOk result (λ n. (self.new, n) ≡ step_on_kept self.old) }
         ensures err { OnErr result (self.new ≡ self.old) }
     {
         let op = match &self.phase {
@@ -173,7 +173,7 @@ impl Proxy {
     /// The operation that was called is decided. Where none was, the answer is Bad and the call stands where it stood. After want
     /// of memory the call is as before.
     pub fn outcome(&mut self, alloc: Global, outcome: &Outcome) -> Result<Next, NoMemory>
-        ensures ok { IfOk result (λ n. (self.new, n) ≡ decided_at self.old outcome.now) }
+        ensures ok { IfOk result (λ n. (self.new, n) ≡ step_on_decision self.old outcome.now) }
         ensures err { OnErr result (self.new ≡ self.old) }
     {
         if !matches!(self.phase, Phase::Calling) {
@@ -187,7 +187,7 @@ impl Proxy {
     /// The content that is to be kept, or the operation that was called, is refused. Where neither was asked for, the answer is Bad and
     /// the call stands where it stood. It takes no memory.
     pub fn refused(&mut self, reason: u8) -> Next
-        ensures { (self.new, result) ≡ refused_at self.old reason }
+        ensures { (self.new, result) ≡ step_on_refusal self.old reason }
     {
         match &self.phase {
             Phase::Keeping(_, _, _) | Phase::Calling => {
@@ -201,7 +201,7 @@ impl Proxy {
     /// The content that was to be fetched came, or there is none. Where none was to be fetched, the answer is Bad and the call stands
     /// where it stood. It costs the content's hash, where its length is right, and a copy.
     pub fn content(&mut self, alloc: Global, found: Option<&[u8]>) -> Result<Next, NoMemory>
-        ensures ok { IfOk result (λ n. (self.new, n) ≡ fetched self.old (option_map (λ c. c.now) found.entry)) }
+        ensures ok { IfOk result (λ n. (self.new, n) ≡ step_on_content self.old (option_map (λ c. c.now) found.entry)) }
         ensures err { OnErr result (self.new ≡ self.old) }
     {
         let next = match (&self.phase, found) {
@@ -237,7 +237,7 @@ fn parts_of(value: &[u8]) -> (Digest32, u32)
 
 /// What comes of what a load found.
 fn found(value: &[u8]) -> Next
-    ensures { result ≡ (answered (answer.Found value.now)).1 }
+    ensures { result ≡ (step_on_answer (answer.Found value.now)).1 }
 {
     if value.len() != 36 {
         return Next::Bad;
@@ -248,7 +248,7 @@ fn found(value: &[u8]) -> Next
 
 /// What comes of an answer.
 fn next_of_answer(alloc: Global, answer: &Answer) -> Result<Next, NoMemory>
-    ensures { IfOk result (λ n. n ≡ (answered answer.now).1) }
+    ensures { IfOk result (λ n. n ≡ (step_on_answer answer.now).1) }
 {
     Ok(match answer {
         Answer::Stored => Next::Return(ObjectOutcome::Stored),
@@ -262,7 +262,7 @@ fn next_of_answer(alloc: Global, answer: &Answer) -> Result<Next, NoMemory>
 
 /// What comes of an outcome.
 fn next_of(alloc: Global, outcome: &Outcome) -> Result<Next, NoMemory>
-    ensures { IfOk result (λ n. n ≡ (decided_as outcome.now).1) }
+    ensures { IfOk result (λ n. n ≡ (step_on_outcome outcome.now).1) }
 {
     match outcome {
         Outcome::Done(answer) => next_of_answer(alloc, answer),
@@ -274,7 +274,7 @@ fn next_of(alloc: Global, outcome: &Outcome) -> Result<Next, NoMemory>
 
 /// How far the call has come that does this next, once its operation was decided.
 fn phase_behind(next: &Next) -> Phase
-    ensures { (o : AnOutcome) → next.now ≡ (decided_as o).1 → result ≡ (decided_as o).0 }
+    ensures { (o : AnOutcome) → next.now ≡ (step_on_outcome o).1 → result ≡ (step_on_outcome o).0 }
 {
     match next {
         Next::Fetch(hash, len) => Phase::Fetching(*hash, *len),

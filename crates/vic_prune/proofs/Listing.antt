@@ -11,7 +11,7 @@ use Rattle.std.proofs.lemmas.Bool.{cases_lt}
 use Rattle.vic_dict.specs.Dictionary.{nothing}
 use Rattle.vic_dict.specs.Rows.{bytes_cmp}
 use Rattle.vic_wire.specs.Trees.{Pair}
-use Rattle.vic_wire.specs.Walks.{gathered}
+use Rattle.vic_wire.specs.Walks.{dictionary_with_pairs}
 use Rattle.vic_tree.specs.Grown.{HasKey}
 use Rattle.vic_tree.proofs.Lists.{key_cmp, IsSorted, IsBelowAll}
 use Rattle.vic_tree.proofs.Names.{kept, keys_of, kept-all}
@@ -75,7 +75,7 @@ length-keys [] = refl
 length-keys (x ∷ ps) = ap suc (length-keys ps)
 
 -- such keys are the names that a list of their dictionary answers
-pub names_listed : (p : List ℕ) (ps : List Pair) → AreListed p (keys_of ps) (length (keys_of ps)) → keys_of ps ≡ filter (λ k. starts_with nat_eq k p) (map.keys (gathered nothing ps))
+pub names_listed : (p : List ℕ) (ps : List Pair) → AreListed p (keys_of ps) (length (keys_of ps)) → keys_of ps ≡ filter (λ k. starts_with nat_eq k p) (map.keys (dictionary_with_pairs nothing ps))
 names_listed p ps h =
     let listed : AreListed p (keys_of ps) (length ps) = subst (AreListed p (keys_of ps)) (length-keys ps) h in
     sym (ap (kept p) (keys_laid ps (listed_sorted p ps listed)) ∙ kept-all p ps (listed_all p ps listed))

@@ -11,7 +11,7 @@ use Rattle.vic_dict.specs.Lists.{AreBytes}
 use Rattle.vic_wire.specs.Trees.{Tree, Empty, Leaf, Inner, Stub, root_of, tree_of, dictionary_root}
 use Rattle.vic_wire.specs.Cuts.{IsCut}
 use Rattle.vic_wire.specs.Walks.{end_at, is_stub, reaches, walked, put_in, del_in, below, least, leaf_has_prefix, is_whole, tree_after}
-use Rattle.vic_tree.specs.Shown.{value_at, shown, names_in}
+use Rattle.vic_tree.specs.Shown.{value_at, answer_shown, names_in}
 use Rattle.vic_tree.specs.Grown.{HasByteWords}
 use Rattle.vic_tree.proofs.Reached.{root-after, reply-walked}
 use Rattle.vic_tree.proofs.Alike.{byte_entries, byte_words}

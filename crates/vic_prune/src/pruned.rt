@@ -4,7 +4,7 @@ ghost use Rattle.vic_dict.specs.Lists.{AreBytes};
 ghost use Rattle.vic_tree.specs.Binding.{Collides};
 ghost use Rattle.vic_wire.specs.Trees.{Tree, Empty, Leaf, root_of, pairs_of, tree_of, dictionary_root, node_texts};
 ghost use Rattle.vic_wire.specs.Cuts.{IsCut};
-ghost use Rattle.vic_wire.specs.Walks.{end_at, is_stub, is_gone, is_whole, below, least, leaf_has_prefix, visited, gathered, revalued, forked, planted, del_in, joined, reaches, walked, put_in, tree_after};
+ghost use Rattle.vic_wire.specs.Walks.{end_at, is_stub, is_gone, is_whole, below, least, leaf_has_prefix, pairs_of_walk, dictionary_with_pairs, tree_with_value, fork_of, tree_with_fork, del_in, tree_of_sides, reaches, walked, put_in, tree_after};
 ghost use Rattle.vic_wire.specs.Parts.{IsPart};
 ghost use Rattle.std.specs.Prelude.{map as map_list, filter, nat_eq, IfSome, IsTrue};
 ghost use Rattle.std.specs.List.{starts_with};
@@ -135,7 +135,7 @@ impl Pruned {
     #[tactic(auto, using(crate::proofs::Gathered::gathered_append))]
     fn lay(&self, alloc: Global, dict: &mut PlainDict) -> Result<(), NoMemory>
         requires { KeysFit self.now }
-        ensures { OnOk result (dict.new ≡ gathered dict.old (pairs_of (part self.now))) }
+        ensures { OnOk result (dict.new ≡ dictionary_with_pairs dict.old (pairs_of (part self.now))) }
     {
         match self {
             Pruned::Leaf(key, value) => dict.put(key.copy(alloc)?, value.copy(alloc)?),
@@ -159,7 +159,7 @@ impl Pruned {
     // The leaves, put one after the other.
     fn laid(&self, alloc: Global) -> Result<PlainDict, NoMemory>
         requires { KeysFit self.now }
-        ensures { IfOk result (λ d. d ≡ gathered nothing (pairs_of (part self.now))) }
+        ensures { IfOk result (λ d. d ≡ dictionary_with_pairs nothing (pairs_of (part self.now))) }
     {
         let mut dict = PlainDict::new(alloc);
         self.lay(alloc, &mut dict)?;
@@ -171,7 +171,7 @@ impl Pruned {
     #[tactic(auto, using(crate::proofs::Gathered::rows_fit, crate::proofs::Gathered::gathered_sorted))]
     fn gather(&self, alloc: Global) -> Result<PlainDict, NoMemory>
         requires { KeysFit self.now }
-        ensures { IfOk result (λ d. d ≡ gathered nothing (pairs_of (part self.now))) }
+        ensures { IfOk result (λ d. d ≡ dictionary_with_pairs nothing (pairs_of (part self.now))) }
     {
         let rows = self.rows(alloc)?;
         match PlainDict::from_rows(rows) {
@@ -209,7 +209,7 @@ impl Pruned {
     // What a list answers at these leaves, where their keys rise and have the prefix, as those of every dictionary's tree do.
     #[tactic(auto, using(crate::proofs::Listing::names_listed))]
     fn names(&self, alloc: Global, prefix: &[u8]) -> Result<Option<Names>, NoMemory>
-        ensures { IfOk result (λ found. IfSome found (λ names. names ≡ filter (λ k. starts_with nat_eq k prefix.now) (map.keys (gathered nothing (pairs_of (part self.now)))))) }
+        ensures { IfOk result (λ found. IfSome found (λ names. names ≡ filter (λ k. starts_with nat_eq k prefix.now) (map.keys (dictionary_with_pairs nothing (pairs_of (part self.now)))))) }
     {
         let names = self.keys(alloc)?;
         if are_listed(names.as_slice(), prefix) {
@@ -221,7 +221,7 @@ impl Pruned {
     // What a list answers at these leaves, whatever their order.
     fn laid_names(&self, alloc: Global, prefix: &[u8]) -> Result<Names, NoMemory>
         requires { KeysFit self.now }
-        ensures { IfOk result (λ names. names ≡ filter (λ k. starts_with nat_eq k prefix.now) (map.keys (gathered nothing (pairs_of (part self.now))))) }
+        ensures { IfOk result (λ names. names ≡ filter (λ k. starts_with nat_eq k prefix.now) (map.keys (dictionary_with_pairs nothing (pairs_of (part self.now))))) }
     {
         let dict = self.laid(alloc)?;
         dict.list(alloc, prefix)
@@ -273,7 +273,7 @@ impl Pruned {
     fn listed(&self, prefix: &[u8]) -> &Pruned
         requires keys { KeysFit self.now }
         requires fits { length prefix.now < 256 }
-        ensures leaves { pairs_of (part result.now) ≡ visited (part self.now) (Op.List prefix.now) }
+        ensures leaves { pairs_of (part result.now) ≡ pairs_of_walk (part self.now) (Op.List prefix.now) }
         ensures whole { is_whole (part result.now) ≡ reaches (part self.now) (Op.List prefix.now) }
         ensures keys { KeysFit result.now }
     {
@@ -291,7 +291,7 @@ impl Pruned {
     fn seen(&self, op: &Op) -> &Pruned
         requires keys { KeysFit self.now }
         requires fits { Fits op.now }
-        ensures leaves { pairs_of (part result.now) ≡ visited (part self.now) op.now }
+        ensures leaves { pairs_of (part result.now) ≡ pairs_of_walk (part self.now) op.now }
         ensures whole { is_whole (part result.now) ≡ reaches (part self.now) op.now }
         ensures keys { KeysFit result.now }
     {
@@ -360,7 +360,7 @@ impl Pruned {
         requires keys { KeysFit self.now }
         requires fits { IsKey key.now }
         requires value { length value.now < 65 }
-        ensures { result.bytes ≡ root_of (revalued key.now value.now (part self.now)) }
+        ensures { result.bytes ≡ root_of (tree_with_value key.now value.now (part self.now)) }
     {
         match self {
             Pruned::Empty => vic_hash::empty(),
@@ -382,7 +382,7 @@ impl Pruned {
         requires keys { KeysFit self.now }
         requires fits { IsKey key.now }
         requires value { length value.now < 65 }
-        ensures { result.bytes ≡ root_of (forked index key.now value.now (part self.now)) }
+        ensures { result.bytes ≡ root_of (fork_of index key.now value.now (part self.now)) }
     {
         let old = self.node_root();
         let fresh = vic_hash::leaf(key, value);
@@ -397,7 +397,7 @@ impl Pruned {
         requires keys { KeysFit self.now }
         requires fits { IsKey key.now }
         requires value { length value.now < 65 }
-        ensures { result.bytes ≡ root_of (planted index key.now value.now (part self.now)) }
+        ensures { result.bytes ≡ root_of (tree_with_fork index key.now value.now (part self.now)) }
     {
         match self {
             Pruned::Inner(at, left, right) if *at < index => {
@@ -593,7 +593,7 @@ fn joined_root(index: u16, left: Option<Digest32>, right: Option<Digest32>) -> O
     ensures { (l r : Tree)
         → MatchOption left (l ≡ Empty) (λ d. (is_gone l ≡ false) × (d.bytes ≡ root_of l))
         → MatchOption right (r ≡ Empty) (λ d. (is_gone r ≡ false) × (d.bytes ≡ root_of r))
-        → MatchOption result (joined index l r ≡ Empty) (λ d. (is_gone (joined index l r) ≡ false) × (d.bytes ≡ root_of (joined index l r))) }
+        → MatchOption result (tree_of_sides index l r ≡ Empty) (λ d. (is_gone (tree_of_sides index l r) ≡ false) × (d.bytes ≡ root_of (tree_of_sides index l r))) }
 {
     match (left, right) {
         (None, right) => right,

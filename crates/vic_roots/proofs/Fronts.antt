@@ -1,6 +1,6 @@
 -- Lists of bits of which one is the front of the other, and their longest common prefix.
 use Rattle.std.proofs.Common.{◌≡◌, ℕ, zero, suc, ◌<◌, ◌≤◌, Bool, true, false, List, [], ◌∷◌, ◌++◌, length, arith, refl, sym, ◌∙◌}
-use Rattle.vic_wire.specs.Bits.{bit_of, common}
+use Rattle.vic_wire.specs.Bits.{bit_of, shared_front}
 
 -- the first list is the front of the second
 abbrev pub IsFront : List Bool → List Bool → Type 0
@@ -48,7 +48,7 @@ IsFront-bit (f ∷ fs) (b ∷ bs) zero h below = sym h.0
 IsFront-bit (f ∷ fs) (b ∷ bs) (suc j) h below = IsFront-bit fs bs j h.1 (omega arith)
 
 -- the longest common prefix is a front of both
-pub IsFront-common_left : (fs bs : List Bool) → IsFront (common fs bs) fs
+pub IsFront-common_left : (fs bs : List Bool) → IsFront (shared_front fs bs) fs
 IsFront-common_left [] bs = tt
 IsFront-common_left (f ∷ fs) [] = tt
 IsFront-common_left (true ∷ fs) (true ∷ bs) = (refl, IsFront-common_left fs bs)
@@ -56,7 +56,7 @@ IsFront-common_left (true ∷ fs) (false ∷ bs) = tt
 IsFront-common_left (false ∷ fs) (true ∷ bs) = tt
 IsFront-common_left (false ∷ fs) (false ∷ bs) = (refl, IsFront-common_left fs bs)
 
-pub IsFront-common_right : (fs bs : List Bool) → IsFront (common fs bs) bs
+pub IsFront-common_right : (fs bs : List Bool) → IsFront (shared_front fs bs) bs
 IsFront-common_right [] bs = tt
 IsFront-common_right (f ∷ fs) [] = tt
 IsFront-common_right (true ∷ fs) (true ∷ bs) = (refl, IsFront-common_right fs bs)
@@ -65,11 +65,11 @@ IsFront-common_right (false ∷ fs) (true ∷ bs) = tt
 IsFront-common_right (false ∷ fs) (false ∷ bs) = (refl, IsFront-common_right fs bs)
 
 -- and a front of both is a front of it
-pub IsFront-common : (cs fs bs : List Bool) → IsFront cs fs → IsFront cs bs → IsFront cs (common fs bs)
-IsFront-common [] fs bs g h = tt
-IsFront-common (c ∷ cs) [] bs g h = absurd g
-IsFront-common (c ∷ cs) (f ∷ fs) [] g h = absurd h
-IsFront-common (c ∷ cs) (true ∷ fs) (true ∷ bs) g h = (g.0, IsFront-common cs fs bs g.1 h.1)
-IsFront-common (c ∷ cs) (true ∷ fs) (false ∷ bs) g h = absurd (cc (g.0, h.0))
-IsFront-common (c ∷ cs) (false ∷ fs) (true ∷ bs) g h = absurd (cc (g.0, h.0))
-IsFront-common (c ∷ cs) (false ∷ fs) (false ∷ bs) g h = (g.0, IsFront-common cs fs bs g.1 h.1)
+pub IsFront-shared_front : (cs fs bs : List Bool) → IsFront cs fs → IsFront cs bs → IsFront cs (shared_front fs bs)
+IsFront-shared_front [] fs bs g h = tt
+IsFront-shared_front (c ∷ cs) [] bs g h = absurd g
+IsFront-shared_front (c ∷ cs) (f ∷ fs) [] g h = absurd h
+IsFront-shared_front (c ∷ cs) (true ∷ fs) (true ∷ bs) g h = (g.0, IsFront-shared_front cs fs bs g.1 h.1)
+IsFront-shared_front (c ∷ cs) (true ∷ fs) (false ∷ bs) g h = absurd (cc (g.0, h.0))
+IsFront-shared_front (c ∷ cs) (false ∷ fs) (true ∷ bs) g h = absurd (cc (g.0, h.0))
+IsFront-shared_front (c ∷ cs) (false ∷ fs) (false ∷ bs) g h = (g.0, IsFront-shared_front cs fs bs g.1 h.1)

@@ -4,10 +4,10 @@ use Rattle.std.proofs.lemmas.Bool.{cases_lt}
 use Rattle.std.specs.FinMap.{is_sorted}
 use Rattle.std.specs.FinMap.Entries.{is_sorted-where_key}
 use Rattle.vic_dict.specs.Lists.{IsIn}
-use Rattle.vic_wire.specs.Bits.{key_bits, key_bit, common, same_bit}
+use Rattle.vic_wire.specs.Bits.{key_bits, key_bit, shared_front, same_bit}
 use Rattle.vic_wire.specs.Trees.{Pair, common_bits, side}
 use Rattle.vic_roots.proofs.Keys.{key_order}
-use Rattle.vic_roots.proofs.Fronts.{IsFront, IsFront-itself, IsFront-trans, IsFront-length, IsFront-whole, IsFront-longer, IsFront-bit, IsFront-common_left, IsFront-common_right, IsFront-common}
+use Rattle.vic_roots.proofs.Fronts.{IsFront, IsFront-itself, IsFront-trans, IsFront-length, IsFront-whole, IsFront-longer, IsFront-bit, IsFront-common_left, IsFront-common_right, IsFront-shared_front}
 use Rattle.vic_roots.proofs.KeyBits.{same_from_front, length-key_bits}
 use Rattle.vic_roots.proofs.Members.{HaveByteKeys, filter_fewer, first_apart, IsIn-from_filter, IsIn-filter}
 
@@ -21,15 +21,15 @@ unfolding common_bits
 common_front [] p h = absurd h
 common_front (q ∷ []) p (inl is) = subst (λ (x : Pair). IsFront (key_bits q.0) (key_bits x.0)) is (IsFront-itself (key_bits q.0))
 common_front (q ∷ []) p (inr h) = absurd h
-common_front (q ∷ r ∷ ps) p (inl is) = subst (λ (x : Pair). IsFront (common (key_bits q.0) (common_bits (r ∷ ps))) (key_bits x.0)) is (IsFront-common_left (key_bits q.0) (common_bits (r ∷ ps)))
+common_front (q ∷ r ∷ ps) p (inl is) = subst (λ (x : Pair). IsFront (shared_front (key_bits q.0) (common_bits (r ∷ ps))) (key_bits x.0)) is (IsFront-common_left (key_bits q.0) (common_bits (r ∷ ps)))
 common_front (q ∷ r ∷ ps) p (inr h) =
-    IsFront-trans (common (key_bits q.0) (common_bits (r ∷ ps))) (common_bits (r ∷ ps)) (key_bits p.0) (IsFront-common_right (key_bits q.0) (common_bits (r ∷ ps))) (common_front (r ∷ ps) p h)
+    IsFront-trans (shared_front (key_bits q.0) (common_bits (r ∷ ps))) (common_bits (r ∷ ps)) (key_bits p.0) (IsFront-common_right (key_bits q.0) (common_bits (r ∷ ps))) (common_front (r ∷ ps) p h)
 
 -- and they are the longest such
 pub common_longest : (cs : List Bool) (p : Pair) (ps : List Pair) → ((q : Pair) → IsIn (p ∷ ps) q → IsFront cs (key_bits q.0)) → IsFront cs (common_bits (p ∷ ps))
 unfolding common_bits
 common_longest cs p [] h = h p (inl refl)
-common_longest cs p (q ∷ ps) h = IsFront-common cs (key_bits p.0) (common_bits (q ∷ ps)) (h p (inl refl)) (common_longest cs q ps (λ r g. h r (inr g)))
+common_longest cs p (q ∷ ps) h = IsFront-shared_front cs (key_bits p.0) (common_bits (q ∷ ps)) (h p (inl refl)) (common_longest cs q ps (λ r g. h r (inr g)))
 
 -- below the split all keys agree
 pub agree_below_split : (ps : List Pair) (p q : Pair) (j : ℕ) → IsIn ps p → IsIn ps q → j < split_at ps → key_bit p.0 j ≡ key_bit q.0 j

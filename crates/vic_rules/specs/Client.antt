@@ -30,7 +30,7 @@ use Rattle.vic_rules.specs.declared.object.ObjectOutcome.TheVariants as ended
 use Rattle.vic_rules.specs.declared.object.Phase.{Phase}
 use Rattle.vic_rules.specs.declared.object.Phase.TheVariants as phase
 use Rattle.vic_rules.specs.declared.object.Next.TheVariants as next
-use Rattle.vic_rules.specs.Objects.{FitsObject, AreBytesInObject, is_reference, is_content_of, begun, kept_at, Stepped, after_decision, ended_by}
+use Rattle.vic_rules.specs.Objects.{FitsObject, AreBytesInObject, is_reference, is_content_of, first_step, step_on_kept, ObjectStep, after_decision, outcome_after_decision}
 use Rattle.vic_rules.specs.declared.state.Own.{Own}
 use Rattle.vic_rules.specs.declared.state.Awaiting.{Awaiting}
 use Rattle.vic_rules.specs.declared.state.Awaiting.TheVariants as awaits
@@ -64,8 +64,8 @@ onto (t ∷ ts) p = onto ts (t.entry ∷ p)
 abbrev pub newest_first : List Tagged → List Entry
 newest_first ts = onto ts []
 
-abbrev pub grown : Standing → List Tagged → List Entry
-grown s ts = onto ts s.path
+abbrev pub path_with_entries : Standing → List Tagged → List Entry
+path_with_entries s ts = onto ts s.path
 
 -- ---- the decision
 
@@ -97,16 +97,16 @@ abbrev pub done_op : Dictionary → Own → Dictionary
 done_op d o = if o.done then after d o.op else d
 
 -- the part's dictionary with the own done calls above base laid over it, in order
-abbrev pub laid : List Own → ℕ → Dictionary → Dictionary
-laid own base d = fold done_op d (filter (λ o. nat_lt base o.position) own)
+abbrev pub own_calls_over : List Own → ℕ → Dictionary → Dictionary
+own_calls_over own base d = fold done_op d (filter (λ o. nat_lt base o.position) own)
 
-abbrev pub decided : Option ℕ → Dictionary → Op → Outcome
-decided None d o = outcome.Done (reply d o)
-decided (Some u) d o = outcome.Aborted u
+abbrev pub decided_outcome : Option ℕ → Dictionary → Op → Outcome
+decided_outcome None d o = outcome.Done (reply d o)
+decided_outcome (Some u) d o = outcome.Aborted u
 
 -- what a client decides of its operation, given the path below it
 unfoldable pub decision : ℕ → Standing → List Entry → ℕ → Part → Op → Outcome
-decision me s below base part o = decided (in_the_way me o base below) (laid s.own base (walked part o)) o
+decision me s below base part o = decided_outcome (in_the_way me o base below) (own_calls_over s.own base (walked part o)) o
 
 -- ---- the checks, each true where it passes
 
@@ -181,9 +181,9 @@ abbrev pub has_tags : Group → ToClient → Bool
 has_tags g m = list_all (is_tagged g.key) (entries_of m)
 
 -- 4: the seal isn't older than the highest one
-abbrev pub goes_on : Standing → Option Seal → Bool
-goes_on s None = true
-goes_on s (Some seal) = nat_le s.sealed seal.position
+abbrev pub is_not_older : Standing → Option Seal → Bool
+is_not_older s None = true
+is_not_older s (Some seal) = nat_le s.sealed seal.position
 
 -- the text of a seal of a position of a path, with its root
 unfoldable pub seal_text_on : Group → List Entry → ℕ → List ℕ → List ℕ
@@ -199,26 +199,26 @@ abbrev pub keeps_own : Standing → Option Seal → Bool
 keeps_own s None = true
 keeps_own s (Some seal) = list_all (λ o. nat_lt seal.position o.position) s.own
 
-abbrev pub shows : Option Part → List ℕ → Bool
-shows None root = false
-shows (Some part) root = bytes_eq (part_root part) root
+abbrev pub has_root : Option Part → List ℕ → Bool
+has_root None root = false
+has_root (Some part) root = bytes_eq (part_root part) root
 
-abbrev pub shows_walk : Option Part → Op → Bool
-shows_walk None o = false
-shows_walk (Some part) o = reaches part o
+abbrev pub has_walk : Option Part → Op → Bool
+has_walk None o = false
+has_walk (Some part) o = reaches part o
 
-abbrev pub shows_open : Option Part → Awaiting → Bool
-shows_open part (awaits.Reply n o load) = shows_walk part o
-shows_open part _ = true
+abbrev pub has_open_op : Option Part → Awaiting → Bool
+has_open_op part (awaits.Reply n o load) = has_walk part o
+has_open_op part _ = true
 
-abbrev pub shows_own : Option Part → List Own → Bool
-shows_own part [] = true
-shows_own part (o ∷ others) = not (o.done && is_write o.op) || shows_walk part o.op
+abbrev pub has_own_op : Option Part → List Own → Bool
+has_own_op part [] = true
+has_own_op part (o ∷ others) = not (o.done && is_write o.op) || has_walk part o.op
 
 -- 7: the part has the seal's root, and shows what the operation walks over
 abbrev pub is_proved : Standing → ToClient → Bool
-is_proved s (say.Reply seal entries part) = shows (read_part part) seal.root.bytes && shows_open (read_part part) s.awaiting
-is_proved s (say.Update seal part) = shows (read_part part) seal.root.bytes && shows_own (read_part part) s.own
+is_proved s (say.Reply seal entries part) = has_root (read_part part) seal.root.bytes && has_open_op (read_part part) s.awaiting
+is_proved s (say.Update seal part) = has_root (read_part part) seal.root.bytes && has_own_op (read_part part) s.own
 is_proved s m = true
 
 abbrev pub is_next : ℕ → List Own → Bool
@@ -245,7 +245,7 @@ is_wanted _ c = false
 
 -- 9: what a load found is a reference, and the content is the one that it names
 abbrev pub has_content : ℕ → Standing → ToClient → Bool
-has_content me s (say.Reply seal entries part) = loads_reference me s seal (grown s entries) (read_part part) s.awaiting
+has_content me s (say.Reply seal entries part) = loads_reference me s seal (path_with_entries s entries) (read_part part) s.awaiting
 has_content me s (say.Content c) = is_wanted s.awaiting c
 has_content me s say.Absent = false
 has_content me s m = true
@@ -258,8 +258,8 @@ first_failing (c ∷ cs) = if c.1 then first_failing cs else Some c.0
 abbrev pub verdict_on : Group → ℕ → Standing → Option ToClient → Option ℕ
 verdict_on g me s None = Some 1
 verdict_on g me s (Some m) = first_failing (
-    (1, has_form s m) ∷ (2, has_members g me s m) ∷ (3, has_tags g m) ∷ (4, goes_on s (seal_of m))
-    ∷ (5, is_sealed g (grown s (entries_of m)) (seal_of m)) ∷ (6, keeps_own s (seal_of m))
+    (1, has_form s m) ∷ (2, has_members g me s m) ∷ (3, has_tags g m) ∷ (4, is_not_older s (seal_of m))
+    ∷ (5, is_sealed g (path_with_entries s (entries_of m)) (seal_of m)) ∷ (6, keeps_own s (seal_of m))
     ∷ (7, is_proved s m) ∷ (8, has_turn s m) ∷ (9, has_content me s m) ∷ [])
 
 -- the check at which the client halts on a payload, if it doesn't pass
@@ -285,11 +285,11 @@ pub record Move : Type 0 where
   pub returns : Option Outcome
   pub object : Option ObjectOutcome
 
-abbrev pub moves : Standing → Option Sending → Option Outcome → Move
-moves s sends returns = record { next = s; sends = sends; returns = returns; object = None }
+abbrev pub move_without_object : Standing → Option Sending → Option Outcome → Move
+move_without_object s sends returns = record { next = s; sends = sends; returns = returns; object = None }
 
-abbrev pub moves_with : Standing → Option Sending → Option Outcome → Option ObjectOutcome → Move
-moves_with s sends returns object = record { next = s; sends = sends; returns = returns; object = object }
+abbrev pub move_with_object : Standing → Option Sending → Option Outcome → Option ObjectOutcome → Move
+move_with_object s sends returns object = record { next = s; sends = sends; returns = returns; object = object }
 
 -- the text of a commit of the last entry of a path
 unfoldable pub commit_text_on : Group → List Entry → Bool → List ℕ
@@ -332,81 +332,81 @@ is_done (outcome.Aborted u) = false
 is_done (outcome.Refused r) = false
 is_done (outcome.Halted k) = false
 
-abbrev pub halts : Standing → ℕ → Move
-halts s k = moves (record s { halted = Some k }) None (Some (outcome.Halted k))
+abbrev pub move_to_halt : Standing → ℕ → Move
+move_to_halt s k = move_without_object (record s { halted = Some k }) None (Some (outcome.Halted k))
 
 -- the call is decided: its path, the seal of the Reply, and the call as own and unsealed
-abbrev pub replied_to : Standing → List Entry → ℕ → List ℕ → List Own → Outcome → Move
-replied_to s p base root own ends =
-    moves_with (record s { path = p; sealed = base; root = root; awaiting = awaits.Turn; own = own; phase = after_decision s.phase ends })
-    (Some (Commits (is_done ends))) (Some ends) (ended_by s.phase ends)
+abbrev pub move_on_outcome : Standing → List Entry → ℕ → List ℕ → List Own → Outcome → Move
+move_on_outcome s p base root own ends =
+    move_with_object (record s { path = p; sealed = base; root = root; awaiting = awaits.Turn; own = own; phase = after_decision s.phase ends })
+    (Some (Commits (is_done ends))) (Some ends) (outcome_after_decision s.phase ends)
 
 -- after a Reply whose last entry is the open call
-abbrev pub replied : ℕ → Standing → Seal → List Entry → Option Part → Awaiting → Move
-replied me s seal (e ∷ below) (Some part) (awaits.Reply n o load) =
+abbrev pub move_on_reply : ℕ → Standing → Seal → List Entry → Option Part → Awaiting → Move
+move_on_reply me s seal (e ∷ below) (Some part) (awaits.Reply n o load) =
     let ends = decision me s below seal.position part o in
-    replied_to s (e ∷ below) seal.position seal.root.bytes (s.own ++ record { position = length (e ∷ below); op = o; done = is_done ends } ∷ []) ends
-replied me s seal path part a = halts s 1
+    move_on_outcome s (e ∷ below) seal.position seal.root.bytes (s.own ++ record { position = length (e ∷ below); op = o; done = is_done ends } ∷ []) ends
+move_on_reply me s seal path part a = move_to_halt s 1
 
 -- the root after an own call is sealed
 abbrev pub new_root : Own → Part → List ℕ → List ℕ
 new_root o part root = if o.done && is_write o.op then root_after part o.op else root
 
 -- a position is sealed, with its root; the own calls above it are left
-abbrev pub sealed_to : Standing → ℕ → List ℕ → List Own → Move
-sealed_to s position root own = moves (record s { sealed = position; root = root; own = own; awaiting = awaits.Turn }) (Some Seals) None
+abbrev pub move_to_seal : Standing → ℕ → List ℕ → List Own → Move
+move_to_seal s position root own = move_without_object (record s { sealed = position; root = root; own = own; awaiting = awaits.Turn }) (Some Seals) None
 
 -- after an Update: the first own unsealed call is sealed
-abbrev pub updated : Standing → Seal → Option Part → List Own → Move
-updated s seal (Some part) (o ∷ others) = sealed_to s (seal.position + 1) (new_root o part seal.root.bytes) others
-updated s seal part own = halts s 1
+abbrev pub move_on_update : Standing → Seal → Option Part → List Own → Move
+move_on_update s seal (Some part) (o ∷ others) = move_to_seal s (seal.position + 1) (new_root o part seal.root.bytes) others
+move_on_update s seal part own = move_to_halt s 1
 
 -- after Entries: the path grows, and the seal is theirs
-abbrev pub listed_to : Standing → List Entry → ℕ → List ℕ → Move
-listed_to s p base root = moves (record s { path = p; sealed = base; root = root; awaiting = awaits.Nothing }) None None
+abbrev pub move_on_entries : Standing → List Entry → ℕ → List ℕ → Move
+move_on_entries s p base root = move_without_object (record s { path = p; sealed = base; root = root; awaiting = awaits.Nothing }) None None
 
 -- an operation is called
-abbrev pub calls_op : Standing → Phase → Op → Bool → Move
-calls_op s p o load = moves (record s { calls = s.calls + 1; awaiting = awaits.Reply (s.calls + 1) o load; phase = p }) (Some (Invokes (s.calls + 1) o)) None
+abbrev pub move_to_call : Standing → Phase → Op → Bool → Move
+move_to_call s p o load = move_without_object (record s { calls = s.calls + 1; awaiting = awaits.Reply (s.calls + 1) o load; phase = p }) (Some (Invokes (s.calls + 1) o)) None
 
 -- after Wait: a load whose reference was found fetches its content
-abbrev pub waited : Standing → Phase → Move
-waited s (phase.Fetching h len) = moves (record s { awaiting = awaits.Content h len }) (Some (Fetches h.bytes)) None
-waited s phase.Closed = moves (record s { awaiting = awaits.Nothing }) None None
-waited s (phase.Keeping k h len) = moves (record s { awaiting = awaits.Nothing }) None None
-waited s phase.Calling = moves (record s { awaiting = awaits.Nothing }) None None
+abbrev pub move_on_wait : Standing → Phase → Move
+move_on_wait s (phase.Fetching h len) = move_without_object (record s { awaiting = awaits.Content h len }) (Some (Fetches h.bytes)) None
+move_on_wait s phase.Closed = move_without_object (record s { awaiting = awaits.Nothing }) None None
+move_on_wait s (phase.Keeping k h len) = move_without_object (record s { awaiting = awaits.Nothing }) None None
+move_on_wait s phase.Calling = move_without_object (record s { awaiting = awaits.Nothing }) None None
 
 -- what a call on objects does next that isn't over
-abbrev pub goes_to : Standing → Bool → Stepped → Move
-goes_to s load (p, next.Keep content) = moves (record s { awaiting = awaits.Kept; phase = p }) (Some (Keeps content)) None
-goes_to s load (p, next.Call o) = calls_op s p o load
-goes_to s load (p, x) = halts s 1
+abbrev pub move_by_object_step : Standing → Bool → ObjectStep → Move
+move_by_object_step s load (p, next.Keep content) = move_without_object (record s { awaiting = awaits.Kept; phase = p }) (Some (Keeps content)) None
+move_by_object_step s load (p, next.Call o) = move_to_call s p o load
+move_by_object_step s load (p, x) = move_to_halt s 1
 
 -- after Refused, of a call or of a content that was to be kept: the call is over
-abbrev pub refused_at : Standing → ℕ → Awaiting → Move
-refused_at s r awaits.Kept = moves_with (record s { awaiting = awaits.Nothing; phase = phase.Closed }) None None (Some (ended.Refused r))
-refused_at s r a = moves_with (record s { awaiting = awaits.Nothing; phase = after_decision s.phase (outcome.Refused r) }) None (Some (outcome.Refused r)) (ended_by s.phase (outcome.Refused r))
+abbrev pub move_on_refusal : Standing → ℕ → Awaiting → Move
+move_on_refusal s r awaits.Kept = move_with_object (record s { awaiting = awaits.Nothing; phase = phase.Closed }) None None (Some (ended.Refused r))
+move_on_refusal s r a = move_with_object (record s { awaiting = awaits.Nothing; phase = after_decision s.phase (outcome.Refused r) }) None (Some (outcome.Refused r)) (outcome_after_decision s.phase (outcome.Refused r))
 
 -- the effect of an answer that passed the checks; no other kind passes
-abbrev pub taken : ℕ → Standing → ToClient → Move
-taken me s (say.Reply seal entries part) = replied me s seal (grown s entries) (read_part part) s.awaiting
-taken me s say.Wait = waited s s.phase
-taken me s (say.Update seal part) = updated s seal (read_part part) s.own
-taken me s (say.Entries seal entries) = listed_to s (grown s entries) seal.position seal.root.bytes
-taken me s (say.Refused r) = refused_at s r s.awaiting
-taken me s say.Kept = goes_to s false (kept_at s.phase)
-taken me s (say.Content c) = moves_with (record s { awaiting = awaits.Nothing; phase = phase.Closed }) None None (Some (ended.Content c))
-taken me s m = halts s 1
+abbrev pub move_on_answer : ℕ → Standing → ToClient → Move
+move_on_answer me s (say.Reply seal entries part) = move_on_reply me s seal (path_with_entries s entries) (read_part part) s.awaiting
+move_on_answer me s say.Wait = move_on_wait s s.phase
+move_on_answer me s (say.Update seal part) = move_on_update s seal (read_part part) s.own
+move_on_answer me s (say.Entries seal entries) = move_on_entries s (path_with_entries s entries) seal.position seal.root.bytes
+move_on_answer me s (say.Refused r) = move_on_refusal s r s.awaiting
+move_on_answer me s say.Kept = move_by_object_step s false (step_on_kept s.phase)
+move_on_answer me s (say.Content c) = move_with_object (record s { awaiting = awaits.Nothing; phase = phase.Closed }) None None (Some (ended.Content c))
+move_on_answer me s m = move_to_halt s 1
 
-abbrev pub taken_or_halts : ℕ → Standing → Option ToClient → Option ℕ → Move
-taken_or_halts me s m (Some k) = halts s k
-taken_or_halts me s (Some m) None = taken me s m
-taken_or_halts me s None None = halts s 1
+abbrev pub move_on_verdict : ℕ → Standing → Option ToClient → Option ℕ → Move
+move_on_verdict me s m (Some k) = move_to_halt s k
+move_on_verdict me s (Some m) None = move_on_answer me s m
+move_on_verdict me s None None = move_to_halt s 1
 
 -- a halted client returns the same number again
-abbrev pub on_payload : Group → ℕ → Standing → Option ℕ → List ℕ → Move
-on_payload g me s (Some k) payload = halts s k
-on_payload g me s None payload = taken_or_halts me s (read_answer payload) (verdict g me s payload)
+abbrev pub move_on_payload : Group → ℕ → Standing → Option ℕ → List ℕ → Move
+move_on_payload g me s (Some k) payload = move_to_halt s k
+move_on_payload g me s None payload = move_on_verdict me s (read_answer payload) (verdict g me s payload)
 
 abbrev pub is_load : ObjectCall → Bool
 is_load (object.Load k) = true
@@ -416,11 +416,11 @@ is_load (object.Names p) = false
 
 -- one step of a client
 unfoldable pub step : Group → ℕ → Standing → Input → Move
-step g me s (input.Call o) = calls_op s phase.Closed o false
-step g me s (input.Object c) = goes_to s (is_load c) (begun c)
-step g me s input.Poll = moves (record s { awaiting = awaits.Turn }) (Some Polls) None
-step g me s input.Sync = moves (record s { awaiting = awaits.Entries }) (Some Syncs) None
-step g me s (input.Payload payload) = on_payload g me s s.halted payload
+step g me s (input.Call o) = move_to_call s phase.Closed o false
+step g me s (input.Object c) = move_by_object_step s (is_load c) (first_step c)
+step g me s input.Poll = move_without_object (record s { awaiting = awaits.Turn }) (Some Polls) None
+step g me s input.Sync = move_without_object (record s { awaiting = awaits.Entries }) (Some Syncs) None
+step g me s (input.Payload payload) = move_on_payload g me s s.halted payload
 
 -- ---- when a step may be made
 

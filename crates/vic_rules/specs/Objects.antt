@@ -71,67 +71,67 @@ op_of_object (object.Erase k) = op.Del k
 op_of_object (object.Names p) = op.List p
 
 -- where a call stands, and what it does next
-abbrev pub Stepped : Type 0
-Stepped = Phase × Next
+abbrev pub ObjectStep : Type 0
+ObjectStep = Phase × Next
 
 -- a store sends its content first; the others call at once
-abbrev pub begun : ObjectCall → Stepped
-begun (object.Store k c) = (phase.Keeping k (record { bytes = content_hash c }) (length c), next.Keep c)
-begun (object.Load k) = (phase.Calling, next.Call (op.Get k))
-begun (object.Erase k) = (phase.Calling, next.Call (op.Del k))
-begun (object.Names p) = (phase.Calling, next.Call (op.List p))
+abbrev pub first_step : ObjectCall → ObjectStep
+first_step (object.Store k c) = (phase.Keeping k (record { bytes = content_hash c }) (length c), next.Keep c)
+first_step (object.Load k) = (phase.Calling, next.Call (op.Get k))
+first_step (object.Erase k) = (phase.Calling, next.Call (op.Del k))
+first_step (object.Names p) = (phase.Calling, next.Call (op.List p))
 
 -- the content of a store is kept: its reference is put under its name
-abbrev pub kept_at : Phase → Stepped
-kept_at (phase.Keeping k h len) = (phase.Calling, next.Call (op.Put k (reference_text h.bytes len)))
-kept_at p = (p, next.Bad)
+abbrev pub step_on_kept : Phase → ObjectStep
+step_on_kept (phase.Keeping k h len) = (phase.Calling, next.Call (op.Put k (reference_text h.bytes len)))
+step_on_kept p = (p, next.Bad)
 
 -- its operation was answered: a load that found a reference fetches the content; else the call is over
-abbrev pub answered : Answer → Stepped
-answered answer.Stored = (phase.Closed, next.Return ended.Stored)
-answered (answer.Found v) =
+abbrev pub step_on_answer : Answer → ObjectStep
+step_on_answer answer.Stored = (phase.Closed, next.Return ended.Stored)
+step_on_answer (answer.Found v) =
     if is_reference v then (phase.Fetching (record { bytes = hash_in v }) (length_in v), next.Fetch (record { bytes = hash_in v }) (length_in v))
     else (phase.Closed, next.Bad)
-answered answer.NotFound = (phase.Closed, next.Return ended.Missing)
-answered answer.Removed = (phase.Closed, next.Return ended.Removed)
-answered answer.Absent = (phase.Closed, next.Return ended.Absent)
-answered (answer.Names names) = (phase.Closed, next.Return (ended.Names names))
+step_on_answer answer.NotFound = (phase.Closed, next.Return ended.Missing)
+step_on_answer answer.Removed = (phase.Closed, next.Return ended.Removed)
+step_on_answer answer.Absent = (phase.Closed, next.Return ended.Absent)
+step_on_answer (answer.Names names) = (phase.Closed, next.Return (ended.Names names))
 
-abbrev pub decided_as : Outcome → Stepped
-decided_as (outcome.Done a) = answered a
-decided_as (outcome.Aborted u) = (phase.Closed, next.Return (ended.Aborted u))
-decided_as (outcome.Refused r) = (phase.Closed, next.Return (ended.Refused r))
-decided_as (outcome.Halted k) = (phase.Closed, next.Bad)
+abbrev pub step_on_outcome : Outcome → ObjectStep
+step_on_outcome (outcome.Done a) = step_on_answer a
+step_on_outcome (outcome.Aborted u) = (phase.Closed, next.Return (ended.Aborted u))
+step_on_outcome (outcome.Refused r) = (phase.Closed, next.Return (ended.Refused r))
+step_on_outcome (outcome.Halted k) = (phase.Closed, next.Bad)
 
 -- the operation that was called is decided; out of turn that is bad, and the call stands where it stood
-abbrev pub decided_at : Phase → Outcome → Stepped
-decided_at phase.Closed o = (phase.Closed, next.Bad)
-decided_at (phase.Keeping k h len) o = (phase.Keeping k h len, next.Bad)
-decided_at phase.Calling o = decided_as o
-decided_at (phase.Fetching h len) o = (phase.Fetching h len, next.Bad)
+abbrev pub step_on_decision : Phase → Outcome → ObjectStep
+step_on_decision phase.Closed o = (phase.Closed, next.Bad)
+step_on_decision (phase.Keeping k h len) o = (phase.Keeping k h len, next.Bad)
+step_on_decision phase.Calling o = step_on_outcome o
+step_on_decision (phase.Fetching h len) o = (phase.Fetching h len, next.Bad)
 
 -- a content that was to be kept, or an operation that was called, is refused
-abbrev pub refused_at : Phase → ℕ → Stepped
-refused_at phase.Closed r = (phase.Closed, next.Bad)
-refused_at (phase.Keeping k h len) r = decided_as (outcome.Refused r)
-refused_at phase.Calling r = decided_as (outcome.Refused r)
-refused_at (phase.Fetching h len) r = (phase.Fetching h len, next.Bad)
+abbrev pub step_on_refusal : Phase → ℕ → ObjectStep
+step_on_refusal phase.Closed r = (phase.Closed, next.Bad)
+step_on_refusal (phase.Keeping k h len) r = step_on_outcome (outcome.Refused r)
+step_on_refusal phase.Calling r = step_on_outcome (outcome.Refused r)
+step_on_refusal (phase.Fetching h len) r = (phase.Fetching h len, next.Bad)
 
 -- the answer to a Fetch: the content with the hash and the length of the reference, or it is bad
-abbrev pub fetched : Phase → Option (List ℕ) → Stepped
-fetched phase.Closed c = (phase.Closed, next.Bad)
-fetched (phase.Keeping k h len) c = (phase.Keeping k h len, next.Bad)
-fetched phase.Calling c = (phase.Calling, next.Bad)
-fetched (phase.Fetching h len) None = (phase.Closed, next.Bad)
-fetched (phase.Fetching h len) (Some c) = if is_content_of h.bytes len c then (phase.Closed, next.Return (ended.Content c)) else (phase.Closed, next.Bad)
+abbrev pub step_on_content : Phase → Option (List ℕ) → ObjectStep
+step_on_content phase.Closed c = (phase.Closed, next.Bad)
+step_on_content (phase.Keeping k h len) c = (phase.Keeping k h len, next.Bad)
+step_on_content phase.Calling c = (phase.Calling, next.Bad)
+step_on_content (phase.Fetching h len) None = (phase.Closed, next.Bad)
+step_on_content (phase.Fetching h len) (Some c) = if is_content_of h.bytes len c then (phase.Closed, next.Return (ended.Content c)) else (phase.Closed, next.Bad)
 
 -- the outcome with which a call is over, if it is
-abbrev pub over_with : Next → Option ObjectOutcome
-over_with (next.Return o) = Some o
-over_with (next.Keep c) = None
-over_with (next.Call o) = None
-over_with (next.Fetch h len) = None
-over_with next.Bad = None
+abbrev pub final_outcome : Next → Option ObjectOutcome
+final_outcome (next.Return o) = Some o
+final_outcome (next.Keep c) = None
+final_outcome (next.Call o) = None
+final_outcome (next.Fetch h len) = None
+final_outcome next.Bad = None
 
 -- whether the call of an operation belongs to a call on objects
 abbrev pub is_calling : Phase → Bool
@@ -142,7 +142,7 @@ is_calling (phase.Fetching h len) = false
 
 -- where a decided call leaves the call on objects that it belongs to, and what that returns
 abbrev pub after_decision : Phase → Outcome → Phase
-after_decision p o = if is_calling p then (decided_as o).0 else p
+after_decision p o = if is_calling p then (step_on_outcome o).0 else p
 
-abbrev pub ended_by : Phase → Outcome → Option ObjectOutcome
-ended_by p o = if is_calling p then over_with (decided_as o).1 else None
+abbrev pub outcome_after_decision : Phase → Outcome → Option ObjectOutcome
+outcome_after_decision p o = if is_calling p then final_outcome (step_on_outcome o).1 else None

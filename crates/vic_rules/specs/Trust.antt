@@ -19,12 +19,12 @@ use Rattle.vic_rules.specs.History.{standing, path, move_of, completions}
 use Rattle.vic_rules.specs.Views.{confirmed_calls, left_by}
 
 -- the answer that a client took at a step without halting
-abbrev pub taken_by : Standing → Input → Option ToClient
-taken_by after (input.Payload payload) = if is_none after.halted then read_answer payload else None
-taken_by after _ = None
+abbrev pub answer_unless_halted : Standing → Input → Option ToClient
+answer_unless_halted after (input.Payload payload) = if is_none after.halted then read_answer payload else None
+answer_unless_halted after _ = None
 
-unfoldable pub took : Group → List TraceStep → TraceStep → Option ToClient
-took g past x = taken_by (move_of g past x).next x.input
+unfoldable pub answer_taken : Group → List TraceStep → TraceStep → Option ToClient
+answer_taken g past x = answer_unless_halted (move_of g past x).next x.input
 
 abbrev pub seal_texts : Group → List Entry → Option Seal → List (List ℕ)
 seal_texts g p None = []
@@ -36,7 +36,7 @@ checked_texts g p None = []
 checked_texts g p (Some m) = seal_texts g p (seal_of m) ++ map (λ t. invoke_text t.entry) (entries_of m)
 
 abbrev pub texts_taken : Group → List TraceStep → TraceStep → List (List ℕ)
-texts_taken g past x = checked_texts g (move_of g past x).next.path (took g past x)
+texts_taken g past x = checked_texts g (move_of g past x).next.path (answer_taken g past x)
 
 abbrev pub text_sent : Group → ℕ → Standing → Option Sending → List (List ℕ)
 text_sent g me after None = []
@@ -66,7 +66,7 @@ parts_in _ = []
 -- the parts that were taken
 unfoldable pub parts_taken : Group → List TraceStep → List (List ℕ)
 parts_taken g [] = []
-parts_taken g (x ∷ past) = parts_in (took g past x) ++ parts_taken g past
+parts_taken g (x ∷ past) = parts_in (answer_taken g past x) ++ parts_taken g past
 
 -- the contents that clients sent to be kept, and those that they took
 abbrev pub content_sent : Option Sending → List (List ℕ)
@@ -85,11 +85,11 @@ content_in _ = []
 
 unfoldable pub contents_known : Group → List TraceStep → List (List ℕ)
 contents_known g [] = []
-contents_known g (x ∷ past) = content_sent (move_of g past x).sends ++ (content_in (took g past x) ++ contents_known g past)
+contents_known g (x ∷ past) = content_sent (move_of g past x).sends ++ (content_in (answer_taken g past x) ++ contents_known g past)
 
 -- the dictionary that the confirmed calls of a path leave
-abbrev pub applied : Group → List TraceStep → List Entry → List (List ℕ)
-applied g h p = node_texts (tree_of (left_by (confirmed_calls (completions g h) p)))
+abbrev pub node_texts_left : Group → List TraceStep → List Entry → List (List ℕ)
+node_texts_left g h p = node_texts (tree_of (left_by (confirmed_calls (completions g h) p)))
 
 -- the texts that the claim on collisions speaks of
 pub data IsListed (g : Group) (h : List TraceStep) : List ℕ → Type 0 where
@@ -97,7 +97,7 @@ pub data IsListed (g : Group) (h : List TraceStep) : List ℕ → Type 0 where
   of_path : {text : List ℕ} (me : ℕ) → IsIn (chain_texts g (path g me h)) text → IsListed g h text
   of_part : {text : List ℕ} (bytes : List ℕ) (part : Part) → IsIn (parts_taken g h) bytes → read_part bytes ≡ Some part → IsIn (part_texts part) text → IsListed g h text
   of_content : {text : List ℕ} (content : List ℕ) → IsIn (contents_known g h) content → text ≡ content_text content → IsListed g h text
-  of_sealed : {text : List ℕ} (me n : ℕ) → n ≤ (standing g me h).sealed → IsIn (applied g h (front n (path g me h))) text → IsListed g h text
+  of_sealed : {text : List ℕ} (me n : ℕ) → n ≤ (standing g me h).sealed → IsIn (node_texts_left g h (front n (path g me h))) text → IsListed g h text
 
 -- two different listed texts have one hash
 pub record Collides (g : Group) (h : List TraceStep) : Type 0 where

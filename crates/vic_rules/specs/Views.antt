@@ -21,9 +21,9 @@ or_else (Some c) other = Some c
 or_else None other = other
 
 -- how the owner of a path's last entry completed that call on this very path, if it did: the oldest such completion
-unfoldable pub confirmed : List Completion → List Entry → Option Completion
-confirmed [] p = None
-confirmed (c ∷ cs) p = or_else (confirmed cs p) (if pointwise same_entry c.prefix p then Some c else None)
+unfoldable pub confirmation : List Completion → List Entry → Option Completion
+confirmation [] p = None
+confirmation (c ∷ cs) p = or_else (confirmation cs p) (if pointwise same_entry c.prefix p then Some c else None)
 
 abbrev pub shown_as : Entry → Option Completion → List Shown
 shown_as e None = []
@@ -32,7 +32,7 @@ shown_as e (Some c) = record { entry = e; outcome = c.outcome } ∷ []
 -- the confirmed positions of a path
 unfoldable pub confirmed_calls : List Completion → List Entry → List Shown
 confirmed_calls cs [] = []
-confirmed_calls cs (e ∷ p) = shown_as e (confirmed cs (e ∷ p)) ++ confirmed_calls cs p
+confirmed_calls cs (e ∷ p) = shown_as e (confirmation cs (e ∷ p)) ++ confirmed_calls cs p
 
 -- the path up to the client's last completed call
 unfoldable pub last_prefix : ℕ → List Completion → List Entry

@@ -8,7 +8,7 @@ use Rattle.hex.specs.Hex.{decode_of}
 use Rattle.hex.proofs.OnLiterals.{hex_on_literals}
 use Rattle.vic_tag.specs.declared.key.KeyFault.{KeyFault}
 use Rattle.vic_tag.specs.Keys.{fault_in}
-use Rattle.vic_drill.specs.Drills.{group_of}
+use Rattle.vic_drill.specs.Drills.{drill_group}
 use Rattle.vic_run_drill.specs.declared.seat.Seat.{Seat}
 use Rattle.vic_run_drill.specs.declared.seat.UnderWay.TheVariants as under
 use Rattle.vic_run_drill.specs.Running.{requests, answers, SeatStands, HaveComeIn}
@@ -18,9 +18,9 @@ pub none_in : (size : ℕ) → HaveComeIn size 0 []
 none_in size = record { count = refl; up = refl; down = refl; clients = λ k m there. absurd cc }
 
 -- one more comes in
-pub comes_in : (size n : ℕ) (ms new : List Seat) (m : Seat) → HaveComeIn size n ms → new ≡ ms ++ m ∷ [] → m.under_way ≡ under.Nothing → SeatStands (group_of size) [] m (n + 1) → HaveComeIn size (n + 1) new
+pub comes_in : (size n : ℕ) (ms new : List Seat) (m : Seat) → HaveComeIn size n ms → new ≡ ms ++ m ∷ [] → m.under_way ≡ under.Nothing → SeatStands (drill_group size) [] m (n + 1) → HaveComeIn size (n + 1) new
 comes_in size n ms new m have is nothing stands =
-    let P : Seat → ℕ → Type 0 = λ c j. SeatStands (group_of size) [] c j in
+    let P : Seat → ℕ → Type 0 = λ c j. SeatStands (drill_group size) [] c j in
     let place : n + 1 ≡ 1 + length ms = omega (arith, have.count) in
     let now : P m (1 + length ms) = subst (λ (j : ℕ). P m j) place stands in
     let turned : (k : ℕ) → k + 1 ≡ 1 + k = λ k. omega arith in

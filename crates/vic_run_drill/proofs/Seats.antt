@@ -7,25 +7,25 @@ use Rattle.vic_rules.specs.Client.{Standing, Move, step, payload_of}
 use Rattle.vic_rules.specs.History.{standing}
 use Rattle.vic_laws.proofs.Standings.{standing_moved}
 use Rattle.vic_client.specs.declared.step.Step.{Step}
-use Rattle.vic_client.specs.Kept.{Kept, StandsFor, IsSame, move_of, sent_at}
+use Rattle.vic_client.specs.Kept.{KeptClient, StandsFor, IsSameClient, kept_move, sent_at}
 use Rattle.vic_run_drill.specs.declared.seat.Seat.{Seat}
 use Rattle.vic_run_drill.specs.Running.{sent_on, SeatStands, step_at, Steps}
 
-module _ (g : Group) (h : List TraceStep) (i : ℕ) (given : Input) (old : Seat) (new : Kept) (so : SeatStands g h old i) (same : IsSame old.client new) where
+module _ (g : Group) (h : List TraceStep) (i : ℕ) (given : Input) (old : Seat) (new : KeptClient) (so : SeatStands g h old i) (same : IsSameClient old.client new) where
   abbrev here : Standing
   here = standing g i h
 
-  moved : move_of old.client here given ≡ step g i here given
+  moved : kept_move old.client here given ≡ step g i here given
   moved = ap (λ (k : Group). step k old.client.id here given) so.group ∙ ap (λ (n : ℕ). step g n here given) so.id
 
-  sent_is : sent_at old.client (move_of old.client here given) ≡ (step_at g h i given).sent
+  sent_is : sent_at old.client (kept_move old.client here given) ≡ (step_at g h i given).sent
   sent_is =
-      ap (λ (k : Group). payload_of k old.client.id (move_of old.client here given).next (move_of old.client here given).sends) so.group
-      ∙ ap (λ (n : ℕ). payload_of g n (move_of old.client here given).next (move_of old.client here given).sends) so.id
+      ap (λ (k : Group). payload_of k old.client.id (kept_move old.client here given).next (kept_move old.client here given).sends) so.group
+      ∙ ap (λ (n : ℕ). payload_of g n (kept_move old.client here given).next (kept_move old.client here given).sends) so.id
       ∙ ap (λ (v : Move). payload_of g i v.next v.sends) moved
 
   -- it made its step
-  pub steps_so : (sent : Option (List ℕ)) → sent ≡ sent_at old.client (move_of old.client here given) → StandsFor new (move_of old.client here given).next → Steps g h i given (record { client = new; under_way = sent_on sent })
+  pub steps_so : (sent : Option (List ℕ)) → sent ≡ sent_at old.client (kept_move old.client here given) → StandsFor new (kept_move old.client here given).next → Steps g h i given (record { client = new; under_way = sent_on sent })
   steps_so sent e stands = record {
     under_way = ap sent_on (e ∙ sent_is);
     stands = record {
@@ -36,5 +36,5 @@ module _ (g : Group) (h : List TraceStep) (i : ℕ) (given : Input) (old : Seat)
   }
 
   -- and returned what the step returns
-  pub returned_so : (r : Step) → r.returned ≡ (move_of old.client here given).returns → r.returned ≡ (step_at g h i given).returned
+  pub returned_so : (r : Step) → r.returned ≡ (kept_move old.client here given).returns → r.returned ≡ (step_at g h i given).returned
   returned_so r e = e ∙ ap (λ (v : Move). v.returns) moved

@@ -13,16 +13,16 @@ use Rattle.vic_rules.specs.declared.trace.TraceStep.{TraceStep}
 use Rattle.vic_rules.specs.Client.{Standing}
 use Rattle.vic_rules.specs.History.{standing}
 use Rattle.vic_laws.proofs.Standings.{standing_kept}
-use Rattle.vic_client.specs.Kept.{Kept, StandsFor, group_of as kept_group}
+use Rattle.vic_client.specs.Kept.{KeptClient, StandsFor, kept_group}
 use Rattle.vic_order.specs.Order.{Server}
 use Rattle.vic_order.specs.Serving.{by_rule}
-use Rattle.vic_order.specs.Scenes.{Scene, Queue, queue_of, set_queue, queued, server_at, set_server, server_of, steps, served, served_with, serves, taken, takes, unchanged}
+use Rattle.vic_order.specs.Scenes.{Scene, Queue, queue_of, set_queue, queue_with, server_at, set_server, server_of, after_step, after_serving_from, after_serving_with, after_serving, after_taking_from, after_taking, payload_as_is}
 use Rattle.vic_drill.specs.Drills.{waits_for, ends_done, ends_aborted, ends_refused, count_of}
 use Rattle.vic_run_drill.specs.declared.seat.Seat.{Seat}
 use Rattle.vic_run_drill.specs.declared.seat.UnderWay.{UnderWay}
 use Rattle.vic_run_drill.specs.declared.seat.UnderWay.TheVariants as under
 use Rattle.vic_run_drill.specs.declared.tally.Tally.{Tally}
-use Rattle.vic_run_drill.specs.Running.{requests, answers, is_under_way, sent_on, SeatStands, step_at, Steps, one_if, counted, ShowsScene}
+use Rattle.vic_run_drill.specs.Running.{requests, answers, is_under_way, sent_on, SeatStands, step_at, Steps, one_if, tally_with, ShowsScene}
 use Rattle.vic_run_drill.proofs.Rows.{get_set, get_other, set_same, get_replicate}
 
 -- ---- counts
@@ -36,7 +36,7 @@ count_next ends x h n e =
     ap (λ (k : ℕ). k + one_if (ends x.returned)) e ∙ one_cond (ends x.returned) (count_of ends h) ∙ sym (sum_by-cons (λ (y : TraceStep). cond (ends y.returned) 1 0) x h)
 
 -- a step that returns nothing counts nothing
-pub uncounted : (t : Tally) → counted t None ≡ t
+pub uncounted : (t : Tally) → tally_with t None ≡ t
 uncounted t =
     let zero_more : (n : ℕ) → n + 0 ≡ n = λ n. omega arith in
     ap (λ (n : ℕ). record { done = n; aborted = t.aborted + 0; refused = t.refused + 0 }) (zero_more t.done)
@@ -45,7 +45,7 @@ uncounted t =
 
 -- ---- what is under way
 
-queued_on : (o : Option (List ℕ)) → requests (sent_on o) ≡ queued [] o
+queued_on : (o : Option (List ℕ)) → requests (sent_on o) ≡ queue_with [] o
 queued_on None = refl
 queued_on (Some payload) = refl
 
@@ -69,9 +69,9 @@ stays_apart g h x m j apart so = record {
 -- a seat with the same client stands where it stands
 same_seat : (g : Group) (h : List TraceStep) (m n : Seat) (j : ℕ) → n.client ≡ m.client → SeatStands g h m j → SeatStands g h n j
 same_seat g h m n j e so = record {
-  id = ap (λ (k : Kept). k.id) e ∙ so.id;
-  group = ap (λ (k : Kept). kept_group k) e ∙ so.group;
-  stands = subst (λ (k : Kept). StandsFor k (standing_of j)) (sym e) so.stands;
+  id = ap (λ (k : KeptClient). k.id) e ∙ so.id;
+  group = ap (λ (k : KeptClient). kept_group k) e ∙ so.group;
+  stands = subst (λ (k : KeptClient). StandsFor k (standing_of j)) (sym e) so.stands;
 }
   where
     standing_of : ℕ → Standing
@@ -141,7 +141,7 @@ module _ (ms : List Seat) (v : Server) (t : Tally) (s : Scene) (shows : ShowsSce
 
   -- the client made a step
   made : (given : Input) (n : Seat) → Steps s.group s.history i given n
-      → ShowsScene (slice_set ms k n) v (counted t (step_at s.group s.history i given).returned)
+      → ShowsScene (slice_set ms k n) v (tally_with t (step_at s.group s.history i given).returned)
       (record s { history = step_at s.group s.history i given ∷ s.history; up = set_queue s.up i (requests n.under_way); down = set_queue s.down i (answers n.under_way) })
   made given n next =
       let x : TraceStep = step_at s.group s.history i given in
@@ -159,40 +159,40 @@ module _ (ms : List Seat) (v : Server) (t : Tally) (s : Scene) (shows : ShowsSce
 
   -- it was asked for something, while nothing was under way for it
   pub shows_asked : (given : Input) (n : Seat) → m.under_way ≡ under.Nothing → Steps s.group s.history i given n
-      → ShowsScene (slice_set ms k n) v (counted t (step_at s.group s.history i given).returned) (steps s i given)
-  unfolding steps
+      → ShowsScene (slice_set ms k n) v (tally_with t (step_at s.group s.history i given).returned) (after_step s i given)
+  unfolding after_step
   shows_asked given n rests next =
       let x : TraceStep = step_at s.group s.history i given in
       let none_up : queue_of s.up i ≡ [] = up_here ∙ ap requests rests in
       let none_down : answers m.under_way ≡ [] = ap answers rests in
-      let up : requests n.under_way ≡ queued (queue_of s.up i) x.sent = ap requests next.under_way ∙ queued_on x.sent ∙ ap (λ (q : Queue). queued q x.sent) (sym none_up) in
+      let up : requests n.under_way ≡ queue_with (queue_of s.up i) x.sent = ap requests next.under_way ∙ queued_on x.sent ∙ ap (λ (q : Queue). queue_with q x.sent) (sym none_up) in
       let down : set_queue s.down i (answers n.under_way) ≡ s.down =
       ap (λ (u : UnderWay). set_queue s.down i (answers u)) next.under_way ∙ ap (λ (q : Queue). set_queue s.down i q) (no_answers x.sent ∙ sym none_down)
       ∙ row_same (λ (c : Seat). answers c.under_way) s.down shows.down in
-      subst (λ (q : List Queue). ShowsScene (slice_set ms k n) v (counted t x.returned) (record s { history = x ∷ s.history; up = set_queue s.up i (queued (queue_of s.up i) x.sent); down = q })) down
-      (subst (λ (q : Queue). ShowsScene (slice_set ms k n) v (counted t x.returned) (record s { history = x ∷ s.history; up = set_queue s.up i q; down = set_queue s.down i (answers n.under_way) })) up
+      subst (λ (q : List Queue). ShowsScene (slice_set ms k n) v (tally_with t x.returned) (record s { history = x ∷ s.history; up = set_queue s.up i (queue_with (queue_of s.up i) x.sent); down = q })) down
+      (subst (λ (q : Queue). ShowsScene (slice_set ms k n) v (tally_with t x.returned) (record s { history = x ∷ s.history; up = set_queue s.up i q; down = set_queue s.down i (answers n.under_way) })) up
       (made given n next))
 
   -- it took the answer that was under way
   pub shows_taken : (payload : List ℕ) (n : Seat) → m.under_way ≡ under.Answer payload → Steps s.group s.history i (input.Payload payload) n
-      → ShowsScene (slice_set ms k n) v (counted t (step_at s.group s.history i (input.Payload payload)).returned) (takes unchanged s i)
-  unfolding takes steps
+      → ShowsScene (slice_set ms k n) v (tally_with t (step_at s.group s.history i (input.Payload payload)).returned) (after_taking payload_as_is s i)
+  unfolding after_taking after_step
   shows_taken payload n waits next =
       let x : TraceStep = step_at s.group s.history i (input.Payload payload) in
       let none_up : queue_of s.up i ≡ [] = up_here ∙ ap requests waits in
       let one_down : queue_of s.down i ≡ payload ∷ [] = down_here ∙ ap answers waits in
-      let up : requests n.under_way ≡ queued (queue_of s.up i) x.sent = ap requests next.under_way ∙ queued_on x.sent ∙ ap (λ (q : Queue). queued q x.sent) (sym none_up) in
+      let up : requests n.under_way ≡ queue_with (queue_of s.up i) x.sent = ap requests next.under_way ∙ queued_on x.sent ∙ ap (λ (q : Queue). queue_with q x.sent) (sym none_up) in
       let down : answers n.under_way ≡ [] = ap answers next.under_way ∙ no_answers x.sent in
-      let shown : ShowsScene (slice_set ms k n) v (counted t x.returned) (taken unchanged s i (payload ∷ [])) =
-      subst (λ (q : Queue). ShowsScene (slice_set ms k n) v (counted t x.returned) (record s { history = x ∷ s.history; up = set_queue s.up i (queued (queue_of s.up i) x.sent); down = set_queue s.down i q })) down
-      (subst (λ (q : Queue). ShowsScene (slice_set ms k n) v (counted t x.returned) (record s { history = x ∷ s.history; up = set_queue s.up i q; down = set_queue s.down i (answers n.under_way) })) up
+      let shown : ShowsScene (slice_set ms k n) v (tally_with t x.returned) (after_taking_from payload_as_is s i (payload ∷ [])) =
+      subst (λ (q : Queue). ShowsScene (slice_set ms k n) v (tally_with t x.returned) (record s { history = x ∷ s.history; up = set_queue s.up i (queue_with (queue_of s.up i) x.sent); down = set_queue s.down i q })) down
+      (subst (λ (q : Queue). ShowsScene (slice_set ms k n) v (tally_with t x.returned) (record s { history = x ∷ s.history; up = set_queue s.up i q; down = set_queue s.down i (answers n.under_way) })) up
       (made (input.Payload payload) n next)) in
-      subst (λ (q : Queue). ShowsScene (slice_set ms k n) v (counted t x.returned) (taken unchanged s i q)) (sym one_down) shown
+      subst (λ (q : Queue). ShowsScene (slice_set ms k n) v (tally_with t x.returned) (after_taking_from payload_as_is s i q)) (sym one_down) shown
 
   -- the server answered the request that was under way
   pub shows_served : (payload : List ℕ) (n : Seat) → m.under_way ≡ under.Request payload → n ≡ record m { under_way = under.Answer (by_rule v i i payload).0 }
-      → ShowsScene (slice_set ms k n) (by_rule v i i payload).1 t (serves by_rule s i)
-  unfolding serves
+      → ShowsScene (slice_set ms k n) (by_rule v i i payload).1 t (after_serving by_rule s i)
+  unfolding after_serving
   shows_served payload n waits is_n =
       let a : List ℕ × Server = by_rule v i i payload in
       let one_up : queue_of s.up i ≡ payload ∷ [] = up_here ∙ ap requests waits in
@@ -201,7 +201,7 @@ module _ (ms : List Seat) (v : Server) (t : Tally) (s : Scene) (shows : ShowsSce
       let down : answers n.under_way ≡ queue_of s.down i ++ a.0 ∷ [] = ap (λ (c : Seat). answers c.under_way) is_n ∙ ap (λ (q : Queue). q ++ a.0 ∷ []) (sym none_down) in
       let servers : set_server s.servers (server_of s.served_by i) (Some a.1) ≡ Some a.1 ∷ None ∷ None ∷ None ∷ [] =
       ap (λ (j : ℕ). set_server s.servers j (Some a.1)) number_here ∙ ap (λ (us : List (Option Server)). set_server us 1 (Some a.1)) shows.servers in
-      let shown : ShowsScene (slice_set ms k n) a.1 t (served_with s i [] a) = record {
+      let shown : ShowsScene (slice_set ms k n) a.1 t (after_serving_with s i [] a) = record {
         count = count_set n ∙ shows.count;
         up = row_set (λ (c : Seat). requests c.under_way) s.up shows.up n ∙ ap (λ (q : Queue). set_queue s.up i q) up;
         down = row_set (λ (c : Seat). answers c.under_way) s.down shows.down n ∙ ap (λ (q : Queue). set_queue s.down i q) down;
@@ -212,8 +212,8 @@ module _ (ms : List Seat) (v : Server) (t : Tally) (s : Scene) (shows : ShowsSce
         aborted = shows.aborted;
         refused = shows.refused;
       } in
-      subst (λ (q : Queue). ShowsScene (slice_set ms k n) a.1 t (served by_rule s i q (server_at s.servers (server_of s.served_by i)))) (sym one_up)
-      (subst (λ (o : Option Server). ShowsScene (slice_set ms k n) a.1 t (served by_rule s i (payload ∷ []) o)) (sym server_here) shown)
+      subst (λ (q : Queue). ShowsScene (slice_set ms k n) a.1 t (after_serving_from by_rule s i q (server_at s.servers (server_of s.served_by i)))) (sym one_up)
+      (subst (λ (o : Option Server). ShowsScene (slice_set ms k n) a.1 t (after_serving_from by_rule s i (payload ∷ []) o)) (sym server_here) shown)
 
   -- the seat is as before
   pub shows_same : (n : Seat) → n ≡ m → ShowsScene (slice_set ms k n) v t s

@@ -7,14 +7,14 @@ use Rattle.vic_rules.specs.declared.trace.Input.TheVariants as input
 use Rattle.vic_rules.specs.declared.trace.TraceStep.{TraceStep}
 use Rattle.vic_rules.specs.Client.{step, payload_of}
 use Rattle.vic_rules.specs.History.{standing}
-use Rattle.vic_client.specs.Kept.{StandsFor, group_of as kept_group}
+use Rattle.vic_client.specs.Kept.{StandsFor, kept_group}
 use Rattle.std.specs.FinMap as finite
 use Rattle.vic_order.specs.Order.{Server, sealed_count, weight}
 use Rattle.vic_order.specs.Serving.{by_rule}
 use Rattle.vic_order.specs.Scenes.{Scene, Queue}
 use Rattle.vic_gen.specs.declared.Act.{Act}
 use Rattle.vic_gen.specs.declared.Act.TheVariants as act
-use Rattle.vic_drill.specs.Drills.{Drill as Definition, group_of, waits_for, goes_on, closes, ends_done, ends_aborted, ends_refused, count_of, line}
+use Rattle.vic_drill.specs.Drills.{DrillState, drill_group, waits_for, drill_after_delivery, drill_after_closing, ends_done, ends_aborted, ends_refused, count_of, line}
 use Rattle.vic_drill.specs.Laws.{RunsHonestly}
 use Rattle.vic_run_drill.specs.declared.seat.Seat.{Seat}
 use Rattle.vic_run_drill.specs.declared.seat.UnderWay.{UnderWay}
@@ -90,7 +90,7 @@ pub record HaveComeIn (size n : ℕ) (ms : List Seat) : Type 0 where
   pub count : length ms ≡ n
   pub up : map (λ m. requests m.under_way) ms ≡ replicate n []
   pub down : map (λ m. answers m.under_way) ms ≡ replicate n []
-  pub clients : (k : ℕ) (m : Seat) → slice_get ms k ≡ Some m → SeatStands (group_of size) [] m (k + 1)
+  pub clients : (k : ℕ) (m : Seat) → slice_get ms k ≡ Some m → SeatStands (drill_group size) [] m (k + 1)
 
 -- ---- counts
 
@@ -99,8 +99,8 @@ one_if true = 1
 one_if false = 0
 
 -- counts, behind a step that returned this
-abbrev pub counted : Tally → Option Outcome → Tally
-counted t r = record { done = t.done + one_if (ends_done r); aborted = t.aborted + one_if (ends_aborted r); refused = t.refused + one_if (ends_refused r) }
+abbrev pub tally_with : Tally → Option Outcome → Tally
+tally_with t r = record { done = t.done + one_if (ends_done r); aborted = t.aborted + one_if (ends_aborted r); refused = t.refused + one_if (ends_refused r) }
 
 -- one more can be counted of each
 abbrev pub CanCount : Tally → Type 0
@@ -121,29 +121,29 @@ pub record ShowsScene (ms : List Seat) (v : Server) (t : Tally) (s : Scene) : Ty
   pub refused : t.refused ≡ count_of ends_refused s.history
 
 -- the code stands where this drill does, which runs honestly
-pub record Stands (r : Drill) (d : Definition) (n : ℕ) : Type 0 where
+pub record Stands (r : Drill) (d : DrillState) (n : ℕ) : Type 0 where
   pub scene : ShowsScene r.seats.items r.served.server r.tally d.scene
   pub drawing : r.generator ≡ d.drawing
   pub calls : r.calls ≡ d.calls
   pub runs : RunsHonestly (length r.seats.items) d n
 
 -- what was under way for a client went on; or nothing was, and all is as before
-abbrev pub WentOn : Drill → Definition → ℕ → ℕ → Bool → Type 0
-WentOn r d n me true = (waits_for d.scene me ≡ true) × Stands r (goes_on me d) (n + 1)
+abbrev pub WentOn : Drill → DrillState → ℕ → ℕ → Bool → Type 0
+WentOn r d n me true = (waits_for d.scene me ≡ true) × Stands r (drill_after_delivery me d) (n + 1)
 WentOn r d n me false = (waits_for d.scene me ≡ false) × Stands r d n
 
 -- the closing phase went on; or nothing is left of it
-abbrev pub Closes : Drill → Definition → ℕ → Bool → Type 0
-Closes r d n true = Stands r (closes d) (n + 1)
-Closes r d n false = (closes d ≡ d) × Stands r d n
+abbrev pub Closes : Drill → DrillState → ℕ → Bool → Type 0
+Closes r d n true = Stands r (drill_after_closing d) (n + 1)
+Closes r d n false = (drill_after_closing d ≡ d) × Stands r d n
 
 -- there is such a drill, and it can go on
 abbrev pub IsGoing : Drill → Type 0
-IsGoing r = (d : Definition) × ((n : ℕ) × ((n + 1 < 2 ^ 32) × Stands r d n))
+IsGoing r = (d : DrillState) × ((n : ℕ) × ((n + 1 < 2 ^ 32) × Stands r d n))
 
 -- and nothing is under way for this client
 abbrev pub IsAtRest : Drill → ℕ → Type 0
-IsAtRest r me = (d : Definition) × ((n : ℕ) × ((n + 1 < 2 ^ 32) × (Stands r d n × (waits_for d.scene me ≡ false))))
+IsAtRest r me = (d : DrillState) × ((n : ℕ) × ((n + 1 < 2 ^ 32) × (Stands r d n × (waits_for d.scene me ≡ false))))
 
 -- the eight lines, of the counts and of the server
 abbrev pub summary_lines : ℕ → ℕ → Tally → Server → List ℕ

@@ -1,7 +1,7 @@
 //! The clients with which a drill opens, and its key.
 
 ghost use Rattle.std.specs.Prelude.{◌≡◌, ◌<◌, ◌≤◌, ◌+◌, ℕ, Some, [], length, replicate, slice_get, IfOk};
-ghost use Rattle.vic_drill.specs.Drills.{group_of};
+ghost use Rattle.vic_drill.specs.Drills.{drill_group};
 ghost use Rattle.vic_run_drill.specs.declared.seat.Seat.{Seat as ASeat};
 ghost use Rattle.vic_run_drill.specs.Running.{SeatStands, HaveComeIn};
 
@@ -30,7 +30,7 @@ fn entered(alloc: Global, id: u8, count: u8) -> Result<Seat, NoMemory>
     requires member { id ≤ count }
     requires few { count ≤ 64 }
     ensures nothing { IfOk result (λ m. m.under_way ≡ UnderWay.Nothing) }
-    ensures stands { IfOk result (λ m. SeatStands (group_of count) [] m id) }
+    ensures stands { IfOk result (λ m. SeatStands (drill_group count) [] m id) }
 {
     let key = zero_key(alloc)?;
     Ok(Seat {

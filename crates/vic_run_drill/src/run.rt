@@ -1,7 +1,7 @@
 //! The run of a drill, and its summary.
 
 ghost use Rattle.std.specs.Prelude.{◌≡◌, ◌<◌, ◌≤◌, ◌+◌, ◌^◌, ◌++◌, ℕ, false, length, IfOk, OnOk};
-ghost use Rattle.vic_drill.specs.Drills.{Drill as Definition, begun as begins, waits_for, acts_next, turn as turn_by, turn_below, repeats, first_waiting, closes, most_turns as most_turns_by, most_events as most_events_by, drill as drill_by, line, print_of_drill};
+ghost use Rattle.vic_drill.specs.Drills.{DrillState, drill_at_start, waits_for, drill_after_next_act, drill_after_turn, drill_after_turn_below, drill_after_repeats, first_waiting, drill_after_closing, most_turns as most_turns_by, most_events as most_events_by, drill_of, line, print_of_drill};
 ghost use Rattle.vic_drill.specs.Laws.{IsHonestDrill};
 ghost use Rattle.vic_run_drill.specs.Running.{calls_of, summary_lines};
 
@@ -58,7 +58,7 @@ impl Drill {
     fn begun(alloc: Global, number: u32, clients: u8) -> Result<Drill, NoMemory>
         requires some { 0 < clients }
         requires few { clients ≤ 64 }
-        ensures { IfOk result (λ r. Stands r (begins number clients) 0) }
+        ensures { IfOk result (λ r. Stands r (drill_at_start number clients) 0) }
     {
         Ok(Drill {
             seats: entered_all(alloc, clients)?,
@@ -78,7 +78,7 @@ impl Drill {
         requires going { IsGoing self.old }
         requires some { 0 < who }
         requires known { who ≤ length self.old.seats.items }
-        ensures { (d : Definition) (n : ℕ) → Stands self.old d n → IfOk result (WentOn self.new d n who) }
+        ensures { (d : DrillState) (n : ℕ) → Stands self.old d n → IfOk result (WentOn self.new d n who) }
     {
         let place = usize::from(who) - 1;
         match self.seats[place].go_on(alloc, &mut self.served, who)? {
@@ -97,8 +97,8 @@ impl Drill {
         requires some { 0 < who }
         requires known { who ≤ length self.old.seats.items }
         requires few { self.old.calls < 100000 }
-        ensures { (d : Definition) (n : ℕ) → n + 1 < 2 ^ 32 → Stands self.old d n → waits_for d.scene who ≡ false
-            → OnOk result (Stands self.new (acts_next who d) (n + 1)) }
+        ensures { (d : DrillState) (n : ℕ) → n + 1 < 2 ^ 32 → Stands self.old d n → waits_for d.scene who ≡ false
+            → OnOk result (Stands self.new (drill_after_next_act who d) (n + 1)) }
     {
         let place = usize::from(who) - 1;
         let act = self.generator.act(alloc, who, self.calls + 1)?;
@@ -111,7 +111,7 @@ impl Drill {
     fn turn(&mut self, alloc: Global) -> Result<(), NoMemory>
         requires going { IsGoing self.old }
         requires few { self.old.calls < 100000 }
-        ensures { (d : Definition) (n : ℕ) → n + 1 < 2 ^ 32 → Stands self.old d n → OnOk result (Stands self.new (turn_by d) (n + 1)) }
+        ensures { (d : DrillState) (n : ℕ) → n + 1 < 2 ^ 32 → Stands self.old d n → OnOk result (Stands self.new (drill_after_turn d) (n + 1)) }
     {
         let who = self.generator.pick();
         if self.go_on(alloc, who)? {
@@ -122,10 +122,10 @@ impl Drill {
 
     // Turns, until so many calls were made.
     fn make_calls(&mut self, alloc: Global, most: u32, calls: u32) -> Result<(), NoMemory>
-        requires begun { (d : Definition) × Stands self.old d 0 }
+        requires begun { (d : DrillState) × Stands self.old d 0 }
         requires most { most < 2 ^ 30 }
         requires few { calls ≤ 100000 }
-        ensures { (d : Definition) → Stands self.old d 0 → OnOk result (Stands self.new (repeats most (turn_below calls) d) most) }
+        ensures { (d : DrillState) → Stands self.old d 0 → OnOk result (Stands self.new (drill_after_repeats most (drill_after_turn_below calls) d) most) }
     {
         for _turn in 0..most {
             if calls <= self.calls {
@@ -139,7 +139,7 @@ impl Drill {
     // The first client for whom something is under way.
     fn first_waiting(&self) -> Option<u8>
         requires { IsGoing self.now }
-        ensures { (d : Definition) (n : ℕ) → Stands self.now d n → first_waiting d.scene 1 d.scene.group.count ≡ result }
+        ensures { (d : DrillState) (n : ℕ) → Stands self.now d n → first_waiting d.scene 1 d.scene.group.count ≡ result }
     {
         for (place, seat) in self.seats.iter().enumerate() {
             if seat.waits() {
@@ -153,7 +153,7 @@ impl Drill {
     // Whether anything was left to do.
     fn close(&mut self, alloc: Global) -> Result<bool, NoMemory>
         requires { IsGoing self.old }
-        ensures { (d : Definition) (n : ℕ) → Stands self.old d n → IfOk result (Closes self.new d n) }
+        ensures { (d : DrillState) (n : ℕ) → Stands self.old d n → IfOk result (Closes self.new d n) }
     {
         if let Some(who) = self.first_waiting() {
             return self.go_on(alloc, who);
@@ -168,9 +168,9 @@ impl Drill {
 
     // All that is under way arrives, and all is sealed.
     fn seal_all(&mut self, alloc: Global, most: u32) -> Result<(), NoMemory>
-        requires begun { (d : Definition) × ((n : ℕ) × ((n < 2 ^ 30) × Stands self.old d n)) }
+        requires begun { (d : DrillState) × ((n : ℕ) × ((n < 2 ^ 30) × Stands self.old d n)) }
         requires most { most < 2 ^ 30 }
-        ensures { (d : Definition) (n : ℕ) → Stands self.old d n → OnOk result (Stands self.new (repeats most closes d) (n + most)) }
+        ensures { (d : DrillState) (n : ℕ) → Stands self.old d n → OnOk result (Stands self.new (drill_after_repeats most drill_after_closing d) (n + most)) }
     {
         for _event in 0..most {
             if !self.close(alloc)? {
@@ -216,7 +216,7 @@ pub fn summary_of(alloc: Global, number: u32, clients: u8, calls: u32) -> Result
     requires few { clients ≤ 64 }
     requires bound { calls ≤ 100000 }
     ensures text { IfOk result (λ text. text ≡ print_of_drill number clients calls) }
-    ensures honest { IsHonestDrill (drill_by number clients calls) }
+    ensures honest { IsHonestDrill (drill_of number clients calls) }
 {
     let mut drill = Drill::begun(alloc, number, clients)?;
     drill.make_calls(alloc, most_turns(calls), calls)?;

@@ -4,7 +4,7 @@ ghost use Rattle.std.specs.Prelude.{◌≡◌, ◌<◌, ◌+◌, ◌^◌, ℕ, I
 ghost use Rattle.vic_wire.specs.Hashes.{Group};
 ghost use Rattle.vic_rules.specs.declared.trace.TraceStep.{TraceStep};
 ghost use Rattle.vic_rules.specs.Client.{Standing};
-ghost use Rattle.vic_client.specs.Kept.{StandsFor, IsSame, is_idle, move_of, sent_at};
+ghost use Rattle.vic_client.specs.Kept.{StandsFor, IsSameClient, is_idle, kept_move, sent_at};
 ghost use Rattle.vic_gen.specs.Drawing.{FitsAct};
 ghost use Rattle.vic_run_drill.specs.Running.{is_under_way, sent_on as sent_on_by, input_of};
 
@@ -49,9 +49,9 @@ fn ask(alloc: Global, client: &mut Client, act: &Act) -> Result<Bytes, NoMemory>
     requires plain { client.old.mode ≡ Mode.Plain }
     requires few { client.old.calls + 1 < 2 ^ 32 }
     requires fits { FitsAct act.now }
-    ensures same { IsSame client.old client.new }
-    ensures sent { (s : Standing) → StandsFor client.old s → IfOk result (λ b. Some b ≡ sent_at client.old (move_of client.old s (input_of act.now))) }
-    ensures stands { (s : Standing) → StandsFor client.old s → OnOk result (StandsFor client.new (move_of client.old s (input_of act.now)).next) }
+    ensures same { IsSameClient client.old client.new }
+    ensures sent { (s : Standing) → StandsFor client.old s → IfOk result (λ b. Some b ≡ sent_at client.old (kept_move client.old s (input_of act.now))) }
+    ensures stands { (s : Standing) → StandsFor client.old s → OnOk result (StandsFor client.new (kept_move client.old s (input_of act.now)).next) }
     ensures err { OnErr result (client.new ≡ client.old) }
 {
     match act {

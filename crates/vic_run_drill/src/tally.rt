@@ -1,7 +1,7 @@
 //! How the calls of a drill ended.
 
 ghost use Rattle.std.specs.Prelude.{◌≡◌};
-ghost use Rattle.vic_run_drill.specs.Running.{CanCount, counted};
+ghost use Rattle.vic_run_drill.specs.Running.{CanCount, tally_with};
 
 use vic_dict::Outcome;
 
@@ -17,7 +17,7 @@ impl Tally {
     /// Counts what a step returned.
     pub fn count(&mut self, returned: &Option<Outcome>)
         requires { CanCount self.old }
-        ensures { self.new ≡ counted self.old returned.now }
+        ensures { self.new ≡ tally_with self.old returned.now }
     {
         match returned {
             Some(Outcome::Done(_)) => self.done += 1,

@@ -19,7 +19,7 @@ use Rattle.vic_honest.proofs.Words.{all-drop}
 use Rattle.vic_order.specs.Order.{Server, serve}
 use Rattle.vic_attacks.specs.declared.HostileKind.{HostileKind}
 use Rattle.vic_attacks.specs.declared.HostileKind.TheVariants as kind
-use Rattle.vic_attacks.specs.Hostile.{Hostile, hostile_from, number, is_late, or_server, kept_server, or_dictionary, past_dictionary, or_none, told_to, with_told, same, swapped, with_swap, empty_part, with_empty_part, part_or_bare, last_op, next_op, with_part_of, without_last, by_going, by_going_beside_kept, by_kept, again, late, is_replay, early, by_kind}
+use Rattle.vic_attacks.specs.Hostile.{Hostile, hostile_from, number, is_late, or_server, kept_server, or_dictionary, past_dictionary, or_none, told_to, with_told, answer_as_is, entries_with_swap, with_swap, empty_part, with_empty_part, part_or_bare, last_op, next_op, with_part_of, without_last, by_going, by_going_beside_kept, by_kept, by_last_answer, by_late_request, is_replay, by_early_request, by_kind}
 use Rattle.vic_runs.specs.Reached.{ServerHolds, IfThere, HostileHolds}
 use Rattle.vic_runs.proofs.Lists.{all-set, all-replicate}
 use Rattle.vic_runs.proofs.Keeping.{SpeaksBytes, spoken-bytes, holds-serve}
@@ -30,8 +30,8 @@ use Rattle.vic_runs.proofs.Keeping.{SpeaksBytes, spoken-bytes, holds-serve}
 abbrev LeavesBytes : (ToClient → ToClient) → Type 0
 LeavesBytes change = (a : ToClient) → SpeaksBytes a → SpeaksBytes (change a)
 
-same-bytes : LeavesBytes same
-same-bytes a h = h
+answer_as_is-bytes : LeavesBytes answer_as_is
+answer_as_is-bytes a h = h
 
 all-take : {X : Type 0} (P : X → Type 0) (n : ℕ) (xs : List X) → AllByRecursion P xs → AllByRecursion P (take n xs)
 all-take P zero xs h = tt
@@ -42,14 +42,14 @@ all-reverse : {X : Type 0} (P : X → Type 0) (xs : List X) → AllByRecursion P
 all-reverse P [] h = tt
 all-reverse P (x ∷ xs) h = subst (AllByRecursion P) (sym (reverse-append (x ∷ []) xs)) (all_append P (reverse xs) (x ∷ []) (all-reverse P xs h.1) (h.0, tt))
 
-swapped-bytes : (ts : List Tagged) → AllByRecursion TaggedBytes ts → AllByRecursion TaggedBytes (swapped ts)
-swapped-bytes ts h =
+entries_with_swap-bytes : (ts : List Tagged) → AllByRecursion TaggedBytes ts → AllByRecursion TaggedBytes (entries_with_swap ts)
+entries_with_swap-bytes ts h =
     all_append TaggedBytes (reverse (take (length ts - 1) ts)) (drop (length ts - 1) ts) (all-reverse TaggedBytes (take (length ts - 1) ts) (all-take TaggedBytes (length ts - 1) ts h))
     (all-drop TaggedBytes (length ts - 1) ts h)
 
 swap-bytes : LeavesBytes with_swap
 swap-bytes say.Hi h = h
-swap-bytes (say.Reply x ts part) h = (h.0, (swapped-bytes ts h.1.0, h.1.1))
+swap-bytes (say.Reply x ts part) h = (h.0, (entries_with_swap-bytes ts h.1.0, h.1.1))
 swap-bytes say.Wait h = h
 swap-bytes (say.Update x part) h = h
 swap-bytes (say.Entries x ts) h = h
@@ -153,37 +153,37 @@ module _ (who : ℕ) (payload : List ℕ) (above : 0 < who) (upto : who ≤ 64) 
       (record { going = a.0; kept = holds.kept; past = holds.past; told = holds.told }, spoken-bytes (change (serve h.going who payload).answer) (leaves (serve h.going who payload).answer a.1))
 
   beside-keeps : (h : Hostile) → HostileHolds h → KeepsBytes (by_going_beside_kept h who payload)
-  beside-keeps h holds = going-keeps same same-bytes (record h { kept = Some (kept_server h) }) (record { going = holds.going; kept = kept-holds h holds; past = holds.past; told = holds.told })
+  beside-keeps h holds = going-keeps answer_as_is answer_as_is-bytes (record h { kept = Some (kept_server h) }) (record { going = holds.going; kept = kept-holds h holds; past = holds.past; told = holds.told })
 
   kept-keeps : (h : Hostile) → HostileHolds h → KeepsBytes (by_kept h who payload)
   kept-keeps h holds =
       let a = holds-serve (kept_server h) who payload (kept-holds h holds) above upto bytes in
       (record { going = holds.going; kept = a.0; past = holds.past; told = holds.told }, spoken-bytes (serve (kept_server h) who payload).answer a.1)
 
-  again-keeps : (o : Option (List ℕ)) → IfThere AreBytes o → (h : Hostile) → HostileHolds h → KeepsBytes (again o h who payload)
-  again-keeps (Some text) there h holds = (record { going = holds.going; kept = holds.kept; past = holds.past; told = holds.told }, there)
-  again-keeps None there h holds = going-keeps same same-bytes h holds
+  by_last_answer-keeps : (o : Option (List ℕ)) → IfThere AreBytes o → (h : Hostile) → HostileHolds h → KeepsBytes (by_last_answer o h who payload)
+  by_last_answer-keeps (Some text) there h holds = (record { going = holds.going; kept = holds.kept; past = holds.past; told = holds.told }, there)
+  by_last_answer-keeps None there h holds = going-keeps answer_as_is answer_as_is-bytes h holds
 
   truncate-keeps : (r : List ℕ × Hostile) → KeepsBytes r → KeepsBytes (without_last r.0, r.1)
   truncate-keeps r h = (h.0, taken-bytes (length r.0 - 1) r.0 h.1)
 
-  late-keeps : (k : HostileKind) (h : Hostile) → HostileHolds h → KeepsBytes (late k h who payload)
-  late-keeps kind.Honest h holds = going-keeps same same-bytes h holds
-  late-keeps kind.Rollback h holds = kept-either (nat_le (number h) (2 * h.after)) (by_going_beside_kept h who payload) (by_kept h who payload) (beside-keeps h holds) (kept-keeps h holds)
-  late-keeps kind.Fork h holds = kept-either (is_odd who) (by_going_beside_kept h who payload) (by_kept h who payload) (beside-keeps h holds) (kept-keeps h holds)
-  late-keeps kind.Replay h holds = again-keeps (told_to h.told who) (told_to-bytes h.told who holds.told) h holds
-  late-keeps kind.Swap h holds = going-keeps with_swap swap-bytes h holds
-  late-keeps kind.BadProof h holds = going-keeps with_empty_part empty_part-bytes h holds
-  late-keeps kind.Stale h holds =
+  by_late_request-keeps : (k : HostileKind) (h : Hostile) → HostileHolds h → KeepsBytes (by_late_request k h who payload)
+  by_late_request-keeps kind.Honest h holds = going-keeps answer_as_is answer_as_is-bytes h holds
+  by_late_request-keeps kind.Rollback h holds = kept-either (nat_le (number h) (2 * h.after)) (by_going_beside_kept h who payload) (by_kept h who payload) (beside-keeps h holds) (kept-keeps h holds)
+  by_late_request-keeps kind.Fork h holds = kept-either (is_odd who) (by_going_beside_kept h who payload) (by_kept h who payload) (beside-keeps h holds) (kept-keeps h holds)
+  by_late_request-keeps kind.Replay h holds = by_last_answer-keeps (told_to h.told who) (told_to-bytes h.told who holds.told) h holds
+  by_late_request-keeps kind.Swap h holds = going-keeps with_swap swap-bytes h holds
+  by_late_request-keeps kind.BadProof h holds = going-keeps with_empty_part empty_part-bytes h holds
+  by_late_request-keeps kind.Stale h holds =
       let d : Dictionary = past_dictionary h in
       let next : Option Op = next_op (serve h.going who payload).next in
       going-keeps (with_part_of d next) (part_of-bytes d (past-proper h holds) next) (record h { past = Some d }) (record { going = holds.going; kept = holds.kept; past = past-proper h holds; told = holds.told })
-  late-keeps kind.Truncate h holds = truncate-keeps (by_going same h who payload) (going-keeps same same-bytes h holds)
+  by_late_request-keeps kind.Truncate h holds = truncate-keeps (by_going answer_as_is h who payload) (going-keeps answer_as_is answer_as_is-bytes h holds)
 
-  early-keeps : (h : Hostile) → HostileHolds h → KeepsBytes (early h who payload)
-  early-keeps h holds =
-      let r : List ℕ × Hostile = by_going same h who payload in
-      let kept : KeepsBytes r = going-keeps same same-bytes h holds in
+  by_early_request-keeps : (h : Hostile) → HostileHolds h → KeepsBytes (by_early_request h who payload)
+  by_early_request-keeps h holds =
+      let r : List ℕ × Hostile = by_going answer_as_is h who payload in
+      let kept : KeepsBytes r = going-keeps answer_as_is answer_as_is-bytes h holds in
       elim (is_replay h.kind) as (λ b. KeepsBytes (r.0, if b then record r.1 { told = with_told h.told who r.0 } else r.1)) [
         | true ↦ (record { going = kept.0.going; kept = kept.0.kept; past = kept.0.past; told = with_told-bytes h.told who r.0 holds.told kept.1 }, kept.1)
         | false ↦ kept
@@ -191,4 +191,4 @@ module _ (who : ℕ) (payload : List ℕ) (above : 0 < who) (upto : who ≤ 64) 
 
   -- a hostile server that keeps bytes and is asked in bytes answers in bytes, and keeps bytes
   pub holds-by_kind : (h : Hostile) (seat : ℕ) → HostileHolds h → HostileHolds (by_kind h seat who payload).1 × AreBytes (by_kind h seat who payload).0
-  holds-by_kind h seat holds = kept-either (is_late h) (late h.kind h who payload) (early h who payload) (late-keeps h.kind h holds) (early-keeps h holds)
+  holds-by_kind h seat holds = kept-either (is_late h) (by_late_request h.kind h who payload) (by_early_request h who payload) (by_late_request-keeps h.kind h holds) (by_early_request-keeps h holds)

@@ -23,19 +23,19 @@ use Rattle.vic_rules.specs.declared.state.Awaiting.TheVariants as awaits
 use Rattle.vic_rules.specs.declared.trace.Input.{Input}
 use Rattle.vic_rules.specs.declared.trace.Input.TheVariants as input
 use Rattle.vic_rules.specs.declared.trace.TraceStep.{TraceStep}
-use Rattle.vic_rules.specs.Objects.{Stepped, answered, kept_at, after_decision, is_reference, hash_in, length_in}
-use Rattle.vic_rules.specs.Client.{Standing, Move, waited, goes_to, refused_at, step, grown, decision, replied, updated, taken, taken_or_halts, on_payload, verdict}
+use Rattle.vic_rules.specs.Objects.{ObjectStep, step_on_answer, step_on_kept, after_decision, is_reference, hash_in, length_in}
+use Rattle.vic_rules.specs.Client.{Standing, Move, move_on_wait, move_by_object_step, move_on_refusal, step, path_with_entries, decision, move_on_reply, move_on_update, move_on_answer, move_on_verdict, move_on_payload, verdict}
 use Rattle.vic_rules.specs.History.{standing, move_of}
 use Rattle.vic_laws.proofs.Standings.{standing_moved, standing_kept}
 use Rattle.vic_runs.specs.Reached.{to_call, calls_in}
 
 -- ---- a payload asks for no call
 
-answered_calls : (a : Answer) → to_call (answered a).0 ≤ 0
+answered_calls : (a : Answer) → to_call (step_on_answer a).0 ≤ 0
 answered_calls answer.Stored = omega arith
 answered_calls (answer.Found v) = by_test (is_reference v)
   where
-    by_test : (b : Bool) → to_call (if◌then◌else◌ {A = Stepped} b (phase.Fetching (record { bytes = hash_in v }) (length_in v), next.Fetch (record { bytes = hash_in v }) (length_in v)) (phase.Closed, next.Bad)).0 ≤ 0
+    by_test : (b : Bool) → to_call (if◌then◌else◌ {A = ObjectStep} b (phase.Fetching (record { bytes = hash_in v }) (length_in v), next.Fetch (record { bytes = hash_in v }) (length_in v)) (phase.Closed, next.Bad)).0 ≤ 0
     by_test true = omega arith
     by_test false = omega arith
 answered_calls answer.NotFound = omega arith
@@ -56,7 +56,7 @@ decided_calls phase.Calling (outcome.Halted k) = omega arith
 abbrev Same : Standing → Move → Type 0
 Same t v = calls_in v.next ≤ calls_in t
 
-replied_calls : (me : ℕ) (t : Standing) (seal : Seal) (path : List Entry) (part : Option Part) (a : Awaiting) → Same t (replied me t seal path part a)
+replied_calls : (me : ℕ) (t : Standing) (seal : Seal) (path : List Entry) (part : Option Part) (a : Awaiting) → Same t (move_on_reply me t seal path part a)
 replied_calls me t seal [] part a = omega arith
 replied_calls me t seal (e ∷ below) None a = omega arith
 replied_calls me t seal (e ∷ below) (Some part) (awaits.Reply n o load) = omega (arith, decided_calls t.phase (decision me t below seal.position part o))
@@ -66,25 +66,25 @@ replied_calls me t seal (e ∷ below) (Some part) awaits.Entries = omega arith
 replied_calls me t seal (e ∷ below) (Some part) awaits.Kept = omega arith
 replied_calls me t seal (e ∷ below) (Some part) (awaits.Content h len) = omega arith
 
-updated_calls : (t : Standing) (seal : Seal) (part : Option Part) (own : List Own) → Same t (updated t seal part own)
+updated_calls : (t : Standing) (seal : Seal) (part : Option Part) (own : List Own) → Same t (move_on_update t seal part own)
 updated_calls t seal None own = omega arith
 updated_calls t seal (Some part) [] = omega arith
 updated_calls t seal (Some part) (o ∷ others) = omega arith
 
-waited_calls : (t : Standing) (p : Phase) → Same t (waited t p)
+waited_calls : (t : Standing) (p : Phase) → Same t (move_on_wait t p)
 waited_calls t phase.Closed = omega arith
 waited_calls t (phase.Keeping k h len) = omega arith
 waited_calls t phase.Calling = omega arith
 waited_calls t (phase.Fetching h len) = omega arith
 
 -- a store whose content is kept calls what it was asked for
-kept_calls : (t : Standing) (p : Phase) → t.phase ≡ p → Same t (goes_to t false (kept_at p))
+kept_calls : (t : Standing) (p : Phase) → t.phase ≡ p → Same t (move_by_object_step t false (step_on_kept p))
 kept_calls t phase.Closed e = omega arith
 kept_calls t (phase.Keeping k h len) e = omega (arith, ap to_call e)
 kept_calls t phase.Calling e = omega arith
 kept_calls t (phase.Fetching h len) e = omega arith
 
-refused_calls : (t : Standing) (r : ℕ) (a : Awaiting) → Same t (refused_at t r a)
+refused_calls : (t : Standing) (r : ℕ) (a : Awaiting) → Same t (move_on_refusal t r a)
 refused_calls t r awaits.Kept = omega arith
 refused_calls t r awaits.Nothing = omega (arith, decided_calls t.phase (outcome.Refused r))
 refused_calls t r (awaits.Reply n o load) = omega (arith, decided_calls t.phase (outcome.Refused r))
@@ -92,9 +92,9 @@ refused_calls t r awaits.Turn = omega (arith, decided_calls t.phase (outcome.Ref
 refused_calls t r awaits.Entries = omega (arith, decided_calls t.phase (outcome.Refused r))
 refused_calls t r (awaits.Content h len) = omega (arith, decided_calls t.phase (outcome.Refused r))
 
-taken_calls : (me : ℕ) (t : Standing) (m : ToClient) → Same t (taken me t m)
+taken_calls : (me : ℕ) (t : Standing) (m : ToClient) → Same t (move_on_answer me t m)
 taken_calls me t say.Hi = omega arith
-taken_calls me t (say.Reply seal ts part) = replied_calls me t seal (grown t ts) (read_part part) t.awaiting
+taken_calls me t (say.Reply seal ts part) = replied_calls me t seal (path_with_entries t ts) (read_part part) t.awaiting
 taken_calls me t say.Wait = waited_calls t t.phase
 taken_calls me t (say.Update seal part) = updated_calls t seal (read_part part) t.own
 taken_calls me t (say.Entries seal ts) = omega arith
@@ -104,12 +104,12 @@ taken_calls me t (say.Content c) = omega arith
 taken_calls me t say.Gone = omega arith
 taken_calls me t say.Absent = omega arith
 
-or_halts_calls : (me : ℕ) (t : Standing) (m : Option ToClient) (k : Option ℕ) → Same t (taken_or_halts me t m k)
+or_halts_calls : (me : ℕ) (t : Standing) (m : Option ToClient) (k : Option ℕ) → Same t (move_on_verdict me t m k)
 or_halts_calls me t m (Some k) = omega arith
 or_halts_calls me t (Some m) None = taken_calls me t m
 or_halts_calls me t None None = omega arith
 
-payload_calls : (g : Group) (me : ℕ) (t : Standing) (k : Option ℕ) (payload : List ℕ) → Same t (on_payload g me t k payload)
+payload_calls : (g : Group) (me : ℕ) (t : Standing) (k : Option ℕ) (payload : List ℕ) → Same t (move_on_payload g me t k payload)
 payload_calls g me t (Some k) payload = omega arith
 payload_calls g me t None payload = or_halts_calls me t (read_answer payload) (verdict g me t payload)
 

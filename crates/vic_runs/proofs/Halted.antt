@@ -6,9 +6,9 @@ use Rattle.vic_attacks.specs.Hostile.{Hostile, by_kind}
 use Rattle.vic_script.specs.declared.line.Line.{Line}
 use Rattle.vic_script.specs.declared.line.Line.TheVariants as line
 use Rattle.vic_script.specs.Lines.{line_of}
-use Rattle.vic_order.specs.Scenes.{SceneOf, stands, is_client, waits_in}
-use Rattle.vic_script.specs.Scenes.{ShownOf, done_line, is_plain_call, is_object_call, asked_tests, bad_kind, is_honest_line}
-use Rattle.vic_script.specs.Run.{Bad, opening_by, Place, Before, Heads, Stands, scene_in, Played, Tried, Fails, Does, tried_by, try_event, try_line, mode_in, bad_end, run_of, is_honest_script, group_in, history_in, group_of, history_of}
+use Rattle.vic_order.specs.Scenes.{SceneOf, standing_in, is_client, waits_in}
+use Rattle.vic_script.specs.Scenes.{PrintedSceneOf, done_line, is_plain_call, is_object_call, asked_tests, bad_kind, is_honest_line}
+use Rattle.vic_script.specs.Run.{Bad, opening_by, Progress, Before, Heads, Stands, scene_in, ScriptRun, Trial, Fails, Does, trial_by, trial_in_scene, trial_of_line, mode_in, bad_end, run_of, is_honest_script, group_in, history_in, script_group, script_history}
 use Rattle.vic_honest.specs.SafeRuns.{AreApart}
 use Rattle.vic_runs.specs.Claims.{NoLineIsHalted}
 use Rattle.vic_runs.specs.Reached.{GoesAs, IsHonestlyReached}
@@ -41,11 +41,11 @@ one_more false others h e = absurd cc
 one_more true others h e = h e
 
 module _ {V : Type 0} (R : V → Server → Type 0) (s : SceneOf V) (n : ℕ) (r : IsHonestlyReached R s n) (apart : AreApart s.group s.history) where
-  goes_on : (i : ℕ) → is_client s i ≡ true → is_none (stands s i).halted ≡ true
+  goes_on : (i : ℕ) → is_client s i ≡ true → is_none (standing_in s i).halted ≡ true
   goes_on i e = let bounds = client_is s i e in ap is_none ((holds_at R s r.comes apart).goes_on.stands_so i bounds.0 bounds.1)
 
   asked_goes : (i : ℕ) → first_failing (asked_tests s i) ≡ Some 3 → ⊥
-  asked_goes i e = asked_three (is_client s i) (is_none (stands s i).halted) (awaits_nothing (stands s i).awaiting) (goes_on i) e
+  asked_goes i e = asked_three (is_client s i) (is_none (standing_in s i).halted) (awaits_nothing (standing_in s i).awaiting) (goes_on i) e
 
   -- in a scene of an honest run no honest line fails that test
   pub never_three : (l : Line) → is_honest_line l ≡ true → bad_kind s l ≡ Some 3 → ⊥
@@ -71,11 +71,11 @@ module _ {V : Type 0} (R : V → Server → Type 0) (s : SceneOf V) (n : ℕ) (r
 
 -- ---- lines
 
-abbrev FailsOtherwise : Tried → Type 0
+abbrev FailsOtherwise : Trial → Type 0
 FailsOtherwise (Fails kind) = kind ≡ 3 → ⊥
 FailsOtherwise (Does s text) = Unit {0}
 
-fails_by : (bad : Option ℕ) (shown : ShownOf Hostile) → (bad ≡ Some 3 → ⊥) → FailsOtherwise (tried_by bad shown)
+fails_by : (bad : Option ℕ) (shown : PrintedSceneOf Hostile) → (bad ≡ Some 3 → ⊥) → FailsOtherwise (trial_by bad shown)
 fails_by None shown h = tt
 fails_by (Some k) shown h = λ e. h (ap (λ n. Some n) e)
 
@@ -83,19 +83,19 @@ fails_by (Some k) shown h = λ e. h (ap (λ n. Some n) e)
 one_is_other : (n : ℕ) → n ≡ 1 → n ≡ 3 → ⊥
 one_is_other n e f = omega (arith, e, f)
 
-fails_event : (s : SceneOf Hostile) (l : Line) (n : ℕ) → IsHonestlyReached GoesAs s n → AreApart s.group s.history → is_honest_line l ≡ true → FailsOtherwise (try_event s l)
+fails_event : (s : SceneOf Hostile) (l : Line) (n : ℕ) → IsHonestlyReached GoesAs s n → AreApart s.group s.history → is_honest_line l ≡ true → FailsOtherwise (trial_in_scene s l)
 fails_event s l n h apart honest = fails_by (bad_kind s l) (done_line by_kind s l) (never_three GoesAs s n h apart l honest)
 
 -- contents are apart where a script stands
 abbrev ApartIn : Option (SceneOf Hostile) → Type 0
 ApartIn scene = AreApart (group_in scene) (history_in scene)
 
-fails : (place : Place) (l : Option Line) (n : ℕ) → HonestIn (scene_in place) n → HonestFor (scene_in place) l → ApartIn (scene_in place) → FailsOtherwise (try_line place l)
+fails : (place : Progress) (l : Option Line) (n : ℕ) → HonestIn (scene_in place) n → HonestFor (scene_in place) l → ApartIn (scene_in place) → FailsOtherwise (trial_of_line place l)
 fails Before None n r honest apart = one_is_other 1 refl
-fails Before (Some l) n r honest apart = first_so (λ (x : Line) (t : Tried). FailsOtherwise t) (λ count. tt) (λ count. tt) tt (λ x. one_is_other 1 refl) l
+fails Before (Some l) n r honest apart = first_so (λ (x : Line) (t : Trial). FailsOtherwise t) (λ count. tt) (λ count. tt) tt (λ x. one_is_other 1 refl) l
 fails (Heads h) None n r honest apart = one_is_other 1 refl
 fails (Heads h) (Some l) n r honest apart =
-    header_so (λ (x : Line) (t : Tried). is_honest_line x ≡ true → FailsOtherwise t) h (λ digits so. tt) (λ digits so. one_is_other 1 refl) (λ name k only so. tt) (λ name k so. one_is_other 1 refl) (λ so. tt)
+    header_so (λ (x : Line) (t : Trial). is_honest_line x ≡ true → FailsOtherwise t) h (λ digits so. tt) (λ digits so. one_is_other 1 refl) (λ name k only so. tt) (λ name k so. one_is_other 1 refl) (λ so. tt)
     (λ x so. fails_event (opening_by h) x n r apart so) l honest
 fails (Stands s) None n r honest apart = one_is_other 1 refl
 fails (Stands s) (Some l) n r honest apart = fails_event s l n r apart honest
@@ -106,15 +106,15 @@ abbrev IsOtherwise : Option Bad → Type 0
 IsOtherwise None = Unit {0}
 IsOtherwise (Some b) = b.kind ≡ 3 → ⊥
 
-abbrev LeavesOtherwise : Place → Played → Type 0
+abbrev LeavesOtherwise : Progress → ScriptRun → Type 0
 LeavesOtherwise place p = ApartIn p.scene → IsOtherwise p.bad
 
-ends_otherwise : (number : ℕ) (place : Place) → IsOtherwise (bad_end number place)
+ends_otherwise : (number : ℕ) (place : Progress) → IsOtherwise (bad_end number place)
 ends_otherwise number Before = one_is_other 1 refl
 ends_otherwise number (Heads h) = tt
 ends_otherwise number (Stands s) = tt
 
-goes : (n : ℕ) (place : Place) (t : Tried) → TriedHonest t (n + 1) → (ApartIn (scene_in place) → FailsOtherwise t) → GoesSo IsHonestText StandsHonest LeavesOtherwise n place t
+goes : (n : ℕ) (place : Progress) (t : Trial) → TriedHonest t (n + 1) → (ApartIn (scene_in place) → FailsOtherwise t) → GoesSo IsHonestText StandsHonest LeavesOtherwise n place t
 goes n place (Fails kind) r h = λ number. h
 goes n place (Does next text) r h = (r, λ p claim. claim)
 
@@ -125,10 +125,10 @@ each_line = record {
   line = λ n place text h few good.
       let l : Option Line = line_of (mode_in (scene_in place)) text in
       let honest : HonestFor (scene_in place) l = honest_for (scene_in place) n text h good in
-      goes n place (try_line place l) (honest_tried place l n h few (text_fits (mode_in (scene_in place)) text) honest) (fails place l n h honest);
+      goes n place (trial_of_line place l) (honest_tried place l n h few (text_fits (mode_in (scene_in place)) text) honest) (fails place l n h honest);
 }
 
-bad-run : (script : List ℕ) → is_honest_script script ≡ true → AreApart (group_of script) (history_of script) → IsOtherwise (run_of script).bad
+bad-run : (script : List ℕ) → is_honest_script script ≡ true → AreApart (script_group script) (script_history script) → IsOtherwise (run_of script).bad
 bad-run script honest = claimed-run IsHonestText StandsHonest LeavesOtherwise each_line tt script (honest-texts script honest)
 
 pub none_for_halting : NoLineIsHalted

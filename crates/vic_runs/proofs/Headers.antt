@@ -14,16 +14,16 @@ use Rattle.vic_wire.specs.Hashes.{IsGroup}
 use Rattle.vic_script.specs.declared.line.Line.{Line}
 use Rattle.vic_script.specs.declared.line.Line.TheVariants as line
 use Rattle.vic_script.specs.Lines.{is_key_digits, kind_named}
-use Rattle.vic_script.specs.Run.{zero_key, Attack, Header, group_by, opening_by, Before, Heads, Tried, Fails, Does, try_event, try_first, try_header}
+use Rattle.vic_script.specs.Run.{zero_key, Attack, ScriptHeader, group_by, opening_by, Before, Heads, Trial, Fails, Does, trial_in_scene, trial_before_header, trial_in_header}
 
 -- ---- lines
 
 -- the header of so many clients, before it names a key or how its server misbehaves
-abbrev pub begun : Mode → ℕ → Header
+abbrev pub begun : Mode → ℕ → ScriptHeader
 begun kind count = record { mode = kind; count = count; key = None; hostile = None }
 
 -- the header with the key that digits spell
-abbrev pub keyed : Header → List ℕ → Header
+abbrev pub keyed : ScriptHeader → List ℕ → ScriptHeader
 keyed h digits = record h { key = result_ok (decode_of digits) }
 
 -- how a server misbehaves, by a name and a number
@@ -31,11 +31,11 @@ abbrev pub attack_named : List ℕ → ℕ → Option Attack
 attack_named name n = option_map (λ k. record { kind = k; after = n }) (kind_named name)
 
 -- the header with a server that misbehaves so
-abbrev pub turned : Header → List ℕ → ℕ → Header
+abbrev pub turned : ScriptHeader → List ℕ → ℕ → ScriptHeader
 turned h name n = record h { hostile = attack_named name n }
 
 -- a line before the header begins it, is skipped, or is bad
-pub first_so : (P : Line → Tried → Type 0) → ((count : ℕ) → P (line.Clients count) (Does (Heads (begun mode.Plain count)) [])) → ((count : ℕ) → P (line.Objects count) (Does (Heads (begun mode.Objects count)) [])) → P line.Skip (Does Before []) → ((l : Line) → P l (Fails 1)) → (l : Line) → P l (try_first l)
+pub first_so : (P : Line → Trial → Type 0) → ((count : ℕ) → P (line.Clients count) (Does (Heads (begun mode.Plain count)) [])) → ((count : ℕ) → P (line.Objects count) (Does (Heads (begun mode.Objects count)) [])) → P line.Skip (Does Before []) → ((l : Line) → P l (Fails 1)) → (l : Line) → P l (trial_before_header l)
 first_so P plain objects skips fails (line.Clients count) = plain count
 first_so P plain objects skips fails (line.Objects count) = objects count
 first_so P plain objects skips fails (line.Key digits) = fails (line.Key digits)
@@ -55,19 +55,19 @@ first_so P plain objects skips fails (line.Copy k t) = fails (line.Copy k t)
 first_so P plain objects skips fails (line.Move i k) = fails (line.Move i k)
 first_so P plain objects skips fails line.Skip = skips
 
-key-either : (P : Tried → Type 0) (b : Bool) (t : Tried) → P t → P (Fails 1) → P (if b then t else Fails 1)
+key-either : (P : Trial → Type 0) (b : Bool) (t : Trial) → P t → P (Fails 1) → P (if b then t else Fails 1)
 key-either P true t names fails = names
 key-either P false t names fails = fails
 
-first-either : (P : Tried → Type 0) (o : Option Attack) (t : Tried) → (o ≡ None → P t) → P (Fails 1) → P (if is_none o then t else Fails 1)
+first-either : (P : Trial → Type 0) (o : Option Attack) (t : Trial) → (o ≡ None → P t) → P (Fails 1) → P (if is_none o then t else Fails 1)
 first-either P None t turns twice = turns refl
 first-either P (Some a) t turns twice = twice
 
 -- a line in the header names the key, names how its server misbehaves, names one of them where it may not, is skipped, or is tried in the
 -- scene that the header opens
-pub header_so : (P : Line → Tried → Type 0) (h : Header) → ((digits : List ℕ) → P (line.Key digits) (Does (Heads (keyed h digits)) [])) → ((digits : List ℕ) → P (line.Key digits) (Fails 1))
+pub header_so : (P : Line → Trial → Type 0) (h : ScriptHeader) → ((digits : List ℕ) → P (line.Key digits) (Does (Heads (keyed h digits)) [])) → ((digits : List ℕ) → P (line.Key digits) (Fails 1))
     → ((name : List ℕ) (n : ℕ) → h.hostile ≡ None → P (line.Hostile name n) (Does (Heads (turned h name n)) [])) → ((name : List ℕ) (n : ℕ) → P (line.Hostile name n) (Fails 1))
-    → P line.Skip (Does (Heads h) []) → ((l : Line) → P l (try_event (opening_by h) l)) → (l : Line) → P l (try_header h l)
+    → P line.Skip (Does (Heads h) []) → ((l : Line) → P l (trial_in_scene (opening_by h) l)) → (l : Line) → P l (trial_in_header h l)
 header_so P h keys again turns twice skips ends (line.Key digits) =
     key-either (P (line.Key digits)) (is_none h.key && is_none h.hostile) (Does (Heads (keyed h digits)) []) (keys digits) (again digits)
 header_so P h keys again turns twice skips ends (line.Hostile name n) = first-either (P (line.Hostile name n)) h.hostile (Does (Heads (turned h name n)) []) (turns name n) (twice name n)
@@ -107,5 +107,5 @@ pub begun_is_group : (kind : Mode) (count : ℕ) → 0 < count → count ≤ 64 
 begun_is_group kind count above upto = record { count = (above, upto); key = (omega arith, omega arith) }
 
 -- a header stays one of a group with the key that digits spell
-pub keyed_is_group : (h : Header) (digits : List ℕ) → IsGroup (group_by h) → is_key_digits digits ≡ true → IsGroup (group_by (keyed h digits))
+pub keyed_is_group : (h : ScriptHeader) (digits : List ℕ) → IsGroup (group_by h) → is_key_digits digits ≡ true → IsGroup (group_by (keyed h digits))
 keyed_is_group h digits is e = record { count = is.count; key = key_spelled digits e }

@@ -31,7 +31,7 @@ use Rattle.vic_honest.proofs.SentParts.{sent_for, sent_update}
 use Rattle.vic_laws.proofs.Words.{all_append}
 use Rattle.vic_order.specs.declared.Stage.{Stage}
 use Rattle.vic_order.specs.declared.Stage.TheVariants as stage
-use Rattle.vic_order.specs.Order.{Ordered, Member, Server, fresh_server, Answered, says, becomes, guarded, unless_refused, no_seal, seal_at_position, top_seal, size, sealed_count, ordered_at, commit_at, tagged, entries_above, set_stage, update_part, turn, turn_on, with_commit, with_seal, applied_to, content_with, is_kept, is_member, is_ready, is_away, is_open_at, is_put, same_mode, member, owns_committed, op_weight, weight, ordered_next, on_request, on_hello, serve_read, serve}
+use Rattle.vic_order.specs.Order.{Ordered, Member, Server, fresh_server, Answered, answer_alone, answer_with_change, answer_by_tests, answer_unless_refused, no_seal, seal_at_position, top_seal, size, sealed_count, ordered_at, commit_at, tagged_entry, entries_above, set_stage, update_part, turn, turn_on, with_commit, with_seal, applied_to, content_with, is_kept, is_member, is_ready, is_away, is_open_at, is_put, same_mode, member, owns_committed, op_weight, weight, ordered_next, on_request, on_hello, serve_read, serve}
 use Rattle.vic_honest.proofs.Words.{all-drop, newest_seal}
 use Rattle.vic_honest.proofs.Spoken.{TaggedBytes, seal_bytes, entries_bytes}
 use Rattle.vic_runs.specs.Reached.{OrderedHolds, SealHolds, ServerHolds, IfThere}
@@ -73,8 +73,8 @@ above-holds : (known : ℕ) (log : List Ordered) → AllByRecursion OrderedHolds
 unfolding entries_above
 above-holds known [] h = tt
 above-holds known (o ∷ log) h =
-    elim (nat_lt known (length (o ∷ log))) as (λ b. AllByRecursion TaggedBytes (if b then entries_above known log ++ tagged o ∷ [] else [])) [
-      | true ↦ all_append TaggedBytes (entries_above known log) (tagged o ∷ []) (above-holds known log h.1) (record { entry = h.0.entry; tag = h.0.tag }, tt)
+    elim (nat_lt known (length (o ∷ log))) as (λ b. AllByRecursion TaggedBytes (if b then entries_above known log ++ tagged_entry o ∷ [] else [])) [
+      | true ↦ all_append TaggedBytes (entries_above known log) (tagged_entry o ∷ []) (above-holds known log h.1) (record { entry = h.0.entry; tag = h.0.tag }, tt)
       | false ↦ tt
     ]
 
@@ -147,24 +147,24 @@ record KeepsBytes (a : Answered) : Type 0 where
   next : ServerHolds a.next
   answer : SpeaksBytes a.answer
 
-says-keeps : (s : Server) (m : ToClient) → ServerHolds s → SpeaksBytes m → KeepsBytes (says s m)
-says-keeps s m h bytes = record { next = h; answer = bytes }
+answer_alone-keeps : (s : Server) (m : ToClient) → ServerHolds s → SpeaksBytes m → KeepsBytes (answer_alone s m)
+answer_alone-keeps s m h bytes = record { next = h; answer = bytes }
 
-becomes-keeps : (next : Server) (m : ToClient) → ServerHolds next → SpeaksBytes m → KeepsBytes (becomes next m)
-becomes-keeps next m h bytes = record { next = h; answer = bytes }
+answer_with_change-keeps : (next : Server) (m : ToClient) → ServerHolds next → SpeaksBytes m → KeepsBytes (answer_with_change next m)
+answer_with_change-keeps next m h bytes = record { next = h; answer = bytes }
 
 -- the numbers by which tests refuse are bytes
 abbrev are_reasons : List (ℕ × Bool) → Bool
 are_reasons tests = list_all (λ c. nat_lt c.0 256) tests
 
 -- what is refused changes nothing
-guards : (s : Server) (tests : List (ℕ × Bool)) (a : Answered) → ServerHolds s → are_reasons tests ≡ true → KeepsBytes a → KeepsBytes (guarded s tests a)
+guards : (s : Server) (tests : List (ℕ × Bool)) (a : Answered) → ServerHolds s → are_reasons tests ≡ true → KeepsBytes a → KeepsBytes (answer_by_tests s tests a)
 guards s [] a h reasons keeps = keeps
 guards s (c ∷ tests) a h reasons keeps =
     let p = and_parts (nat_lt c.0 256) (are_reasons tests) reasons in
-    elim (c.1) as (λ b. KeepsBytes (unless_refused s (if b then first_failing tests else Some c.0) a)) [
+    elim (c.1) as (λ b. KeepsBytes (answer_unless_refused s (if b then first_failing tests else Some c.0) a)) [
       | true ↦ guards s tests a h p.1 keeps
-      | false ↦ says-keeps s (say.Refused c.0) h (ltb-true c.0 256 p.0)
+      | false ↦ answer_alone-keeps s (say.Refused c.0) h (ltb-true c.0 256 p.0)
     ]
 
 -- of two answers that keep bytes each does
@@ -184,7 +184,7 @@ module _ (s : Server) (who : ℕ) (h : ServerHolds s) where
   hello-keeps : (kind : Mode) (client : ℕ) → KeepsBytes (on_hello s who kind client)
   hello-keeps kind client =
       let tests : List (ℕ × Bool) = (5, nat_eq who 0) ∷ (6, nat_lt 0 client && (nat_le client (length s.members) && (same_mode kind s.mode && is_away (member s client).stage))) ∷ [] in
-      guards s tests _ h refl (becomes-keeps (set_stage s client stage.Ready) say.Hi (staged client stage.Ready) tt)
+      guards s tests _ h refl (answer_with_change-keeps (set_stage s client stage.Ready) say.Hi (staged client stage.Ready) tt)
 
   invoke-keeps : (known seq : ℕ) (o : Op) (tag : Digest32) → 0 < who → who ≤ 64 → IsRead (ask.Invoke known seq o tag) → KeepsBytes (on_request s who (ask.Invoke known seq o tag))
   invoke-keeps known seq o tag above upto is =
@@ -201,17 +201,17 @@ module _ (s : Server) (who : ℕ) (h : ServerHolds s) where
       ∷ (2, not (nat_eq (size s - sealed_count s) 1024))
       ∷ (3, not (is_put o) || nat_le (weight s + op_weight o) 8388608)
       ∷ (1, nat_le ((size s + 1) - known) 8192) ∷ [] in
-      guards s tests _ h refl (becomes-keeps after (say.Reply (top_seal s) ts (part_for s.dictionary o)) holds
+      guards s tests _ h refl (answer_with_change-keeps after (say.Reply (top_seal s) ts (part_for s.dictionary o)) holds
       (seal-holds s (sealed_count s) h, (above-holds known after.log holds.log, (sent_for s.dictionary h.dictionary o).are_bytes)))
 
   commit-keeps : (position : ℕ) (done : Bool) (tag : Digest32) → KeepsBytes (on_request s who (ask.Commit position done tag))
   commit-keeps position done tag =
       let after : Server = set_stage (with_commit s position done tag) who stage.Ready in
       let holds : ServerHolds after = record { log = h.log; seals = h.seals; dictionary = h.dictionary; contents = h.contents } in
-      guards s ((5, is_open_at position (member s who).stage) ∷ []) _ h refl (becomes-keeps after (turn after who) holds (turn-bytes after who holds))
+      guards s ((5, is_open_at position (member s who).stage) ∷ []) _ h refl (answer_with_change-keeps after (turn after who) holds (turn-bytes after who holds))
 
   poll-keeps : KeepsBytes (on_request s who ask.Poll)
-  poll-keeps = guards s ((5, is_ready (member s who).stage) ∷ []) _ h refl (says-keeps s (turn s who) h (turn-bytes s who h))
+  poll-keeps = guards s ((5, is_ready (member s who).stage) ∷ []) _ h refl (answer_alone-keeps s (turn s who) h (turn-bytes s who h))
 
   seal-keeps : (position : ℕ) (root tag : Digest32) → IsRead (ask.Seal position root tag) → KeepsBytes (on_request s who (ask.Seal position root tag))
   seal-keeps position root tag is =
@@ -223,14 +223,14 @@ module _ (s : Server) (who : ℕ) (h : ServerHolds s) where
         contents = h.contents;
       } in
       let tests : List (ℕ × Bool) = (5, is_ready (member s who).stage && (nat_eq position (sealed_count s + 1) && owns_committed who (ordered_at s position) (commit_at s position))) ∷ [] in
-      guards s tests _ h refl (becomes-keeps after (turn after who) holds (turn-bytes after who holds))
+      guards s tests _ h refl (answer_with_change-keeps after (turn after who) holds (turn-bytes after who holds))
 
   sync-keeps : (known : ℕ) → KeepsBytes (on_request s who (ask.Sync known))
   sync-keeps known =
       let e : ℕ = min (size s) (known + 8192) in
       let x : Seal = seal_at_position s (min (sealed_count s) e) in
       let ts : List Tagged = entries_above known (front e s.log) in
-      guards s ((5, is_ready (member s who).stage && nat_le known (size s)) ∷ []) _ h refl (says-keeps s (say.Entries x ts) h
+      guards s ((5, is_ready (member s who).stage && nat_le known (size s)) ∷ []) _ h refl (answer_alone-keeps s (say.Entries x ts) h
       (seal-holds s (min (sealed_count s) e) h, above-holds known (front e s.log) (all-drop OrderedHolds (length s.log - e) s.log h.log)))
 
   keep-keeps : (content : List ℕ) → IsRead (ask.Keep content) → KeepsBytes (on_request s who (ask.Keep content))
@@ -238,22 +238,22 @@ module _ (s : Server) (who : ℕ) (h : ServerHolds s) where
       let after : Server = record s { contents = content ∷ s.contents } in
       let holds : ServerHolds after = record { log = h.log; seals = h.seals; dictionary = h.dictionary; contents = (is.1, h.contents) } in
       let room : List (ℕ × Bool) = (7, not (nat_le 1048576 (length s.contents)) && nat_le (sum_by length s.contents + length content) 1073741824) ∷ [] in
-      let joins : Answered = becomes after say.Kept in
+      let joins : Answered = answer_with_change after say.Kept in
       guards s ((5, is_ready (member s who).stage && same_mode s.mode mode.Objects) ∷ []) _ h refl
-      (kept (is_kept s.contents (hash (content_text content))) (says s say.Kept) (guarded s room joins) (says-keeps s say.Kept h tt) (guards s room joins h refl (becomes-keeps after say.Kept holds tt)))
+      (kept (is_kept s.contents (hash (content_text content))) (answer_alone s say.Kept) (answer_by_tests s room joins) (answer_alone-keeps s say.Kept h tt) (guards s room joins h refl (answer_with_change-keeps after say.Kept holds tt)))
 
   fetch-keeps : (asked : Digest32) → KeepsBytes (on_request s who (ask.Fetch asked))
-  fetch-keeps asked = guards s ((5, is_ready (member s who).stage && same_mode s.mode mode.Objects) ∷ []) _ h refl (says-keeps s (content_with s.contents asked.bytes) h (content-bytes s.contents asked.bytes h.contents))
+  fetch-keeps asked = guards s ((5, is_ready (member s who).stage && same_mode s.mode mode.Objects) ∷ []) _ h refl (answer_alone-keeps s (content_with s.contents asked.bytes) h (content-bytes s.contents asked.bytes h.contents))
 
   bye-keeps : KeepsBytes (on_request s who ask.Bye)
-  bye-keeps = guards s ((5, is_ready (member s who).stage) ∷ []) _ h refl (becomes-keeps (set_stage s who stage.Left) say.Gone (staged who stage.Left) tt)
+  bye-keeps = guards s ((5, is_ready (member s who).stage) ∷ []) _ h refl (answer_with_change-keeps (set_stage s who stage.Left) say.Gone (staged who stage.Left) tt)
 
   -- every other request is refused where it isn't a member's
-  member-keeps : (m : ToServer) → KeepsBytes (on_request s who m) → KeepsBytes (guarded s ((6, is_member s who) ∷ []) (on_request s who m))
+  member-keeps : (m : ToServer) → KeepsBytes (on_request s who m) → KeepsBytes (answer_by_tests s ((6, is_member s who) ∷ []) (on_request s who m))
   member-keeps m keeps = guards s ((6, is_member s who) ∷ []) (on_request s who m) h refl keeps
 
   read-keeps : (r : Option ToServer) → 0 < who → who ≤ 64 → IfThere IsRead r → KeepsBytes (serve_read s who r)
-  read-keeps None above upto is = says-keeps s (say.Refused 5) h (omega arith)
+  read-keeps None above upto is = answer_alone-keeps s (say.Refused 5) h (omega arith)
   read-keeps (Some (ask.Hello kind client)) above upto is = hello-keeps kind client
   read-keeps (Some (ask.Invoke known seq o tag)) above upto is = member-keeps (ask.Invoke known seq o tag) (invoke-keeps known seq o tag above upto is)
   read-keeps (Some (ask.Commit position done tag)) above upto is = member-keeps (ask.Commit position done tag) (commit-keeps position done tag)

@@ -4,10 +4,10 @@ use Rattle.std.specs.Prelude.{if◌then◌else◌}
 use Rattle.vic_wire.specs.Messages.{answer_text}
 use Rattle.vic_order.specs.Order.{Server, serve}
 use Rattle.vic_order.specs.Serving.{Serving, by_rule, Request, IsAsked, answers_to, AnswersAs}
-use Rattle.vic_order.specs.Honest.{IsSame}
+use Rattle.vic_order.specs.Honest.{IsSameServer}
 use Rattle.vic_attacks.specs.declared.HostileKind.{HostileKind}
 use Rattle.vic_attacks.specs.declared.HostileKind.TheVariants as kind
-use Rattle.vic_attacks.specs.Hostile.{Hostile, by_kind, is_late, early, late, by_going, same, is_replay, with_told}
+use Rattle.vic_attacks.specs.Hostile.{Hostile, by_kind, is_late, by_early_request, by_late_request, by_going, answer_as_is, is_replay, with_told}
 use Rattle.vic_runs.specs.Reached.{GoesAs}
 
 -- where R relates a server to one that follows the rule, it answers the same to a request that a call can make, and R relates what
@@ -17,7 +17,7 @@ IsKept {V} rule R = (v : V) (w : Server) → R v w → (seat who : ℕ) (payload
     → ((rule v seat who payload).0 ≡ answer_text (serve w who payload).answer) × R (rule v seat who payload).1 (serve w who payload).next
 
 -- of a server that follows the rule and that server
-pub same_is_kept : IsKept by_rule IsSame
+pub same_is_kept : IsKept by_rule IsSameServer
 same_is_kept v w same seat who payload asked = (ap (λ s. answer_text (serve s who payload).answer) same, ap (λ s. (serve s who payload).next) same)
 
 front_is : (a b : List ℕ) (more others : List (List ℕ)) → a ∷ more ≡ b ∷ others → a ≡ b
@@ -41,23 +41,23 @@ record IsServedByRule (h : Hostile) (who : ℕ) (payload : List ℕ) (r : List �
   answer : r.0 ≡ answer_text (serve h.going who payload).answer
   goes : GoesAs r.1 (serve h.going who payload).next
 
-by_going_serves : (h : Hostile) → h.kind ≡ kind.Honest → (who : ℕ) (payload : List ℕ) → IsServedByRule h who payload (by_going same h who payload)
+by_going_serves : (h : Hostile) → h.kind ≡ kind.Honest → (who : ℕ) (payload : List ℕ) → IsServedByRule h who payload (by_going answer_as_is h who payload)
 by_going_serves h e who payload = record { answer = refl; goes = (e, refl) }
 
-late_serves : (h : Hostile) → h.kind ≡ kind.Honest → (who : ℕ) (payload : List ℕ) → IsServedByRule h who payload (late h.kind h who payload)
+late_serves : (h : Hostile) → h.kind ≡ kind.Honest → (who : ℕ) (payload : List ℕ) → IsServedByRule h who payload (by_late_request h.kind h who payload)
 late_serves h e who payload =
-    let P : HostileKind → Type 0 = λ k. IsServedByRule h who payload (late k h who payload) in
+    let P : HostileKind → Type 0 = λ k. IsServedByRule h who payload (by_late_request k h who payload) in
     subst P (sym e) (by_going_serves h e who payload)
 
-early_serves : (h : Hostile) → h.kind ≡ kind.Honest → (who : ℕ) (payload : List ℕ) → IsServedByRule h who payload (early h who payload)
+early_serves : (h : Hostile) → h.kind ≡ kind.Honest → (who : ℕ) (payload : List ℕ) → IsServedByRule h who payload (by_early_request h who payload)
 early_serves h e who payload =
-    let r : List ℕ × Hostile = by_going same h who payload in
+    let r : List ℕ × Hostile = by_going answer_as_is h who payload in
     let P : HostileKind → Type 0 = λ k. IsServedByRule h who payload (r.0, if is_replay k then record r.1 { told = with_told h.told who r.0 } else r.1) in
     subst P (sym e) (by_going_serves h e who payload)
 
 kind_serves : (h : Hostile) → h.kind ≡ kind.Honest → (seat who : ℕ) (payload : List ℕ) → IsServedByRule h who payload (by_kind h seat who payload)
 kind_serves h e seat who payload =
-    elim (is_late h) as (λ b. IsServedByRule h who payload (if b then late h.kind h who payload else early h who payload)) [
+    elim (is_late h) as (λ b. IsServedByRule h who payload (if b then by_late_request h.kind h who payload else by_early_request h who payload)) [
       | true ↦ late_serves h e who payload
       | false ↦ early_serves h e who payload
     ]

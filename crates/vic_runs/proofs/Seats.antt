@@ -7,7 +7,7 @@ use Rattle.vic_rules.specs.declared.trace.Input.{Input}
 use Rattle.vic_rules.specs.declared.trace.Input.TheVariants as input
 use Rattle.vic_laws.proofs.Words.{all_weaker}
 use Rattle.vic_order.specs.Serving.{Serving}
-use Rattle.vic_order.specs.Scenes.{Queue, SceneOf, opening_with, queue_of, set_queue, server_at, server_of, steps, served, serves, taken, takes, unchanged, flipped, resends, copies, joins, is_server, Event, Asks, Serves, Takes, Flips, Hears, Resends, Copies, Joins, happens, after_events, MayHappen, MayAllHappen}
+use Rattle.vic_order.specs.Scenes.{Queue, SceneOf, opening_with, queue_of, set_queue, server_at, server_of, after_step, after_serving_from, after_serving, after_taking_from, after_taking, payload_as_is, payload_with_flip, after_resending, after_copying, after_joining, is_server, Event, Asks, Serves, Takes, Flips, Hears, Resends, Copies, Joins, after_event, after_events, MayHappen, MayAllHappen}
 use Rattle.vic_runs.proofs.Lists.{all-set, all-at, all-replicate}
 use Rattle.vic_honest.proofs.Queues.{length-set_queue}
 use Rattle.vic_runs.proofs.Servers.{is_server-set}
@@ -35,39 +35,39 @@ module _ {V : Type 0} where
 
   -- ---- what happens
 
-  pub seated-steps : (s : SceneOf V) → IsSeated s → (i : ℕ) (given : Input) → IsSeated (steps s i given)
-  unfolding steps
-  seated-steps s h i given = record { up_count = length-set_queue s.up i _ ∙ h.up_count; down_count = h.down_count; by_count = h.by_count; placed = h.placed }
+  pub seated-after_step : (s : SceneOf V) → IsSeated s → (i : ℕ) (given : Input) → IsSeated (after_step s i given)
+  unfolding after_step
+  seated-after_step s h i given = record { up_count = length-set_queue s.up i _ ∙ h.up_count; down_count = h.down_count; by_count = h.by_count; placed = h.placed }
 
-  pub seated-served : (rule : Serving V) (s : SceneOf V) → IsSeated s → (i : ℕ) (queue : Queue) (server : Option V) → IsSeated (served rule s i queue server)
-  seated-served rule s h i [] server = h
-  seated-served rule s h i (payload ∷ rest) None = h
-  seated-served rule s h i (payload ∷ rest) (Some server) = record {
+  pub seated-after_serving_from : (rule : Serving V) (s : SceneOf V) → IsSeated s → (i : ℕ) (queue : Queue) (server : Option V) → IsSeated (after_serving_from rule s i queue server)
+  seated-after_serving_from rule s h i [] server = h
+  seated-after_serving_from rule s h i (payload ∷ rest) None = h
+  seated-after_serving_from rule s h i (payload ∷ rest) (Some server) = record {
     up_count = length-set_queue s.up i rest ∙ h.up_count;
     down_count = length-set_queue s.down i _ ∙ h.down_count;
     by_count = h.by_count;
     placed = all_weaker (λ n. is_server s n ≡ true) _ (λ n there. is_server-set s.servers (server_of s.served_by i) n (Some (rule server i i payload).1) refl there) s.served_by h.placed;
   }
 
-  pub seated-serves : (rule : Serving V) (s : SceneOf V) → IsSeated s → (i : ℕ) → IsSeated (serves rule s i)
-  unfolding serves
-  seated-serves rule s h i = seated-served rule s h i (queue_of s.up i) (server_at s.servers (server_of s.served_by i))
+  pub seated-after_serving : (rule : Serving V) (s : SceneOf V) → IsSeated s → (i : ℕ) → IsSeated (after_serving rule s i)
+  unfolding after_serving
+  seated-after_serving rule s h i = seated-after_serving_from rule s h i (queue_of s.up i) (server_at s.servers (server_of s.served_by i))
 
-  seated-taken : (change : List ℕ → List ℕ) (s : SceneOf V) → IsSeated s → (i : ℕ) (queue : Queue) → IsSeated (taken change s i queue)
-  seated-taken change s h i [] = h
-  seated-taken change s h i (payload ∷ rest) =
-      seated-steps (record s { down = set_queue s.down i rest }) (record { up_count = h.up_count; down_count = length-set_queue s.down i rest ∙ h.down_count; by_count = h.by_count; placed = h.placed }) i (input.Payload (change payload))
+  seated-after_taking_from : (change : List ℕ → List ℕ) (s : SceneOf V) → IsSeated s → (i : ℕ) (queue : Queue) → IsSeated (after_taking_from change s i queue)
+  seated-after_taking_from change s h i [] = h
+  seated-after_taking_from change s h i (payload ∷ rest) =
+      seated-after_step (record s { down = set_queue s.down i rest }) (record { up_count = h.up_count; down_count = length-set_queue s.down i rest ∙ h.down_count; by_count = h.by_count; placed = h.placed }) i (input.Payload (change payload))
 
-  pub seated-takes : (change : List ℕ → List ℕ) (s : SceneOf V) → IsSeated s → (i : ℕ) → IsSeated (takes change s i)
-  unfolding takes
-  seated-takes change s h i = seated-taken change s h i (queue_of s.down i)
+  pub seated-after_taking : (change : List ℕ → List ℕ) (s : SceneOf V) → IsSeated s → (i : ℕ) → IsSeated (after_taking change s i)
+  unfolding after_taking
+  seated-after_taking change s h i = seated-after_taking_from change s h i (queue_of s.down i)
 
-  pub seated-resends : (s : SceneOf V) → IsSeated s → (i : ℕ) → IsSeated (resends s i)
-  seated-resends s h i = record { up_count = length-set_queue s.up i _ ∙ h.up_count; down_count = h.down_count; by_count = h.by_count; placed = h.placed }
+  pub seated-after_resending : (s : SceneOf V) → IsSeated s → (i : ℕ) → IsSeated (after_resending s i)
+  seated-after_resending s h i = record { up_count = length-set_queue s.up i _ ∙ h.up_count; down_count = h.down_count; by_count = h.by_count; placed = h.placed }
 
   -- a server that exists is copied
-  pub seated-copies : (s : SceneOf V) → IsSeated s → (n t : ℕ) → is_server s n ≡ true → IsSeated (copies s n t)
-  seated-copies s h n t there = record {
+  pub seated-after_copying : (s : SceneOf V) → IsSeated s → (n t : ℕ) → is_server s n ≡ true → IsSeated (after_copying s n t)
+  seated-after_copying s h n t there = record {
     up_count = h.up_count;
     down_count = h.down_count;
     by_count = h.by_count;
@@ -75,8 +75,8 @@ module _ {V : Type 0} where
   }
 
   -- a client joins a server that exists
-  pub seated-joins : (s : SceneOf V) → IsSeated s → (i n : ℕ) → is_server s n ≡ true → IsSeated (joins s i n)
-  seated-joins s h i n there = record {
+  pub seated-after_joining : (s : SceneOf V) → IsSeated s → (i n : ℕ) → is_server s n ≡ true → IsSeated (after_joining s i n)
+  seated-after_joining s h i n there = record {
     up_count = h.up_count;
     down_count = h.down_count;
     by_count = length-set s.served_by (i - 1) n ∙ h.by_count;
@@ -84,16 +84,16 @@ module _ {V : Type 0} where
   }
 
   -- an event that may happen leaves each client its queues and a server that exists
-  pub seated-happens : (rule : Serving V) (s : SceneOf V) (m : Event) → IsSeated s → MayHappen s m → IsSeated (happens rule s m)
-  seated-happens rule s (Asks i given) h may = seated-steps s h i given
-  seated-happens rule s (Serves i) h may = seated-serves rule s h i
-  seated-happens rule s (Takes i) h may = seated-takes unchanged s h i
-  seated-happens rule s (Flips i n) h may = seated-takes (flipped n) s h i
-  seated-happens rule s (Hears i payload) h may = seated-steps s h i (input.Payload payload)
-  seated-happens rule s (Resends i) h may = seated-resends s h i
-  seated-happens rule s (Copies n t) h may = seated-copies s h n t may
-  seated-happens rule s (Joins i n) h may = seated-joins s h i n may.2
+  pub seated-after_event : (rule : Serving V) (s : SceneOf V) (m : Event) → IsSeated s → MayHappen s m → IsSeated (after_event rule s m)
+  seated-after_event rule s (Asks i given) h may = seated-after_step s h i given
+  seated-after_event rule s (Serves i) h may = seated-after_serving rule s h i
+  seated-after_event rule s (Takes i) h may = seated-after_taking payload_as_is s h i
+  seated-after_event rule s (Flips i n) h may = seated-after_taking (payload_with_flip n) s h i
+  seated-after_event rule s (Hears i payload) h may = seated-after_step s h i (input.Payload payload)
+  seated-after_event rule s (Resends i) h may = seated-after_resending s h i
+  seated-after_event rule s (Copies n t) h may = seated-after_copying s h n t may
+  seated-after_event rule s (Joins i n) h may = seated-after_joining s h i n may.2
 
   pub seated-after : (rule : Serving V) (s : SceneOf V) (events : List Event) → IsSeated s → MayAllHappen rule s events → IsSeated (after_events rule s events)
   seated-after rule s [] h may = h
-  seated-after rule s (m ∷ before) h may = seated-happens rule (after_events rule s before) m (seated-after rule s before h may.0) may.1
+  seated-after rule s (m ∷ before) h may = seated-after_event rule (after_events rule s before) m (seated-after rule s before h may.0) may.1

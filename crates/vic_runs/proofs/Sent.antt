@@ -12,7 +12,7 @@ use Rattle.vic_rules.specs.Client.{Standing, MayStep}
 use Rattle.vic_rules.specs.History.{standing, IsLawful}
 use Rattle.vic_spellings.proofs.Bytes.{bytes-cons}
 use Rattle.vic_made.proofs.Made.{sent_requests}
-use Rattle.vic_order.specs.Scenes.{or_before, payload_in, last_taken, last_sent, flipped}
+use Rattle.vic_order.specs.Scenes.{or_before, payload_in, last_taken, last_sent, payload_with_flip}
 use Rattle.vic_runs.specs.Reached.{IfThere}
 
 -- ---- what is sent
@@ -76,5 +76,5 @@ bytes-get (x ∷ payload) zero h = h 0
 bytes-get (x ∷ payload) (suc n) h = bytes-get payload n (λ i. h (suc i))
 
 -- a payload with one bit changed
-pub flipped-bytes : (n : ℕ) (payload : List ℕ) → AreBytes payload → AreBytes (flipped n payload)
-flipped-bytes n payload h = bytes-set payload n (bit_xor (unwrap_or (slice_get payload n) 0) 1) (xor_of_8 (unwrap_or (slice_get payload n) 0) 1 (bytes-get payload n h) (omega arith)) h
+pub payload_with_flip-bytes : (n : ℕ) (payload : List ℕ) → AreBytes payload → AreBytes (payload_with_flip n payload)
+payload_with_flip-bytes n payload h = bytes-set payload n (bit_xor (unwrap_or (slice_get payload n) 0) 1) (xor_of_8 (unwrap_or (slice_get payload n) 0) 1 (bytes-get payload n h) (omega arith)) h

@@ -12,7 +12,7 @@ use Rattle.vic_rules.specs.declared.object.ObjectCall.TheVariants as object
 use Rattle.vic_rules.specs.Objects.{FitsObject}
 use Rattle.vic_order.specs.Order.{same_mode}
 use Rattle.vic_rules.specs.Client.{first_failing, awaits_nothing, IsIdle}
-use Rattle.vic_order.specs.Scenes.{Queue, SceneOf, stands, is_client, oldest}
+use Rattle.vic_order.specs.Scenes.{Queue, SceneOf, standing_in, is_client, oldest_payload}
 use Rattle.vic_script.specs.Scenes.{is_key, fits_op, is_plain_call, fits_object, is_object_call, asked_tests}
 
 -- a test before others was passed, and so were they
@@ -37,14 +37,14 @@ module _ {V : Type 0} (s : SceneOf V) (i : ℕ) where
 pub record Asked {V : Type 0} (s : SceneOf V) (i : ℕ) : Type 0 where
   pub above : 0 < i
   pub upto : i ≤ s.group.count
-  pub idle : IsIdle (stands s i)
+  pub idle : IsIdle (standing_in s i)
 
 -- a client that passes the tests of a line that asks it
 pub asked_is : {V : Type 0} (s : SceneOf V) (i : ℕ) → first_failing (asked_tests s i) ≡ None → Asked s i
 asked_is s i e =
-    let a = passed 2 (is_client s i) ((3, is_none (stands s i).halted) ∷ (4, awaits_nothing (stands s i).awaiting) ∷ []) e in
-    let b = passed 3 (is_none (stands s i).halted) ((4, awaits_nothing (stands s i).awaiting) ∷ []) a.1 in
-    let c = passed 4 (awaits_nothing (stands s i).awaiting) [] b.1 in
+    let a = passed 2 (is_client s i) ((3, is_none (standing_in s i).halted) ∷ (4, awaits_nothing (standing_in s i).awaiting) ∷ []) e in
+    let b = passed 3 (is_none (standing_in s i).halted) ((4, awaits_nothing (standing_in s i).awaiting) ∷ []) a.1 in
+    let c = passed 4 (awaits_nothing (standing_in s i).awaiting) [] b.1 in
     let bounds = client_is s i a.0 in
     record { above = bounds.0; upto = bounds.1; idle = and_from _ _ c.0 b.0 }
 
@@ -121,5 +121,5 @@ waits_is queue e none = omega (arith, ltb-true 0 (length queue) e, ap length non
 pub full : (queue : Queue) → nat_eq (length queue) 0 ≡ false → queue ≡ [] → ⊥
 full queue e none = eqb-false (length queue) 0 e (ap length none)
 
-pub has_byte_waits : (queue : Queue) (n : ℕ) → nat_lt n (length (oldest queue)) ≡ true → queue ≡ [] → ⊥
-has_byte_waits queue n e none = omega (arith, ltb-true n (length (oldest queue)) e, ap (λ q. length (oldest q)) none)
+pub has_byte_waits : (queue : Queue) (n : ℕ) → nat_lt n (length (oldest_payload queue)) ≡ true → queue ≡ [] → ⊥
+has_byte_waits queue n e none = omega (arith, ltb-true n (length (oldest_payload queue)) e, ap (λ q. length (oldest_payload q)) none)

@@ -24,7 +24,7 @@ use Rattle.vic_rules.specs.Objects.{FitsObject, AreBytesInObject}
 use Rattle.vic_script.specs.declared.line.Line.{Line}
 use Rattle.vic_script.specs.declared.line.Line.TheVariants as line
 use Rattle.vic_script.specs.Words.{is_plain, is_lower_hex, is_percent, hex_word, word_bytes, word_number, word_capped}
-use Rattle.vic_script.specs.Lines.{put_first, lines_of, words_of, within, key_of, value_of, prefix_of, put_of, op_of, call_of, group_line, at_most, zeros_of, content_of, store_of, object_of, object_call_of, named, give_of, pair_of, is_place, copy_of, paired, header_of, is_key_digits, key_line, kind_named, hostile_line, next_header_of, called, event_of, or_line, line_in, is_skipped, line_of}
+use Rattle.vic_script.specs.Lines.{put_first, lines_of, words_of, word_within, key_of, value_of, prefix_of, put_of, op_of, call_of, group_line, at_most, zeros_of, content_of, store_of, object_of, object_call_of, named_line, give_of, pair_of, is_server_number, copy_of, paired_line, header_of, is_key_digits, key_line, kind_named, hostile_line, next_header_of, called_line, event_of, or_line, line_in, is_skipped, line_of}
 use Rattle.vic_script.specs.Run.{is_honest}
 use Rattle.vic_runs.specs.Claims.{FitsLine}
 
@@ -89,9 +89,9 @@ few-in : (least most : ℕ) (bytes : List ℕ) → AreBytes bytes → (b : Bool)
 few-in least most bytes h true few = (h, few refl)
 few-in least most bytes h false few = tt
 
-within-few : (least most : ℕ) (o : Option (List ℕ)) → BytesIn o → FewIn least most (within least most o)
-within-few least most None h = tt
-within-few least most (Some bytes) h =
+word_within-few : (least most : ℕ) (o : Option (List ℕ)) → BytesIn o → FewIn least most (word_within least most o)
+word_within-few least most None h = tt
+word_within-few least most (Some bytes) h =
     few-in least most bytes h (nat_le least (length bytes) && nat_le (length bytes) most)
     (λ e. let p = and_parts _ _ e in (leb-true _ _ p.0, leb-true _ _ p.1))
 
@@ -126,8 +126,8 @@ op-fits : (words : List (List ℕ)) → FitsOp (op_of words)
 op-fits [] = tt
 op-fits (name ∷ []) = tt
 op-fits (name ∷ a ∷ []) =
-    let key = within-few 1 255 (word_bytes a) (word-bytes a) in
-    let prefix = within-few 0 255 (word_bytes a) (word-bytes a) in
+    let key = word_within-few 1 255 (word_bytes a) (word-bytes a) in
+    let prefix = word_within-few 0 255 (word_bytes a) (word-bytes a) in
     let lists : Option Op = if bytes_eq name (codes "list") then option_map op.List (prefix_of a) else None in
     let dels : Option Op = if bytes_eq name (codes "del") then option_map op.Del (key_of a) else lists in
     op-either (bytes_eq name (codes "get")) (option_map op.Get (key_of a)) dels (get-fits (key_of a) key)
@@ -135,7 +135,7 @@ op-fits (name ∷ a ∷ []) =
     (op-either (bytes_eq name (codes "list")) (option_map op.List (prefix_of a)) None (list-fits (prefix_of a) prefix) tt))
 op-fits (name ∷ a ∷ b ∷ []) =
     op-either (bytes_eq name (codes "put")) (put_of (key_of a) (value_of b)) None
-    (put-fits (key_of a) (value_of b) (within-few 1 255 (word_bytes a) (word-bytes a)) (within-few 0 64 (word_bytes b) (word-bytes b))) tt
+    (put-fits (key_of a) (value_of b) (word_within-few 1 255 (word_bytes a) (word-bytes a)) (word_within-few 0 64 (word_bytes b) (word-bytes b))) tt
 op-fits (name ∷ a ∷ b ∷ c ∷ others) = tt
 
 -- ---- lines
@@ -153,8 +153,8 @@ line-mapped : (f : ℕ → Line) (o : Option ℕ) → ((n : ℕ) → FitsLine (f
 line-mapped f None h = tt
 line-mapped f (Some n) h = h n
 
-named-fits : (name a : List ℕ) → FitsIn (named name a)
-named-fits name a =
+named_line-fits : (name a : List ℕ) → FitsIn (named_line name a)
+named_line-fits name a =
     let client : Option ℕ = word_capped a in
     let resends : Option Line = if bytes_eq name (codes "resend") then option_map line.Resend client else None in
     let agains : Option Line = if bytes_eq name (codes "again") then option_map line.Again client else resends in
@@ -181,12 +181,12 @@ pair-fits make each (Some i) None = tt
 pair-fits make each None n = tt
 
 copy-fits : (n t : Option ℕ) → FitsIn (copy_of n t)
-copy-fits (Some n) (Some t) = line-either (is_place t) (Some (line.Copy n t)) None tt tt
+copy-fits (Some n) (Some t) = line-either (is_server_number t) (Some (line.Copy n t)) None tt tt
 copy-fits (Some n) None = tt
 copy-fits None t = tt
 
-paired-fits : (name a b : List ℕ) → FitsIn (paired name a b)
-paired-fits name a b =
+paired_line-fits : (name a b : List ℕ) → FitsIn (paired_line name a b)
+paired_line-fits name a b =
     let moves : Option Line = if bytes_eq name (codes "move") then pair_of line.Move (word_capped a) (word_capped b) else None in
     let copies : Option Line = if bytes_eq name (codes "copy") then copy_of (word_capped a) (word_number b) else moves in
     let flips : Option Line = if bytes_eq name (codes "flip") then pair_of line.Flip (word_capped a) (word_capped b) else copies in
@@ -229,8 +229,8 @@ few-either-way least most false x y h k = k
 
 content-few : (word : List ℕ) → FewIn 0 8388608 (content_of word)
 content-few word =
-    few-either-way 0 8388608 (starts_with nat_eq word (codes "zeros:")) (zeros_of (drop 6 word)) (within 0 8388608 (word_bytes word)) (zeros-few (word_number (drop 6 word)))
-    (within-few 0 8388608 (word_bytes word) (word-bytes word))
+    few-either-way 0 8388608 (starts_with nat_eq word (codes "zeros:")) (zeros_of (drop 6 word)) (word_within 0 8388608 (word_bytes word)) (zeros-few (word_number (drop 6 word)))
+    (word_within-few 0 8388608 (word_bytes word) (word-bytes word))
 
 load-fits : (k : Option (List ℕ)) → FewIn 1 255 k → FitsObjectIn (option_map object.Load k)
 load-fits None h = tt
@@ -253,8 +253,8 @@ object-fits : (words : List (List ℕ)) → FitsObjectIn (object_of words)
 object-fits [] = tt
 object-fits (name ∷ []) = tt
 object-fits (name ∷ a ∷ []) =
-    let key = within-few 1 255 (word_bytes a) (word-bytes a) in
-    let prefix = within-few 0 255 (word_bytes a) (word-bytes a) in
+    let key = word_within-few 1 255 (word_bytes a) (word-bytes a) in
+    let prefix = word_within-few 0 255 (word_bytes a) (word-bytes a) in
     let lists : Option ObjectCall = if bytes_eq name (codes "names") then option_map object.Names (prefix_of a) else None in
     let erases : Option ObjectCall = if bytes_eq name (codes "erase") then option_map object.Erase (key_of a) else lists in
     object-either (bytes_eq name (codes "load")) (option_map object.Load (key_of a)) erases (load-fits (key_of a) key)
@@ -262,7 +262,7 @@ object-fits (name ∷ a ∷ []) =
     (object-either (bytes_eq name (codes "names")) (option_map object.Names (prefix_of a)) None (names-fits (prefix_of a) prefix) tt))
 object-fits (name ∷ a ∷ b ∷ []) =
     object-either (bytes_eq name (codes "store")) (store_of (key_of a) (content_of b)) None
-    (store-fits (key_of a) (content_of b) (within-few 1 255 (word_bytes a) (word-bytes a)) (content-few b)) tt
+    (store-fits (key_of a) (content_of b) (word_within-few 1 255 (word_bytes a) (word-bytes a)) (content-few b)) tt
 object-fits (name ∷ a ∷ b ∷ c ∷ others) = tt
 
 object_call-fits : (i : Option ℕ) (c : Option ObjectCall) → FitsObjectIn c → FitsIn (object_call_of i c)
@@ -313,17 +313,17 @@ next_header-fits (name ∷ a ∷ []) = line-either (bytes_eq name (codes "key"))
 next_header-fits (name ∷ a ∷ b ∷ []) = line-either (bytes_eq name (codes "hostile")) (hostile_line a (word_number b)) None (hostile-fits a (word_number b)) tt
 next_header-fits (name ∷ a ∷ b ∷ c ∷ others) = tt
 
-called-fits : (kind : Mode) (name a : List ℕ) (others : List (List ℕ)) → FitsIn (called kind name a others)
-called-fits mode.Plain name a others = line-either (bytes_eq name (codes "call")) (call_of (word_capped a) (op_of others)) None (call-fits (word_capped a) (op_of others) (op-fits others)) tt
-called-fits mode.Objects name a others =
+called_line-fits : (kind : Mode) (name a : List ℕ) (others : List (List ℕ)) → FitsIn (called_line kind name a others)
+called_line-fits mode.Plain name a others = line-either (bytes_eq name (codes "call")) (call_of (word_capped a) (op_of others)) None (call-fits (word_capped a) (op_of others) (op-fits others)) tt
+called_line-fits mode.Objects name a others =
     line-either (bytes_eq name (codes "call")) (object_call_of (word_capped a) (object_of others)) None (object_call-fits (word_capped a) (object_of others) (object-fits others)) tt
 
 event-fits : (kind : Mode) (words : List (List ℕ)) → FitsIn (event_of kind words)
 event-fits kind [] = tt
 event-fits kind (name ∷ []) = tt
-event-fits kind (name ∷ a ∷ []) = named-fits name a
-event-fits kind (name ∷ a ∷ b ∷ []) = paired-fits name a b
-event-fits kind (name ∷ a ∷ b ∷ c ∷ others) = called-fits kind name a (b ∷ c ∷ others)
+event-fits kind (name ∷ a ∷ []) = named_line-fits name a
+event-fits kind (name ∷ a ∷ b ∷ []) = paired_line-fits name a b
+event-fits kind (name ∷ a ∷ b ∷ c ∷ others) = called_line-fits kind name a (b ∷ c ∷ others)
 
 or-fits : (x y : Option Line) → FitsIn x → FitsIn y → FitsIn (or_line x y)
 or-fits (Some l) y h k = h
@@ -359,16 +359,16 @@ object_call-honest (Some i) (Some c) = refl
 object_call-honest (Some i) None = refl
 object_call-honest None c = refl
 
-called-honest : (kind : Mode) (name a : List ℕ) (others : List (List ℕ)) → is_honest (called kind name a others) ≡ true
-called-honest mode.Plain name a others = honest-either (bytes_eq name (codes "call")) (call_of (word_capped a) (op_of others)) None (call-honest (word_capped a) (op_of others)) refl
-called-honest mode.Objects name a others = honest-either (bytes_eq name (codes "call")) (object_call_of (word_capped a) (object_of others)) None (object_call-honest (word_capped a) (object_of others)) refl
+called_line-honest : (kind : Mode) (name a : List ℕ) (others : List (List ℕ)) → is_honest (called_line kind name a others) ≡ true
+called_line-honest mode.Plain name a others = honest-either (bytes_eq name (codes "call")) (call_of (word_capped a) (op_of others)) None (call-honest (word_capped a) (op_of others)) refl
+called_line-honest mode.Objects name a others = honest-either (bytes_eq name (codes "call")) (object_call_of (word_capped a) (object_of others)) None (object_call-honest (word_capped a) (object_of others)) refl
 
 event-alike : (kind : Mode) (words : List (List ℕ)) → is_honest (event_of kind words) ≡ is_honest (event_of mode.Plain words)
 event-alike kind [] = refl
 event-alike kind (name ∷ []) = refl
 event-alike kind (name ∷ a ∷ []) = refl
 event-alike kind (name ∷ a ∷ b ∷ []) = refl
-event-alike kind (name ∷ a ∷ b ∷ c ∷ others) = called-honest kind name a (b ∷ c ∷ others) ∙ sym (called-honest mode.Plain name a (b ∷ c ∷ others))
+event-alike kind (name ∷ a ∷ b ∷ c ∷ others) = called_line-honest kind name a (b ∷ c ∷ others) ∙ sym (called_line-honest mode.Plain name a (b ∷ c ∷ others))
 
 or-alike : (x y z : Option Line) → is_honest y ≡ is_honest z → is_honest (or_line x y) ≡ is_honest (or_line x z)
 or-alike (Some l) y z e = refl

@@ -21,8 +21,8 @@ use Rattle.vic_script.specs.declared.line.Line.TheVariants as line
 use Rattle.vic_order.specs.Scenes.{SceneOf, server_at}
 use Rattle.vic_attacks.specs.Hostile.{Hostile}
 use Rattle.vic_script.specs.Lines.{is_key_digits, kind_named}
-use Rattle.vic_script.specs.Scenes.{said}
-use Rattle.vic_script.specs.Run.{Bad, run_of, is_honest_script, group_of, history_of, bad_line_of}
+use Rattle.vic_script.specs.Scenes.{print_of_outcomes}
+use Rattle.vic_script.specs.Run.{Bad, run_of, is_honest_script, script_group, script_history, bad_line_of}
 use Rattle.vic_script.specs.Print.{is_forged}
 use Rattle.vic_runs.specs.Reached.{GoesAs}
 
@@ -52,7 +52,7 @@ FitsLine line.Skip = Unit {0}
 
 -- each client steps by the rules
 abbrev pub RunsAreLawful : Type 0
-RunsAreLawful = (script : List ℕ) → IsLawful (group_of script) (history_of script)
+RunsAreLawful = (script : List ℕ) → IsLawful (script_group script) (script_history script)
 
 -- the test finds a history forged exactly where it is
 abbrev pub ForgedIs : Type 0
@@ -60,9 +60,9 @@ ForgedIs = (g : Group) (h : List TraceStep) → (is_forged g h ≡ true) ↔ IsF
 
 -- what is claimed of a script's run: of its views, and of what its loads return
 pub record IsGood (script : List ℕ) : Type 0 where
-  pub lawful : IsLawful (group_of script) (history_of script)
-  pub views : Headline (group_of script) (history_of script)
-  pub loads : LoadsGetTheLastIn (group_of script) (history_of script)
+  pub lawful : IsLawful (script_group script) (script_history script)
+  pub views : Headline (script_group script) (script_history script)
+  pub loads : LoadsGetTheLastIn (script_group script) (script_history script)
 
 abbrev pub ClaimsHold : Type 0
 ClaimsHold = (script : List ℕ) → IsGood script
@@ -73,7 +73,7 @@ line_of_input (input.Call o) x = []
 line_of_input (input.Object c) x = []
 line_of_input input.Poll x = []
 line_of_input input.Sync x = []
-line_of_input (input.Payload payload) x = said x.client x.returned x.object
+line_of_input (input.Payload payload) x = print_of_outcomes x.client x.returned x.object
 
 -- the line of a step in which a client took an answer; the other steps print nothing
 abbrev pub line_of_step : TraceStep → List ℕ
@@ -81,14 +81,14 @@ line_of_step x = line_of_input x.input x
 
 -- what the lines of a script print is what its steps tell, the oldest first
 abbrev pub PrintsAreReturns : Type 0
-PrintsAreReturns = (script : List ℕ) → (run_of script).text ≡ flat_map line_of_step (reverse (history_of script))
+PrintsAreReturns = (script : List ℕ) → (run_of script).text ≡ flat_map line_of_step (reverse (script_history script))
 
 -- ---- every honest script: no line tampers with what its one server answers. In a plain group contents are apart, since none is sent
 
 -- every tag that a client takes was made before, and the print says so
 abbrev pub NothingIsForged : Type 0
 NothingIsForged = (script : List ℕ) → is_honest_script script ≡ true
-    → (is_forged (group_of script) (history_of script) ≡ false) × (IsForged (group_of script) (history_of script) → ⊥)
+    → (is_forged (script_group script) (script_history script) ≡ false) × (IsForged (script_group script) (script_history script) → ⊥)
 
 abbrev pub RunsAreHonest : Type 0
 RunsAreHonest = (script : List ℕ) → is_honest_script script ≡ true → (s : SceneOf Hostile) → (run_of script).scene ≡ Some s → ComesHonestly GoesAs s
@@ -111,4 +111,4 @@ NobodyHalts = (script : List ℕ) → is_honest_script script ≡ true → (s : 
 
 -- where contents are apart, no line is bad for that its client has halted
 abbrev pub NoLineIsHalted : Type 0
-NoLineIsHalted = (script : List ℕ) → is_honest_script script ≡ true → AreApart (group_of script) (history_of script) → (b : Bad) → bad_line_of script ≡ Some b → b.kind ≡ 3 → ⊥
+NoLineIsHalted = (script : List ℕ) → is_honest_script script ≡ true → AreApart (script_group script) (script_history script) → (b : Bad) → bad_line_of script ≡ Some b → b.kind ≡ 3 → ⊥

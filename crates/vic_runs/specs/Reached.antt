@@ -11,7 +11,7 @@ use Rattle.vic_rules.specs.Client.{Standing}
 use Rattle.vic_rules.specs.History.{IsLawful}
 use Rattle.vic_order.specs.Order.{Ordered, Server}
 use Rattle.vic_order.specs.Honest.{ComesHonestly}
-use Rattle.vic_order.specs.Scenes.{Queue, SceneOf, is_server, stands}
+use Rattle.vic_order.specs.Scenes.{Queue, SceneOf, is_server, standing_in}
 use Rattle.vic_attacks.specs.declared.HostileKind.TheVariants as kind
 use Rattle.vic_attacks.specs.Hostile.{Hostile}
 
@@ -62,7 +62,7 @@ calls_in t = t.calls + to_call t.phase
 -- waits or is kept is bytes
 pub record IsReached (s : SceneOf Hostile) (n : ℕ) : Type 0 where
   pub lawful : IsLawful s.group s.history
-  pub calls : (i : ℕ) → calls_in (stands s i) ≤ n
+  pub calls : (i : ℕ) → calls_in (standing_in s i) ≤ n
   pub up_count : length s.up ≡ s.group.count
   pub down_count : length s.down ≡ s.group.count
   pub up_bytes : AllByRecursion HoldsBytes s.up
@@ -81,5 +81,5 @@ GoesAs h server = (h.kind ≡ kind.Honest) × (h.going ≡ server)
 -- so it is, no client was asked for more than n calls, and the requests that wait are bytes
 pub record IsHonestlyReached {V : Type 0} (R : V → Server → Type 0) (s : SceneOf V) (n : ℕ) : Type 0 where
   pub comes : ComesHonestly R s
-  pub calls : (i : ℕ) → calls_in (stands s i) ≤ n
+  pub calls : (i : ℕ) → calls_in (standing_in s i) ≤ n
   pub up_bytes : AllByRecursion HoldsBytes s.up

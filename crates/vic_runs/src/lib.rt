@@ -10,7 +10,7 @@
 
 ghost use Rattle.vic_runs.specs.Claims.{RunsAreLawful, NothingIsForged, ForgedIs, RunsAreHonest, ClaimsHold, OutcomesAreFates, LoadsAreFated, NobodyHalts, NoLineIsHalted, PrintsAreReturns};
 ghost use Rattle.vic_runs.specs.Going.{LinesGoOn};
-ghost use Rattle.vic_runs.specs.Prints.{FirstUnmadeIs, PrintsHaveAgreements, PrintsHaveViews};
+ghost use Rattle.vic_runs.specs.Prints.{FirstForgedIs, PrintsHaveAgreements, PrintsHaveViews};
 ghost use Rattle.vic_runs.specs.Tampering.{HonestLineIs};
 
 pub mod agreements;
@@ -72,8 +72,8 @@ pub fn honest_line_is()
 {}
 
 /// The first step at which a text was taken that no client had made, and the first such text of its payload.
-pub fn first_unmade_is()
-    ensures { FirstUnmadeIs }
+pub fn first_forged_is()
+    ensures { FirstForgedIs }
 {}
 
 /// A print without a bad line has the view of each client, and for each two clients how far their views agree.

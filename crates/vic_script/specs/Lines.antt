@@ -31,18 +31,18 @@ words_of [] = [] ∷ []
 words_of (b ∷ bs) = if nat_eq b 32 then [] ∷ words_of bs else put_first b (words_of bs)
 
 -- bytes of a word that are few enough
-abbrev pub within : ℕ → ℕ → Option (List ℕ) → Option (List ℕ)
-within least most None = None
-within least most (Some bytes) = if nat_le least (length bytes) && nat_le (length bytes) most then Some bytes else None
+abbrev pub word_within : ℕ → ℕ → Option (List ℕ) → Option (List ℕ)
+word_within least most None = None
+word_within least most (Some bytes) = if nat_le least (length bytes) && nat_le (length bytes) most then Some bytes else None
 
 abbrev pub key_of : List ℕ → Option (List ℕ)
-key_of word = within 1 255 (word_bytes word)
+key_of word = word_within 1 255 (word_bytes word)
 
 abbrev pub value_of : List ℕ → Option (List ℕ)
-value_of word = within 0 64 (word_bytes word)
+value_of word = word_within 0 64 (word_bytes word)
 
 abbrev pub prefix_of : List ℕ → Option (List ℕ)
-prefix_of word = within 0 255 (word_bytes word)
+prefix_of word = word_within 0 255 (word_bytes word)
 
 abbrev pub put_of : Option (List ℕ) → Option (List ℕ) → Option Op
 put_of (Some k) (Some v) = Some (op.Put k v)
@@ -82,7 +82,7 @@ zeros_of digits = option_map (λ n. replicate n 0) (at_most 8388608 (word_number
 -- a content: so many zero bytes, or a byte word
 abbrev pub content_of : List ℕ → Option (List ℕ)
 content_of word =
-    if starts_with nat_eq word (codes "zeros:") then zeros_of (drop 6 word) else within 0 8388608 (word_bytes word)
+    if starts_with nat_eq word (codes "zeros:") then zeros_of (drop 6 word) else word_within 0 8388608 (word_bytes word)
 
 abbrev pub store_of : Option (List ℕ) → Option (List ℕ) → Option ObjectCall
 store_of (Some k) (Some c) = Some (object.Store k c)
@@ -105,8 +105,8 @@ object_call_of (Some i) None = None
 object_call_of None c = None
 
 -- a line of one name and one number
-abbrev pub named : List ℕ → List ℕ → Option Line
-named name a =
+abbrev pub named_line : List ℕ → List ℕ → Option Line
+named_line name a =
     if bytes_eq name (codes "poll") then option_map line.Poll (word_capped a)
     else if bytes_eq name (codes "sync") then option_map line.Sync (word_capped a)
     else if bytes_eq name (codes "serve") then option_map line.Serve (word_capped a)
@@ -127,17 +127,17 @@ pair_of make (Some i) None = None
 pair_of make None n = None
 
 -- a server from 1 to 4
-abbrev pub is_place : ℕ → Bool
-is_place n = nat_lt 0 n && nat_le n 4
+abbrev pub is_server_number : ℕ → Bool
+is_server_number n = nat_lt 0 n && nat_le n 4
 
 abbrev pub copy_of : Option ℕ → Option ℕ → Option Line
-copy_of (Some n) (Some t) = if is_place t then Some (line.Copy n t) else None
+copy_of (Some n) (Some t) = if is_server_number t then Some (line.Copy n t) else None
 copy_of (Some n) None = None
 copy_of None t = None
 
 -- a line of one name and two words
-abbrev pub paired : List ℕ → List ℕ → List ℕ → Option Line
-paired name a b =
+abbrev pub paired_line : List ℕ → List ℕ → List ℕ → Option Line
+paired_line name a b =
     if bytes_eq name (codes "give") then give_of (word_capped a) (word_bytes b)
     else if bytes_eq name (codes "flip") then pair_of line.Flip (word_capped a) (word_capped b)
     else if bytes_eq name (codes "copy") then copy_of (word_capped a) (word_number b)
@@ -183,15 +183,15 @@ next_header_of (name ∷ a ∷ b ∷ []) = if bytes_eq name (codes "hostile") th
 next_header_of words = None
 
 -- a call: in a group of mode plain of an operation on the dictionary, in one of mode objects on objects
-abbrev pub called : Mode → List ℕ → List ℕ → List (List ℕ) → Option Line
-called mode.Plain name a others = if bytes_eq name (codes "call") then call_of (word_capped a) (op_of others) else None
-called mode.Objects name a others = if bytes_eq name (codes "call") then object_call_of (word_capped a) (object_of others) else None
+abbrev pub called_line : Mode → List ℕ → List ℕ → List (List ℕ) → Option Line
+called_line mode.Plain name a others = if bytes_eq name (codes "call") then call_of (word_capped a) (op_of others) else None
+called_line mode.Objects name a others = if bytes_eq name (codes "call") then object_call_of (word_capped a) (object_of others) else None
 
 -- a line that says what happens in a group of this mode
 abbrev pub event_of : Mode → List (List ℕ) → Option Line
-event_of kind (name ∷ a ∷ []) = named name a
-event_of kind (name ∷ a ∷ b ∷ []) = paired name a b
-event_of kind (name ∷ a ∷ b ∷ c ∷ others) = called kind name a (b ∷ c ∷ others)
+event_of kind (name ∷ a ∷ []) = named_line name a
+event_of kind (name ∷ a ∷ b ∷ []) = paired_line name a b
+event_of kind (name ∷ a ∷ b ∷ c ∷ others) = called_line kind name a (b ∷ c ∷ others)
 event_of kind words = None
 
 abbrev pub or_line : Option Line → Option Line → Option Line

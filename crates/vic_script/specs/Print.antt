@@ -16,7 +16,7 @@ use Rattle.vic_rules.specs.Client.{same_entry}
 use Rattle.vic_rules.specs.Views.{view_of}
 use Rattle.vic_rules.specs.Trust.{texts_taken, texts_made}
 use Rattle.vic_script.specs.Words.{op_words, outcome_words, space, newline}
-use Rattle.vic_script.specs.Run.{Bad, Played, run_of, group_in, history_in}
+use Rattle.vic_script.specs.Run.{Bad, ScriptRun, run_of, group_in, history_in}
 
 -- ---- views
 
@@ -76,35 +76,35 @@ all_agreements g h = flat_map (λ i. flat_map (agree_line g h i) (numbers_from (
 abbrev pub is_among : List (List ℕ) → List ℕ → Bool
 is_among texts text = list_any (bytes_eq text) texts
 
-abbrev pub takes_unmade : Group → List TraceStep → TraceStep → Bool
-takes_unmade g past x = list_any (λ t. not (is_among (texts_made g past) t)) (texts_taken g past x)
+abbrev pub takes_forged : Group → List TraceStep → TraceStep → Bool
+takes_forged g past x = list_any (λ t. not (is_among (texts_made g past) t)) (texts_taken g past x)
 
 -- a step, counted from 1, the oldest first, and a text that was taken there and made at no step before
-pub record Unmade : Type 0 where
+pub record ForgedText : Type 0 where
   pub step : ℕ
   pub text : List ℕ
 
 -- the first text that isn't among those that were made
-abbrev pub first_unmade_of : List (List ℕ) → List (List ℕ) → Option (List ℕ)
-first_unmade_of made [] = None
-first_unmade_of made (t ∷ texts) = if is_among made t then first_unmade_of made texts else Some t
+abbrev pub first_forged_of : List (List ℕ) → List (List ℕ) → Option (List ℕ)
+first_forged_of made [] = None
+first_forged_of made (t ∷ texts) = if is_among made t then first_forged_of made texts else Some t
 
-abbrev pub unmade_at : ℕ → Option (List ℕ) → Option Unmade
-unmade_at n None = None
-unmade_at n (Some t) = Some (record { step = n; text = t })
+abbrev pub forged_text_at : ℕ → Option (List ℕ) → Option ForgedText
+forged_text_at n None = None
+forged_text_at n (Some t) = Some (record { step = n; text = t })
 
-abbrev pub or_unmade : Option Unmade → Option Unmade → Option Unmade
-or_unmade (Some u) now = Some u
-or_unmade None now = now
+abbrev pub or_forged_text : Option ForgedText → Option ForgedText → Option ForgedText
+or_forged_text (Some u) now = Some u
+or_forged_text None now = now
 
 -- the first step at which such a text was taken, and the first such text of its payload
-unfoldable pub first_unmade : Group → List TraceStep → Option Unmade
-first_unmade g [] = None
-first_unmade g (x ∷ past) = or_unmade (first_unmade g past) (unmade_at (length (x ∷ past)) (first_unmade_of (texts_made g past) (texts_taken g past x)))
+unfoldable pub first_forged : Group → List TraceStep → Option ForgedText
+first_forged g [] = None
+first_forged g (x ∷ past) = or_forged_text (first_forged g past) (forged_text_at (length (x ∷ past)) (first_forged_of (texts_made g past) (texts_taken g past x)))
 
 -- the history is forged: there is one
 unfoldable pub is_forged : Group → List TraceStep → Bool
-is_forged g h = is_some (first_unmade g h)
+is_forged g h = is_some (first_forged g h)
 
 abbrev pub tags_line : Bool → List ℕ
 tags_line true = codes "tags not made" ++ newline
@@ -130,7 +130,7 @@ end_text g h (Some b) = bad_line b
 end_text g h None = all_views g h ++ all_agreements g h ++ tags_line (is_forged g h)
 
 -- the print of a run
-unfoldable pub print_of : Played → List ℕ
+unfoldable pub print_of : ScriptRun → List ℕ
 print_of p = p.text ++ end_text (group_in p.scene) (history_in p.scene) p.bad
 
 -- what a script prints

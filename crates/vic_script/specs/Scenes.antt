@@ -13,10 +13,10 @@ use Rattle.vic_rules.specs.declared.trace.TraceStep.{TraceStep}
 use Rattle.vic_rules.specs.Client.{awaits_nothing, first_failing}
 use Rattle.vic_order.specs.Order.{same_mode}
 use Rattle.vic_order.specs.Serving.{Serving}
-use Rattle.vic_order.specs.Scenes.{SceneOf, queue_of, stands, Event, Asks, Serves, Takes, Flips, Hears, Resends, Copies, Joins, after_events, last_taken, last_sent, is_client, is_server, waits_in, has_byte}
+use Rattle.vic_order.specs.Scenes.{SceneOf, queue_of, standing_in, Event, Asks, Serves, Takes, Flips, Hears, Resends, Copies, Joins, after_events, last_taken, last_sent, is_client, is_server, waits_in, has_byte}
 use Rattle.vic_script.specs.declared.line.Line.{Line}
 use Rattle.vic_script.specs.declared.line.Line.TheVariants as line
-use Rattle.vic_script.specs.Lines.{is_place}
+use Rattle.vic_script.specs.Lines.{is_server_number}
 use Rattle.vic_script.specs.Words.{outcome_words, object_words, space, newline}
 
 -- ---- what is printed
@@ -35,19 +35,19 @@ abbrev pub line_by : ℕ → List ℕ → List ℕ
 line_by i words = decimal i ++ space ++ words ++ newline
 
 -- a client's outcome, and then that of its call on objects; or that it took an answer, where neither was returned
-abbrev pub said : ℕ → Option Outcome → Option ObjectOutcome → List ℕ
-said i None None = line_by i (codes "took")
-said i (Some o) None = line_by i (outcome_words o)
-said i None (Some q) = line_by i (object_words q)
-said i (Some o) (Some q) = line_by i (outcome_words o) ++ line_by i (object_words q)
+abbrev pub print_of_outcomes : ℕ → Option Outcome → Option ObjectOutcome → List ℕ
+print_of_outcomes i None None = line_by i (codes "took")
+print_of_outcomes i (Some o) None = line_by i (outcome_words o)
+print_of_outcomes i None (Some q) = line_by i (object_words q)
+print_of_outcomes i (Some o) (Some q) = line_by i (outcome_words o) ++ line_by i (object_words q)
 
 -- what is printed of an event, by the history behind it: of one by which a client took a payload, what became of it
 abbrev pub print_of_event : Event → List TraceStep → List ℕ
 print_of_event (Asks i given) h = []
 print_of_event (Serves i) h = []
-print_of_event (Takes i) h = said i (returned_in h) (object_in h)
-print_of_event (Flips i n) h = said i (returned_in h) (object_in h)
-print_of_event (Hears i payload) h = said i (returned_in h) (object_in h)
+print_of_event (Takes i) h = print_of_outcomes i (returned_in h) (object_in h)
+print_of_event (Flips i n) h = print_of_outcomes i (returned_in h) (object_in h)
+print_of_event (Hears i payload) h = print_of_outcomes i (returned_in h) (object_in h)
 print_of_event (Resends i) h = []
 print_of_event (Copies n t) h = []
 print_of_event (Joins i n) h = []
@@ -58,26 +58,26 @@ print_of_events rule s [] = []
 print_of_events rule s (m ∷ before) = print_of_events rule s before ++ print_of_event m (after_events rule s (m ∷ before)).history
 
 -- what a scene has become, and the text that was printed
-pub record ShownOf (V : Type 0) : Type 0 where
+pub record PrintedSceneOf (V : Type 0) : Type 0 where
   pub scene : SceneOf V
   pub text : List ℕ
 
-abbrev pub shown_after : {V : Type 0} → Serving V → SceneOf V → List Event → ShownOf V
-shown_after rule s events = record { scene = after_events rule s events; text = print_of_events rule s events }
+abbrev pub printed_scene_after : {V : Type 0} → Serving V → SceneOf V → List Event → PrintedSceneOf V
+printed_scene_after rule s events = record { scene = after_events rule s events; text = print_of_events rule s events }
 
 -- ---- the lines
 
 -- a client takes a payload from elsewhere, if there is one
-abbrev pub hears_if : ℕ → Option (List ℕ) → List Event
-hears_if i None = []
-hears_if i (Some payload) = Hears i payload ∷ []
+abbrev pub events_of_hearing : ℕ → Option (List ℕ) → List Event
+events_of_hearing i None = []
+events_of_hearing i (Some payload) = Hears i payload ∷ []
 
 -- serve and take in turn while requests wait, at most so many times
-unfoldable pub turns : {V : Type 0} → Serving V → ℕ → SceneOf V → ℕ → List Event
-turns rule zero s i = []
-turns rule (suc n) s i =
+unfoldable pub events_of_turns : {V : Type 0} → Serving V → ℕ → SceneOf V → ℕ → List Event
+events_of_turns rule zero s i = []
+events_of_turns rule (suc n) s i =
     if nat_eq (length (queue_of s.up i)) 0 then []
-    else turns rule n (after_events rule s (Takes i ∷ Serves i ∷ [])) i ++ Takes i ∷ Serves i ∷ []
+    else events_of_turns rule n (after_events rule s (Takes i ∷ Serves i ∷ [])) i ++ Takes i ∷ Serves i ∷ []
 
 -- the most turns of a run
 abbrev pub most_turns : ℕ
@@ -95,9 +95,9 @@ events_of rule s (line.Poll i) = Asks i input.Poll ∷ []
 events_of rule s (line.Sync i) = Asks i input.Sync ∷ []
 events_of rule s (line.Serve i) = Serves i ∷ []
 events_of rule s (line.Take i) = Takes i ∷ []
-events_of rule s (line.Run i) = turns rule most_turns s i
+events_of rule s (line.Run i) = events_of_turns rule most_turns s i
 events_of rule s (line.Give i payload) = Hears i payload ∷ []
-events_of rule s (line.Again i) = hears_if i (last_taken i s.history)
+events_of rule s (line.Again i) = events_of_hearing i (last_taken i s.history)
 events_of rule s (line.Flip i n) = Flips i n ∷ []
 events_of rule s (line.Resend i) = Resends i ∷ []
 events_of rule s (line.Copy n t) = Copies n t ∷ []
@@ -105,8 +105,8 @@ events_of rule s (line.Move i n) = Joins i n ∷ []
 events_of rule s line.Skip = []
 
 -- what it does, and what is printed of it
-abbrev pub done_line : {V : Type 0} → Serving V → SceneOf V → Line → ShownOf V
-done_line rule s l = shown_after rule s (events_of rule s l)
+abbrev pub done_line : {V : Type 0} → Serving V → SceneOf V → Line → PrintedSceneOf V
+done_line rule s l = printed_scene_after rule s (events_of rule s l)
 
 -- a key has 1 to 255 bytes
 abbrev pub is_key : List ℕ → Bool
@@ -135,7 +135,7 @@ is_object_call s c = same_mode s.group.mode mode.Objects && fits_object c
 
 -- of a client that is asked for something: it exists, has not halted, and awaits nothing
 abbrev pub asked_tests : {V : Type 0} → SceneOf V → ℕ → List (ℕ × Bool)
-asked_tests s i = (2, is_client s i) ∷ (3, is_none (stands s i).halted) ∷ (4, awaits_nothing (stands s i).awaiting) ∷ []
+asked_tests s i = (2, is_client s i) ∷ (3, is_none (standing_in s i).halted) ∷ (4, awaits_nothing (standing_in s i).awaiting) ∷ []
 
 -- the tests of a line, in their order, each with the kind of a line that fails it
 abbrev pub line_tests : {V : Type 0} → SceneOf V → Line → List (ℕ × Bool)
@@ -154,7 +154,7 @@ line_tests s (line.Give i payload) = (2, is_client s i) ∷ []
 line_tests s (line.Again i) = (2, is_client s i) ∷ (5, is_some (last_taken i s.history)) ∷ []
 line_tests s (line.Flip i n) = (2, is_client s i) ∷ (5, has_byte s.down i n) ∷ []
 line_tests s (line.Resend i) = (2, is_client s i) ∷ (5, is_some (last_sent i s.history)) ∷ []
-line_tests s (line.Copy n t) = (1, is_place t) ∷ (6, is_server s n) ∷ []
+line_tests s (line.Copy n t) = (1, is_server_number t) ∷ (6, is_server s n) ∷ []
 line_tests s (line.Move i n) = (2, is_client s i) ∷ (6, is_server s n) ∷ []
 line_tests s line.Skip = []
 

@@ -13,7 +13,7 @@ use Rattle.vic_attacks.specs.Hostile.{Hostile}
 use Rattle.vic_script.specs.declared.line.Line.{Line}
 use Rattle.vic_script.specs.declared.line.Line.TheVariants as line
 use Rattle.vic_script.specs.Words.{word_number, word_capped}
-use Rattle.vic_script.specs.Lines.{words_of, op_of, call_of, group_line, object_of, object_call_of, header_of, next_header_of, called, event_of, or_line, line_in, is_skipped, line_of}
+use Rattle.vic_script.specs.Lines.{words_of, op_of, call_of, group_line, object_of, object_call_of, header_of, next_header_of, called_line, event_of, or_line, line_in, is_skipped, line_of}
 use Rattle.vic_script.specs.Scenes.{bad_kind}
 use Rattle.vic_script.specs.Run.{Attack, is_honest}
 use Rattle.vic_script_runs.specs.Claims.{attack_after, attack_in, attacks_in}
@@ -34,16 +34,16 @@ object_call-none (Some i) (Some c) = refl
 object_call-none (Some i) None = refl
 object_call-none None c = refl
 
-called-none : (kind : Mode) (name a : List ℕ) (others : List (List ℕ)) → attack_in (called kind name a others) ≡ []
-called-none mode.Plain name a others = none-either (bytes_eq name (codes "call")) (call_of (word_capped a) (op_of others)) None (call-none (word_capped a) (op_of others)) refl
-called-none mode.Objects name a others = none-either (bytes_eq name (codes "call")) (object_call_of (word_capped a) (object_of others)) None (object_call-none (word_capped a) (object_of others)) refl
+called_line-none : (kind : Mode) (name a : List ℕ) (others : List (List ℕ)) → attack_in (called_line kind name a others) ≡ []
+called_line-none mode.Plain name a others = none-either (bytes_eq name (codes "call")) (call_of (word_capped a) (op_of others)) None (call-none (word_capped a) (op_of others)) refl
+called_line-none mode.Objects name a others = none-either (bytes_eq name (codes "call")) (object_call_of (word_capped a) (object_of others)) None (object_call-none (word_capped a) (object_of others)) refl
 
 event-alike : (kind : Mode) (words : List (List ℕ)) → attack_in (event_of kind words) ≡ attack_in (event_of mode.Plain words)
 event-alike kind [] = refl
 event-alike kind (name ∷ []) = refl
 event-alike kind (name ∷ a ∷ []) = refl
 event-alike kind (name ∷ a ∷ b ∷ []) = refl
-event-alike kind (name ∷ a ∷ b ∷ c ∷ others) = called-none kind name a (b ∷ c ∷ others) ∙ sym (called-none mode.Plain name a (b ∷ c ∷ others))
+event-alike kind (name ∷ a ∷ b ∷ c ∷ others) = called_line-none kind name a (b ∷ c ∷ others) ∙ sym (called_line-none mode.Plain name a (b ∷ c ∷ others))
 
 or-alike : (x y z : Option Line) → attack_in y ≡ attack_in z → attack_in (or_line x y) ≡ attack_in (or_line x z)
 or-alike (Some l) y z e = refl

@@ -7,14 +7,14 @@ use Rattle.vic_dict.specs.Lists.{IsIn}
 use Rattle.vic_dict.specs.declared.op.Mode.{Mode}
 use Rattle.vic_dict.specs.declared.op.Mode.TheVariants as mode
 use Rattle.vic_wire.specs.Hashes.{Group}
-use Rattle.vic_order.specs.Order.{fresh_server, ready}
+use Rattle.vic_order.specs.Order.{fresh_server, ready_member}
 use Rattle.vic_order.specs.Honest.{IsHonestEvent, ComesHonestly}
 use Rattle.vic_order.specs.Scenes.{SceneOf, Event, after_events, MayAllHappen}
 use Rattle.vic_attacks.specs.Hostile.{Hostile, hostile_from, by_kind}
 use Rattle.vic_script.specs.declared.line.Line.{Line}
 use Rattle.vic_script.specs.Lines.{lines_of, line_of}
 use Rattle.vic_script.specs.Scenes.{events_of}
-use Rattle.vic_script.specs.Run.{limit, Attack, no_attack, opening_as, is_honest}
+use Rattle.vic_script.specs.Run.{script_limit, Attack, no_attack, opening_as, is_honest}
 use Rattle.vic_runs.specs.Reached.{GoesAs, IsHonestlyReached}
 use Rattle.vic_runs.proofs.Events.{asks}
 use Rattle.vic_runs.proofs.Kept.{goes_is_kept}
@@ -50,9 +50,9 @@ honest_runs script honest s is =
     let g : Group = s.group in
     let events : List Event = script_events script in
     let none : unwrap_or e.turned no_attack ≡ no_attack =
-    none_named (attacks_of script) (unwrap_or e.turned no_attack) (honest_texts_name_none (lines_of (take (limit + 1) script)) texts) (among_is (attacks_of script) e.turned e.among) in
+    none_named (attacks_of script) (unwrap_or e.turned no_attack) (honest_texts_name_none (lines_of (take (script_limit + 1) script)) texts) (among_is (attacks_of script) e.turned e.among) in
     let first : SceneOf Hostile = opening_as g no_attack in
-    let server : Hostile = hostile_from no_attack.kind no_attack.after (fresh_server g.mode g.count ready) in
+    let server : Hostile = hostile_from no_attack.kind no_attack.after (fresh_server g.mode g.count ready_member) in
     let opened : IsHonestlyReached GoesAs first 0 = honest-opening GoesAs g server c.run.group (refl, refl) in
     let may : MayAllHappen by_kind first events = subst (λ a. MayAllHappen by_kind (opening_as g a) events) none e.comes.may in
     let b : IsBehind GoesAs first 0 opened events (after_events by_kind first events) (0 + asks events) = honest-behind GoesAs by_kind goes_is_kept first 0 events opened may e.comes.each in

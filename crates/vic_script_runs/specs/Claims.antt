@@ -12,7 +12,7 @@ use Rattle.vic_script.specs.declared.line.Line.TheVariants as line
 use Rattle.vic_script.specs.Lines.{lines_of, line_of, kind_named}
 use Rattle.vic_script.specs.Scenes.{events_of, bad_kind}
 use Rattle.vic_script.specs.Words.{newline}
-use Rattle.vic_script.specs.Run.{limit, Attack, no_attack, opening_as, run_of, is_honest_script, bad_line_of}
+use Rattle.vic_script.specs.Run.{script_limit, Attack, no_attack, opening_as, run_of, is_honest_script, bad_line_of}
 use Rattle.vic_runs.specs.Reached.{GoesAs}
 use Rattle.vic_script_runs.specs.Events.{script_events}
 
@@ -32,7 +32,7 @@ attacks_in texts = flat_map (λ text. attack_in (line_of (Some mode.Plain) text)
 
 -- what the lines of a script name, the first one first
 abbrev pub attacks_of : List ℕ → List Attack
-attacks_of script = attacks_in (lines_of (take (limit + 1) script))
+attacks_of script = attacks_in (lines_of (take (script_limit + 1) script))
 
 -- ---- every script, and honest ones
 
@@ -85,5 +85,5 @@ pub record IsOneMore (script : List ℕ) (text : List ℕ) (before after : List 
 -- scripts of such lines that are within the limit
 abbrev pub LinesAddTheirOwn : Type 0
 LinesAddTheirOwn = (texts : List (List ℕ)) (text : List ℕ)
-    → AllByRecursion IsLineText (texts ++ text ∷ []) → length (text_of (texts ++ text ∷ [])) ≤ limit
+    → AllByRecursion IsLineText (texts ++ text ∷ []) → length (text_of (texts ++ text ∷ [])) ≤ script_limit
     → IsOneMore (text_of texts) text (script_events (text_of texts)) (script_events (text_of (texts ++ text ∷ [])))

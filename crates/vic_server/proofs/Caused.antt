@@ -20,7 +20,7 @@ use Rattle.std.specs.List.{sum_by, find}
 use Rattle.std.specs.Str.{bytes_eq}
 use Rattle.vic_order.specs.declared.Stage.{Stage}
 use Rattle.vic_order.specs.declared.Stage.TheVariants as stage
-use Rattle.vic_order.specs.Order.{Ordered, Server, Answered, says, guarded, member, size, sealed_count, weight, op_weight, ordered_at, commit_at, with_commit, with_seal, is_ready, is_inside, is_away, is_open_at, is_put, is_member, same_mode, owns_committed, turn_on, turn, top_seal, update_part, becomes, set_stage, on_hello, ordered_next, entries_above, seal_at_position, is_kept, content_with, serve_read, serve}
+use Rattle.vic_order.specs.Order.{Ordered, Server, Answered, answer_alone, answer_by_tests, member, size, sealed_count, weight, op_weight, ordered_at, commit_at, with_commit, with_seal, is_ready, is_inside, is_away, is_open_at, is_put, is_member, same_mode, owns_committed, turn_on, turn, top_seal, update_part, answer_with_change, set_stage, on_hello, ordered_next, entries_above, seal_at_position, is_kept, content_with, serve_read, serve}
 use Rattle.vic_server.specs.Causes.{IsInside, HasComeIn, IsExpected, IsReady, IsOwnCommitted, IsInOrder, IsOutOfOrder, IsNoMember, IsLogFull, IsPendingFull, IsPut, IsTooHeavy, IsTooFar, OfCall, OfKeep, OfFetch, IsUnknown, IsNotDue, HasNoTurn, IsToWait, Causes}
 use Rattle.vic_rules.specs.Objects.{content_hash}
 use Rattle.vic_blob.specs.Keeping.{has_hash, kept_under, IsRoom}
@@ -112,23 +112,23 @@ HasNone a = (a ≡ say.Refused 7) ⊎ (a ≡ say.Absent) → ⊥
 
 module _ (s : Server) (n : ℕ) (tests : List (ℕ × Bool)) (a : Answered) where
   -- any other answer than the refusal of the first test comes where that test passes
-  past : (b : Bool) (P N C : Type 0) (x : ToClient) → MatchBool b P N → (P → N → ⊥) → (say.Refused n ≡ x → ⊥) → ((guarded s tests a).answer ≡ x) ↔ C
-      → ((guarded s ((n, b) ∷ tests) a).answer ≡ x) ↔ (P × C)
+  past : (b : Bool) (P N C : Type 0) (x : ToClient) → MatchBool b P N → (P → N → ⊥) → (say.Refused n ≡ x → ⊥) → ((answer_by_tests s tests a).answer ≡ x) ↔ C
+      → ((answer_by_tests s ((n, b) ∷ tests) a).answer ≡ x) ↔ (P × C)
   past true P N C x m apart other inner = (λ e. (m, inner.0 e), λ h. inner.1 h.1)
   past false P N C x m apart other inner = (λ e. absurd (other e), λ h. absurd (apart h.0 m))
 
   -- the refusal of the first test comes where that test fails
-  here : (b : Bool) (P N : Type 0) → MatchBool b P N → (P → N → ⊥) → ((guarded s tests a).answer ≡ say.Refused n → ⊥) → ((guarded s ((n, b) ∷ tests) a).answer ≡ say.Refused n) ↔ N
+  here : (b : Bool) (P N : Type 0) → MatchBool b P N → (P → N → ⊥) → ((answer_by_tests s tests a).answer ≡ say.Refused n → ⊥) → ((answer_by_tests s ((n, b) ∷ tests) a).answer ≡ say.Refused n) ↔ N
   here true P N m apart none = (λ e. absurd (none e), λ h. absurd (apart m h))
   here false P N m apart none = (λ e. m, λ h. refl)
 
   -- no test gives the refusal of another number
-  clear : (b : Bool) (r : ℕ) → (n ≡ r → ⊥) → ((guarded s tests a).answer ≡ say.Refused r → ⊥) → (guarded s ((n, b) ∷ tests) a).answer ≡ say.Refused r → ⊥
+  clear : (b : Bool) (r : ℕ) → (n ≡ r → ⊥) → ((answer_by_tests s tests a).answer ≡ say.Refused r → ⊥) → (answer_by_tests s ((n, b) ∷ tests) a).answer ≡ say.Refused r → ⊥
   clear true r apart none e = none e
   clear false r apart none e = apart (refused-is n r e)
 
   -- the refusal of another number is neither; what would come where the test passes is asked for only there
-  silent : (b : Bool) (P : Type 0) → Decides b P → (n ≡ 7 → ⊥) → (P → HasNone (guarded s tests a).answer) → HasNone (guarded s ((n, b) ∷ tests) a).answer
+  silent : (b : Bool) (P : Type 0) → Decides b P → (n ≡ 7 → ⊥) → (P → HasNone (answer_by_tests s tests a).answer) → HasNone (answer_by_tests s ((n, b) ∷ tests) a).answer
   silent true P d apart none e = none (d.0 refl) e
   silent false P d apart none (inl e) = apart (refused-is n 7 e)
   silent false P d apart none (inr e) = absurd cc
@@ -150,9 +150,9 @@ record Plainly (P Q W K B : Type 0) (a : ToClient) : Type 0 where
   absent : (a ≡ say.Absent) ↔ (P × (Q × B))
 
 plainly : (s : Server) (b c : Bool) (P Q W K B : Type 0) (a : Answered) → Decides b P → Decides c Q → IsBeyond a.answer → (a.answer ≡ say.Wait) ↔ W
-    → (a.answer ≡ say.Refused 7) ↔ K → (a.answer ≡ say.Absent) ↔ B → Plainly P Q W K B (guarded s ((6, b) ∷ []) (guarded s ((5, c) ∷ []) a)).answer
+    → (a.answer ≡ say.Refused 7) ↔ K → (a.answer ≡ say.Absent) ↔ B → Plainly P Q W K B (answer_by_tests s ((6, b) ∷ []) (answer_by_tests s ((5, c) ∷ []) a)).answer
 plainly s b c P Q W K B a p q beyond w k x =
-    let inner : Answered = guarded s ((5, c) ∷ []) a in
+    let inner : Answered = answer_by_tests s ((5, c) ∷ []) a in
     let no : (P : Type 0) → P → (P → ⊥) → ⊥ = λ P x n. n x in
     record {
       order = past s 6 [] inner b P (P → ⊥) (Q → ⊥) (say.Refused 5) (tells b P p) (no P) (λ e. let is = refused-is 6 5 e in omega (arith, is))
@@ -210,14 +210,14 @@ turn_waits s who (Some o) (Some done) = by_owner (nat_eq o.entry.client who) (De
 -- what a Keep and a Fetch that are in order are answered
 abbrev kept_or_full : Server → List ℕ → Answered
 kept_or_full s content =
-    if is_kept s.contents (hash (content_text content)) then says s say.Kept
-    else guarded s ((7, not (nat_le 1048576 (length s.contents)) && nat_le (sum_by length s.contents + length content) 1073741824) ∷ [])
-    (becomes (record s { contents = content ∷ s.contents }) say.Kept)
+    if is_kept s.contents (hash (content_text content)) then answer_alone s say.Kept
+    else answer_by_tests s ((7, not (nat_le 1048576 (length s.contents)) && nat_le (sum_by length s.contents + length content) 1073741824) ∷ [])
+    (answer_with_change (record s { contents = content ∷ s.contents }) say.Kept)
 
 keep_answers : (C : ToClient → Type 0) (s : Server) (content : List ℕ) → C say.Kept → C (say.Refused 7) → C (kept_or_full s content).answer
 keep_answers C s content kept full = by_tests (is_kept s.contents (hash (content_text content))) (not (nat_le 1048576 (length s.contents)) && nat_le (sum_by length s.contents + length content) 1073741824)
   where
-    by_tests : (b c : Bool) → C (if b then says s say.Kept else guarded s ((7, c) ∷ []) (becomes (record s { contents = content ∷ s.contents }) say.Kept)).answer
+    by_tests : (b c : Bool) → C (if b then answer_alone s say.Kept else answer_by_tests s ((7, c) ∷ []) (answer_with_change (record s { contents = content ∷ s.contents }) say.Kept)).answer
     by_tests true c = kept
     by_tests false true = kept
     by_tests false false = full
@@ -250,7 +250,7 @@ keep_full s content = by_tests (is_kept s.contents (hash (content_text content))
     (known s (content_hash content)) (room s content)
   where
     by_tests : (b c : Bool) → Decides (not b) (IsUnknown s (content_hash content)) → Decides c (IsRoom s.contents content)
-        → ((if b then says s say.Kept else guarded s ((7, c) ∷ []) (becomes (record s { contents = content ∷ s.contents }) say.Kept)).answer ≡ say.Refused 7) ↔ HasNoRoom s content
+        → ((if b then answer_alone s say.Kept else answer_by_tests s ((7, c) ∷ []) (answer_with_change (record s { contents = content ∷ s.contents }) say.Kept)).answer ≡ say.Refused 7) ↔ HasNoRoom s content
     by_tests true c n r = (λ e. absurd cc, λ h. let wrong : not true ≡ true = n.1 h.0 in absurd cc)
     by_tests false true n r = (λ e. absurd cc, λ h. absurd (h.1 (r.0 refl)))
     by_tests false false n r = (λ e. (n.0 refl, λ h. let wrong : false ≡ true = r.1 h in absurd cc), λ h. refl)
@@ -320,16 +320,16 @@ hello_caused : (s : Server) (who : ℕ) (kind : Mode) (client : ℕ) → Causes 
 hello_caused s who kind client =
     let first : Bool = nat_eq who 0 in
     let member : Bool = nat_lt 0 client && (nat_le client (length s.members) && (same_mode kind s.mode && is_away (member s client).stage)) in
-    let hi : Answered = becomes (set_stage s client stage.Ready) say.Hi in
+    let hi : Answered = answer_with_change (set_stage s client stage.Ready) say.Hi in
     let no : (P : Type 0) → P → (P → ⊥) → ⊥ = λ P x n. n x in
     let rest : List (ℕ × Bool) = (6, member) ∷ [] in
     let first_tells = tells first (who ≡ 0) (Decides-eqb who 0) in
-    let never : (r : ℕ) → r < 5 → (guarded s ((5, first) ∷ rest) hi).answer ≡ say.Refused r → ⊥ = λ r low.
+    let never : (r : ℕ) → r < 5 → (answer_by_tests s ((5, first) ∷ rest) hi).answer ≡ say.Refused r → ⊥ = λ r low.
     clear s 5 rest hi first r (λ e. omega (arith, e, low)) (clear s 6 [] hi member r (λ e. omega (arith, e, low)) (λ e. absurd cc)) in
-    let limit : (r : ℕ) → r < 5 → ((guarded s ((5, first) ∷ rest) hi).answer ≡ say.Refused r) ↔ ⊥ = λ r low. (never r low, λ n. absurd n) in
+    let limit : (r : ℕ) → r < 5 → ((answer_by_tests s ((5, first) ∷ rest) hi).answer ≡ say.Refused r) ↔ ⊥ = λ r low. (never r low, λ n. absurd n) in
     let waits = past s 5 rest hi first (who ≡ 0) (who ≡ 0 → ⊥) _ say.Wait first_tells (no _) (λ e. absurd cc)
     (past s 6 [] hi member (IsExpected s kind client) (IsExpected s kind client → ⊥) ⊥ say.Wait (tells member _ (expected s kind client)) (no _) (λ e. absurd cc) (λ e. absurd cc, λ n. absurd n)) in
-    let none : HasNone (guarded s ((5, first) ∷ rest) hi).answer = silent s 5 rest hi first (who ≡ 0) (Decides-eqb who 0) (λ e. omega (arith, e)) (λ h. silent s 6 [] hi member _ (expected s kind client) (λ e. omega (arith, e)) (λ h. has_none _ (λ e. absurd cc) (λ e. absurd cc))) in
+    let none : HasNone (answer_by_tests s ((5, first) ∷ rest) hi).answer = silent s 5 rest hi first (who ≡ 0) (Decides-eqb who 0) (λ e. omega (arith, e)) (λ h. silent s 6 [] hi member _ (expected s kind client) (λ e. omega (arith, e)) (λ h. has_none _ (λ e. absurd cc) (λ e. absurd cc))) in
     record {
       out_of_order = here s 5 rest hi first (who ≡ 0) (who ≡ 0 → ⊥) first_tells (no _) (clear s 6 [] hi member 5 (λ e. omega (arith, e)) (λ e. absurd cc));
       no_member = past s 5 rest hi first (who ≡ 0) (who ≡ 0 → ⊥) (IsExpected s kind client → ⊥) (say.Refused 6) first_tells (no _) (λ e. let is = refused-is 5 6 e in omega (arith, is))
@@ -347,7 +347,7 @@ hello_caused s who kind client =
 invoke_caused : (s : Server) (who known seq : ℕ) (o : Op) (tag : Digest32) → Causes s who (Some (ask.Invoke known seq o tag)) (serve_read s who (Some (ask.Invoke known seq o tag))).answer
 invoke_caused s who known seq o tag =
     let next : Server = ordered_next s who seq o tag in
-    let a : Answered = becomes next (say.Reply (top_seal s) (entries_above known next.log) (part_for s.dictionary o)) in
+    let a : Answered = answer_with_change next (say.Reply (top_seal s) (entries_above known next.log) (part_for s.dictionary o)) in
     let k5 : Bool = is_ready (member s who).stage && (nat_lt (member s who).last seq && nat_le known (size s)) in
     let k4 : Bool = not (nat_eq (size s) 1048576) in
     let k2 : Bool = not (nat_eq (size s - sealed_count s) 1024) in
@@ -358,7 +358,7 @@ invoke_caused s who known seq o tag =
     let t2 : List (ℕ × Bool) = (2, k2) ∷ t3 in
     let t4 : List (ℕ × Bool) = (4, k4) ∷ t2 in
     let t5 : List (ℕ × Bool) = (5, k5) ∷ t4 in
-    let inner : Answered = guarded s t5 a in
+    let inner : Answered = answer_by_tests s t5 a in
     let P : Type 0 = HasComeIn s who in
     let Q : Type 0 = IsInOrder s who (ask.Invoke known seq o tag) in
     let L : Type 0 = IsLogFull s in
@@ -374,16 +374,16 @@ invoke_caused s who known seq o tag =
     let m3 = tells_weight (weight s + op_weight o) o in
     let m1 = tells_most (size s + 1 - known) 8192 k1 refl in
     let other : (n r : ℕ) → (n ≡ r → ⊥) → say.Refused n ≡ say.Refused r → ⊥ = λ n r apart e. apart (refused-is n r e) in
-    let clear1 : (r : ℕ) → (1 ≡ r → ⊥) → (guarded s t1 a).answer ≡ say.Refused r → ⊥ = λ r x1. clear s 1 [] a k1 r x1 (λ e. absurd cc) in
-    let clear3 : (r : ℕ) → (1 ≡ r → ⊥) → (3 ≡ r → ⊥) → (guarded s t3 a).answer ≡ say.Refused r → ⊥ = λ r x1 x3. clear s 3 t1 a k3 r x3 (clear1 r x1) in
-    let clear2 : (r : ℕ) → (1 ≡ r → ⊥) → (3 ≡ r → ⊥) → (2 ≡ r → ⊥) → (guarded s t2 a).answer ≡ say.Refused r → ⊥ = λ r x1 x3 x2. clear s 2 t3 a k2 r x2 (clear3 r x1 x3) in
-    let clear4 : (r : ℕ) → (1 ≡ r → ⊥) → (3 ≡ r → ⊥) → (2 ≡ r → ⊥) → (4 ≡ r → ⊥) → (guarded s t4 a).answer ≡ say.Refused r → ⊥ = λ r x1 x3 x2 x4. clear s 4 t2 a k4 r x4 (clear2 r x1 x3 x2) in
-    let after6 : (C : Type 0) (x : ToClient) → (say.Refused 6 ≡ x → ⊥) → (inner.answer ≡ x) ↔ C → ((guarded s ((6, is_member s who) ∷ []) inner).answer ≡ x) ↔ (P × C) = λ C x. past s 6 [] inner (is_member s who) P (P → ⊥) C x m6 (no P) in
-    let after5 : (C : Type 0) (x : ToClient) → (say.Refused 5 ≡ x → ⊥) → ((guarded s t4 a).answer ≡ x) ↔ C → (inner.answer ≡ x) ↔ (Q × C) = λ C x. past s 5 t4 a k5 Q (Q → ⊥) C x m5 (no Q) in
-    let after4 : (C : Type 0) (x : ToClient) → (say.Refused 4 ≡ x → ⊥) → ((guarded s t2 a).answer ≡ x) ↔ C → ((guarded s t4 a).answer ≡ x) ↔ ((L → ⊥) × C) = λ C x. past s 4 t2 a k4 (L → ⊥) L C x m4 (on L) in
-    let after2 : (C : Type 0) (x : ToClient) → (say.Refused 2 ≡ x → ⊥) → ((guarded s t3 a).answer ≡ x) ↔ C → ((guarded s t2 a).answer ≡ x) ↔ ((U → ⊥) × C) = λ C x. past s 2 t3 a k2 (U → ⊥) U C x m2 (on U) in
-    let after3 : (C : Type 0) (x : ToClient) → (say.Refused 3 ≡ x → ⊥) → ((guarded s t1 a).answer ≡ x) ↔ C → ((guarded s t3 a).answer ≡ x) ↔ ((H → ⊥) × C) = λ C x. past s 3 t1 a k3 (H → ⊥) H C x m3 (on H) in
-    let none : HasNone (guarded s ((6, is_member s who) ∷ []) inner).answer = passed (is_member s who) 6 [] inner (λ e. omega (arith, e)) (passed k5 5 t4 a (λ e. omega (arith, e)) (passed k4 4 t2 a (λ e. omega (arith, e)) (passed k2 2 t3 a (λ e. omega (arith, e))
+    let clear1 : (r : ℕ) → (1 ≡ r → ⊥) → (answer_by_tests s t1 a).answer ≡ say.Refused r → ⊥ = λ r x1. clear s 1 [] a k1 r x1 (λ e. absurd cc) in
+    let clear3 : (r : ℕ) → (1 ≡ r → ⊥) → (3 ≡ r → ⊥) → (answer_by_tests s t3 a).answer ≡ say.Refused r → ⊥ = λ r x1 x3. clear s 3 t1 a k3 r x3 (clear1 r x1) in
+    let clear2 : (r : ℕ) → (1 ≡ r → ⊥) → (3 ≡ r → ⊥) → (2 ≡ r → ⊥) → (answer_by_tests s t2 a).answer ≡ say.Refused r → ⊥ = λ r x1 x3 x2. clear s 2 t3 a k2 r x2 (clear3 r x1 x3) in
+    let clear4 : (r : ℕ) → (1 ≡ r → ⊥) → (3 ≡ r → ⊥) → (2 ≡ r → ⊥) → (4 ≡ r → ⊥) → (answer_by_tests s t4 a).answer ≡ say.Refused r → ⊥ = λ r x1 x3 x2 x4. clear s 4 t2 a k4 r x4 (clear2 r x1 x3 x2) in
+    let after6 : (C : Type 0) (x : ToClient) → (say.Refused 6 ≡ x → ⊥) → (inner.answer ≡ x) ↔ C → ((answer_by_tests s ((6, is_member s who) ∷ []) inner).answer ≡ x) ↔ (P × C) = λ C x. past s 6 [] inner (is_member s who) P (P → ⊥) C x m6 (no P) in
+    let after5 : (C : Type 0) (x : ToClient) → (say.Refused 5 ≡ x → ⊥) → ((answer_by_tests s t4 a).answer ≡ x) ↔ C → (inner.answer ≡ x) ↔ (Q × C) = λ C x. past s 5 t4 a k5 Q (Q → ⊥) C x m5 (no Q) in
+    let after4 : (C : Type 0) (x : ToClient) → (say.Refused 4 ≡ x → ⊥) → ((answer_by_tests s t2 a).answer ≡ x) ↔ C → ((answer_by_tests s t4 a).answer ≡ x) ↔ ((L → ⊥) × C) = λ C x. past s 4 t2 a k4 (L → ⊥) L C x m4 (on L) in
+    let after2 : (C : Type 0) (x : ToClient) → (say.Refused 2 ≡ x → ⊥) → ((answer_by_tests s t3 a).answer ≡ x) ↔ C → ((answer_by_tests s t2 a).answer ≡ x) ↔ ((U → ⊥) × C) = λ C x. past s 2 t3 a k2 (U → ⊥) U C x m2 (on U) in
+    let after3 : (C : Type 0) (x : ToClient) → (say.Refused 3 ≡ x → ⊥) → ((answer_by_tests s t1 a).answer ≡ x) ↔ C → ((answer_by_tests s t3 a).answer ≡ x) ↔ ((H → ⊥) × C) = λ C x. past s 3 t1 a k3 (H → ⊥) H C x m3 (on H) in
+    let none : HasNone (answer_by_tests s ((6, is_member s who) ∷ []) inner).answer = passed (is_member s who) 6 [] inner (λ e. omega (arith, e)) (passed k5 5 t4 a (λ e. omega (arith, e)) (passed k4 4 t2 a (λ e. omega (arith, e)) (passed k2 2 t3 a (λ e. omega (arith, e))
     (passed k3 3 t1 a (λ e. omega (arith, e)) (passed k1 1 [] a (λ e. omega (arith, e)) (has_none _ (λ e. absurd cc) (λ e. absurd cc))))))) in
     record {
       out_of_order = after6 (Q → ⊥) (say.Refused 5) (other 6 5 (λ i. omega arith)) (here s 5 t4 a k5 Q (Q → ⊥) m5 (no Q) (clear4 5 (λ i. omega arith) (λ i. omega arith) (λ i. omega arith) (λ i. omega arith)));
@@ -397,11 +397,11 @@ invoke_caused s who known seq o tag =
       absent = never_absent _ none;
     }
   where
-    passed : (b : Bool) (n : ℕ) (tests : List (ℕ × Bool)) (a : Answered) → (n ≡ 7 → ⊥) → HasNone (guarded s tests a).answer → HasNone (guarded s ((n, b) ∷ tests) a).answer
+    passed : (b : Bool) (n : ℕ) (tests : List (ℕ × Bool)) (a : Answered) → (n ≡ 7 → ⊥) → HasNone (answer_by_tests s tests a).answer → HasNone (answer_by_tests s ((n, b) ∷ tests) a).answer
     passed b n tests a apart none = silent s n tests a b (b ≡ true) (λ e. e, λ h. h) apart (λ h. none)
 
-    no_wait : (b6 b5 b4 b2 b3 b1 : Bool) → (guarded s ((6, b6) ∷ []) (guarded s ((5, b5) ∷ (4, b4) ∷ (2, b2) ∷ (3, b3) ∷ (1, b1) ∷ [])
-        (becomes (ordered_next s who seq o tag) (say.Reply (top_seal s) (entries_above known (ordered_next s who seq o tag).log) (part_for s.dictionary o))))).answer ≡ say.Wait → ⊥
+    no_wait : (b6 b5 b4 b2 b3 b1 : Bool) → (answer_by_tests s ((6, b6) ∷ []) (answer_by_tests s ((5, b5) ∷ (4, b4) ∷ (2, b2) ∷ (3, b3) ∷ (1, b1) ∷ [])
+        (answer_with_change (ordered_next s who seq o tag) (say.Reply (top_seal s) (entries_above known (ordered_next s who seq o tag).log) (part_for s.dictionary o))))).answer ≡ say.Wait → ⊥
     no_wait false b5 b4 b2 b3 b1 e = absurd cc
     no_wait true false b4 b2 b3 b1 e = absurd cc
     no_wait true true false b2 b3 b1 e = absurd cc
@@ -432,13 +432,13 @@ caused s who (Some (ask.Commit position done tag)) =
     let owner = ordered_at next (sealed_count next + 1) in
     let status = commit_at next (sealed_count next + 1) in
     of_plain s who (ask.Commit position done tag) _ ((member s who).stage ≡ stage.Open position) (HasNoTurn (with_commit s position done tag) who) ⊥ ⊥
-    (plainly s (is_member s who) k (HasComeIn s who) _ _ _ _ (becomes next (turn next who)) (come_in s who) (open_at position (member s who).stage) (turn_beyond next who owner status) (turn_waits next who owner status) (never_full _ (turn_none next who owner status)) (never_absent _ (turn_none next who owner status)))
+    (plainly s (is_member s who) k (HasComeIn s who) _ _ _ _ (answer_with_change next (turn next who)) (come_in s who) (open_at position (member s who).stage) (turn_beyond next who owner status) (turn_waits next who owner status) (never_full _ (turn_none next who owner status)) (never_absent _ (turn_none next who owner status)))
     same same (λ F h. h) same stays stays
 caused s who (Some ask.Poll) =
     let owner = ordered_at s (sealed_count s + 1) in
     let status = commit_at s (sealed_count s + 1) in
     of_plain s who ask.Poll _ (IsReady s who) (HasNoTurn s who) ⊥ ⊥
-    (plainly s (is_member s who) (is_ready (member s who).stage) (HasComeIn s who) _ _ _ _ (says s (turn s who)) (come_in s who) (ready (member s who).stage) (turn_beyond s who owner status) (turn_waits s who owner status) (never_full _ (turn_none s who owner status)) (never_absent _ (turn_none s who owner status)))
+    (plainly s (is_member s who) (is_ready (member s who).stage) (HasComeIn s who) _ _ _ _ (answer_alone s (turn s who)) (come_in s who) (ready (member s who).stage) (turn_beyond s who owner status) (turn_waits s who owner status) (never_full _ (turn_none s who owner status)) (never_absent _ (turn_none s who owner status)))
     same same (λ F h. h) same stays stays
 caused s who (Some (ask.Seal position root tag)) =
     let next : Server = with_seal s (record { position = position; root = root; tag = tag }) in
@@ -448,12 +448,12 @@ caused s who (Some (ask.Seal position root tag)) =
     let d = Decides-and (is_ready (member s who).stage) _ (ready (member s who).stage)
     (Decides-and (nat_eq position (sealed_count s + 1)) _ (Decides-eqb position (sealed_count s + 1)) (owned who (ordered_at s position) (commit_at s position))) in
     of_plain s who (ask.Seal position root tag) _ (IsInOrder s who (ask.Seal position root tag)) (HasNoTurn next who) ⊥ ⊥
-    (plainly s (is_member s who) k (HasComeIn s who) _ _ _ _ (becomes next (turn next who)) (come_in s who) d (turn_beyond next who owner status) (turn_waits next who owner status) (never_full _ (turn_none next who owner status)) (never_absent _ (turn_none next who owner status)))
+    (plainly s (is_member s who) k (HasComeIn s who) _ _ _ _ (answer_with_change next (turn next who)) (come_in s who) d (turn_beyond next who owner status) (turn_waits next who owner status) (never_full _ (turn_none next who owner status)) (never_absent _ (turn_none next who owner status)))
     same same (λ F h. h) same stays stays
 caused s who (Some (ask.Sync known)) =
     let k : Bool = is_ready (member s who).stage && nat_le known (size s) in
     let end = min (size s) (known + 8192) in
-    let a : Answered = says s (say.Entries (seal_at_position s (min (sealed_count s) end)) (entries_above known (front end s.log))) in
+    let a : Answered = answer_alone s (say.Entries (seal_at_position s (min (sealed_count s) end)) (entries_above known (front end s.log))) in
     of_plain s who (ask.Sync known) _ (IsInOrder s who (ask.Sync known)) ⊥ ⊥ ⊥
     (plainly s (is_member s who) k (HasComeIn s who) _ _ _ _ a (come_in s who) (Decides-and (is_ready (member s who).stage) _ (ready (member s who).stage) (Decides-leb known (size s))) (λ r low e. absurd cc) (never_waits _ (λ e. absurd cc)) (never_full _ (has_none _ (λ e. absurd cc) (λ e. absurd cc))) (never_absent _ (has_none _ (λ e. absurd cc) (λ e. absurd cc))))
     same same (λ F h. h) stays stays stays
@@ -465,11 +465,11 @@ caused s who (Some (ask.Keep content)) =
 caused s who (Some (ask.Fetch h)) =
     let k : Bool = is_ready (member s who).stage && same_mode s.mode mode.Objects in
     of_plain s who (ask.Fetch h) _ (IsInOrder s who (ask.Fetch h)) ⊥ ⊥ (IsUnknown s h.bytes)
-    (plainly s (is_member s who) k (HasComeIn s who) _ _ _ _ (says s (content_with s.contents h.bytes)) (come_in s who) (Decides-and (is_ready (member s who).stage) _ (ready (member s who).stage) (mode_is s.mode mode.Objects)) (fetch_beyond s.contents h.bytes) (never_waits _ (fetch_goes s.contents h.bytes)) (fetch_room s.contents h.bytes, λ n. absurd n) (fetch_absent s.contents h.bytes))
+    (plainly s (is_member s who) k (HasComeIn s who) _ _ _ _ (answer_alone s (content_with s.contents h.bytes)) (come_in s who) (Decides-and (is_ready (member s who).stage) _ (ready (member s who).stage) (mode_is s.mode mode.Objects)) (fetch_beyond s.contents h.bytes) (never_waits _ (fetch_goes s.contents h.bytes)) (fetch_room s.contents h.bytes, λ n. absurd n) (fetch_absent s.contents h.bytes))
     same same (λ F x. x) stays stays same
 caused s who (Some ask.Bye) =
     of_plain s who ask.Bye _ (IsReady s who) ⊥ ⊥ ⊥
-    (plainly s (is_member s who) (is_ready (member s who).stage) (HasComeIn s who) _ _ _ _ (becomes (set_stage s who stage.Left) say.Gone) (come_in s who) (ready (member s who).stage) (λ r low e. absurd cc) (never_waits _ (λ e. absurd cc)) (never_full _ (has_none _ (λ e. absurd cc) (λ e. absurd cc))) (never_absent _ (has_none _ (λ e. absurd cc) (λ e. absurd cc))))
+    (plainly s (is_member s who) (is_ready (member s who).stage) (HasComeIn s who) _ _ _ _ (answer_with_change (set_stage s who stage.Left) say.Gone) (come_in s who) (ready (member s who).stage) (λ r low e. absurd cc) (never_waits _ (λ e. absurd cc)) (never_full _ (has_none _ (λ e. absurd cc) (λ e. absurd cc))) (never_absent _ (has_none _ (λ e. absurd cc) (λ e. absurd cc))))
     same same (λ F h. h) stays stays stays
 
 pub caused_served : (s : Server) (who : ℕ) (payload : List ℕ) → Causes s who (read_request payload) (serve s who payload).answer

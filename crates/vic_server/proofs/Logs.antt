@@ -6,7 +6,7 @@ use Rattle.std.proofs.lemmas.Grind.{reverse_onto}
 use Rattle.std.proofs.lemmas.List.{reverse-append, reverse-reverse, length-reverse, take-append-drop, drop_at, drop_all, drop-append-le, drop-take, take_more, map_push}
 use Rattle.std.proofs.lemmas.List.Sums.{sum_by_push, sum_by-drop_more}
 use Rattle.vic_dict.specs.Lists.{front, newest}
-use Rattle.vic_order.specs.Order.{Ordered, tagged, entries_above, op_weight, unsealed_weight}
+use Rattle.vic_order.specs.Order.{Ordered, tagged_entry, entries_above, op_weight, unsealed_weight}
 
 -- the oldest items, the newest first
 pub front-reverse : {X : Type 0} (n : ℕ) (xs : List X) → front n (reverse xs) ≡ reverse (take n xs)
@@ -36,14 +36,14 @@ drop_newest n x log =
     ] refl
 
 -- the entries above a position, the oldest first
-pub entries_above-log : (known : ℕ) (log : List Ordered) → entries_above known log ≡ map tagged (drop known (reverse log))
+pub entries_above-log : (known : ℕ) (log : List Ordered) → entries_above known log ≡ map tagged_entry (drop known (reverse log))
 unfolding entries_above
-entries_above-log known [] = ap (map tagged) (sym (drop_none {X = Ordered} known))
+entries_above-log known [] = ap (map tagged_entry) (sym (drop_none {X = Ordered} known))
 entries_above-log known (o ∷ log) =
-    elim (nat_lt known (length (o ∷ log))) as (λ b. cond b (entries_above known log ++ tagged o ∷ []) [] ≡ map tagged (cond b (drop known (reverse log) ++ o ∷ []) [])) [
-      | true ↦ ap (λ l. l ++ tagged o ∷ []) (entries_above-log known log) ∙ sym (map_push tagged (drop known (reverse log)) o)
+    elim (nat_lt known (length (o ∷ log))) as (λ b. cond b (entries_above known log ++ tagged_entry o ∷ []) [] ≡ map tagged_entry (cond b (drop known (reverse log) ++ o ∷ []) [])) [
+      | true ↦ ap (λ l. l ++ tagged_entry o ∷ []) (entries_above-log known log) ∙ sym (map_push tagged_entry (drop known (reverse log)) o)
       | false ↦ refl
-    ] ∙ ap (map tagged) (sym (drop_newest known o log))
+    ] ∙ ap (map tagged_entry) (sym (drop_newest known o log))
 
 -- the weight of the puts above a position
 pub unsealed_weight-log : (sealed : ℕ) (log : List Ordered) → unsealed_weight sealed log ≡ sum_by (λ o. op_weight o.entry.op) (drop sealed (reverse log))
@@ -78,9 +78,9 @@ unsealed_weight-more sealed rows x le =
     ap (unsealed_weight sealed) grown ∙ ap (λ b. cond b (op_weight x.entry.op + unsealed_weight sealed (reverse rows)) 0) below
 
 -- the entries from one length to another, as they stand in memory
-pub entries_above-rows : (known upto : ℕ) (rows : List Ordered) → known ≤ upto → entries_above known (front upto (reverse rows)) ≡ map tagged (take (upto - known) (drop known rows))
+pub entries_above-rows : (known upto : ℕ) (rows : List Ordered) → known ≤ upto → entries_above known (front upto (reverse rows)) ≡ map tagged_entry (take (upto - known) (drop known rows))
 entries_above-rows known upto rows le =
     let k : upto ≡ known + (upto - known) = omega arith in
     ap (entries_above known) (front-reverse upto rows) ∙ entries_above-log known (reverse (take upto rows))
-    ∙ ap (λ l. map tagged (drop known l)) (reverse-reverse (take upto rows) ∙ ap (λ n. take n rows) k)
-    ∙ ap (map tagged) (drop-take known (upto - known) rows)
+    ∙ ap (λ l. map tagged_entry (drop known l)) (reverse-reverse (take upto rows) ∙ ap (λ n. take n rows) k)
+    ∙ ap (map tagged_entry) (drop-take known (upto - known) rows)

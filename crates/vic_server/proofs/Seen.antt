@@ -6,7 +6,7 @@ use Rattle.vic_dict.specs.Lists.{front, newest}
 use Rattle.vic_dict.specs.Dictionary.{Dictionary, after}
 use Rattle.vic_wire.specs.declared.message.Seal.{Seal}
 use Rattle.vic_wire.specs.declared.message.ToClient.TheVariants as say
-use Rattle.vic_order.specs.Order.{Ordered, Committed, Server, size, sealed_count, ordered_at, commit_in, commit_at, weight, unsealed_weight, applied_to, with_seal, top_seal, turn_on, turn, update_part, tagged, entries_above, or_no_seal, seal_at_position}
+use Rattle.vic_order.specs.Order.{Ordered, Committed, Server, size, sealed_count, ordered_at, commit_in, commit_at, weight, unsealed_weight, applied_to, with_seal, top_seal, turn_on, turn, update_part, tagged_entry, entries_above, or_no_seal, seal_at_position}
 use Rattle.vic_server.specs.Keeping.{status_in, or_nothing, pairs_weight, turn_from}
 use Rattle.std.proofs.lemmas.Option.{slice_get_past}
 use Rattle.vic_server.proofs.Logs.{newest-front}
@@ -84,8 +84,8 @@ turn-sealed s x who next d position after leaves =
     ∙ sym (ap (λ n. turn_on over who (ordered_at s n) (commit_at s n)) k)
 
 -- the entries above a length, once one more is ordered
-pub entries_above-more : (known : ℕ) (x : Ordered) (s : Server) → known ≤ size s → entries_above known (front (size s) s.log) ++ tagged x ∷ [] ≡ entries_above known (x ∷ s.log)
+pub entries_above-more : (known : ℕ) (x : Ordered) (s : Server) → known ≤ size s → entries_above known (front (size s) s.log) ++ tagged_entry x ∷ [] ≡ entries_above known (x ∷ s.log)
 unfolding entries_above
 entries_above-more known x s le =
     let below : nat_lt known (length (x ∷ s.log)) ≡ true = lt-ltb _ _ (omega (arith, le)) in
-    ap (λ l. entries_above known l ++ tagged x ∷ []) (front-all s.log) ∙ sym (ap (λ b. cond b (entries_above known s.log ++ tagged x ∷ []) []) below)
+    ap (λ l. entries_above known l ++ tagged_entry x ∷ []) (front-all s.log) ∙ sym (ap (λ b. cond b (entries_above known s.log ++ tagged_entry x ∷ []) []) below)

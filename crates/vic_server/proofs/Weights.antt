@@ -12,7 +12,7 @@ use Rattle.vic_dict.specs.Dictionary.{Dictionary, after}
 use Rattle.vic_dict.specs.Rows.{Row, bytes_cmp, spot, IsTable}
 use Rattle.vic_dict.proofs.Rows.{IsAt, IsGap, spotted, drops, drops_nothing, rows_of}
 use Rattle.vic_order.specs.Order.{op_weight}
-use Rattle.vic_server.specs.Keeping.{pairs_weight, pair_weight, held_weight, freed_by}
+use Rattle.vic_server.specs.Keeping.{pairs_weight, pair_weight, held_weight, weight_freed}
 
 same_rows : (d : Dictionary) → IsTable (map.entries d) → map.from_sorted (map.entries d) ≡ d
 same_rows d t = same_entries_map _ _ (rows_of (map.entries d) t)
@@ -65,7 +65,7 @@ del_weighs d k t =
     ] refl (spotted k es t.rising)
 
 -- what a done entry takes away
-freed_weighs : (d : Dictionary) (o : Op) → IsTable (map.entries d) → pairs_weight (after d o) + freed_by d o ≡ pairs_weight d + op_weight o
+freed_weighs : (d : Dictionary) (o : Op) → IsTable (map.entries d) → pairs_weight (after d o) + weight_freed d o ≡ pairs_weight d + op_weight o
 freed_weighs d (op.Put k v) t = put_weighs d k v t
 freed_weighs d (op.Get k) t = refl
 freed_weighs d (op.Del k) t = let law = del_weighs d k t in omega (arith, law)
@@ -73,7 +73,7 @@ freed_weighs d (op.List p) t = refl
 
 -- what it loses when an entry is sealed: what a done one takes away, or the put that was aborted
 abbrev pub freed_weight : Dictionary → Op → Bool → ℕ
-freed_weight d o done = if done then freed_by d o else op_weight o
+freed_weight d o done = if done then weight_freed d o else op_weight o
 
 -- the weight after an entry is sealed
 pub sealed_weighs : (d : Dictionary) (o : Op) (done : Bool) → IsTable (map.entries d) → pairs_weight (cond done (after d o) d) + freed_weight d o done ≡ pairs_weight d + op_weight o

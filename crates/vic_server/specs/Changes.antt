@@ -12,24 +12,24 @@ use Rattle.vic_server.specs.declared.change.Change.TheVariants as change
 use Rattle.vic_server.specs.declared.change.Plan.{Plan}
 
 -- the server that a change leaves
-abbrev pub leaves : Server → Change → Server
-leaves s change.Nothing = s
-leaves s (change.Enters client) = set_stage s client stage.Ready
-leaves s (change.Orders who row) = set_member (record s { log = row ∷ s.log }) who (record { last = row.entry.seq; stage = stage.Open (size s + 1) })
-leaves s (change.Commits who position done tag) = set_stage (with_commit s position done tag) who stage.Ready
-leaves s (change.Seals seal done) = with_seal s seal
-leaves s (change.Keeps hash content) = record s { contents = content ∷ s.contents }
-leaves s (change.Leaves who) = set_stage s who stage.Left
+abbrev pub server_after : Server → Change → Server
+server_after s change.Nothing = s
+server_after s (change.Enters client) = set_stage s client stage.Ready
+server_after s (change.Orders who row) = set_member (record s { log = row ∷ s.log }) who (record { last = row.entry.seq; stage = stage.Open (size s + 1) })
+server_after s (change.Commits who position done tag) = set_stage (with_commit s position done tag) who stage.Ready
+server_after s (change.Seals seal done) = with_seal s seal
+server_after s (change.Keeps hash content) = record s { contents = content ∷ s.contents }
+server_after s (change.Leaves who) = set_stage s who stage.Left
 
 -- whether anything changes
-abbrev pub makes : Change → Bool
-makes change.Nothing = false
-makes (change.Enters client) = true
-makes (change.Orders who row) = true
-makes (change.Commits who position done tag) = true
-makes (change.Seals seal done) = true
-makes (change.Keeps hash content) = true
-makes (change.Leaves who) = true
+abbrev pub makes_change : Change → Bool
+makes_change change.Nothing = false
+makes_change (change.Enters client) = true
+makes_change (change.Orders who row) = true
+makes_change (change.Commits who position done tag) = true
+makes_change (change.Seals seal done) = true
+makes_change (change.Keeps hash content) = true
+makes_change (change.Leaves who) = true
 
 abbrev pub IsSeat : Server → ℕ → Type 0
 IsSeat s who = (0 < who) × (who ≤ length s.members)
@@ -46,7 +46,7 @@ IsPossible s (change.Leaves who) = IsSeat s who
 
 -- a plan is what the rule says: the server that it leaves, and the answer, which has a spelling
 abbrev pub Follows : Answered → Server → Plan → Type 0
-Follows a s p = (leaves s p.change ≡ a.next) × ((p.answer ≡ a.answer) × (HasSpelling p.answer × (IsPossible s p.change × ((makes p.change ≡ a.change) × HasShortPart p.answer))))
+Follows a s p = (server_after s p.change ≡ a.next) × ((p.answer ≡ a.answer) × (HasSpelling p.answer × (IsPossible s p.change × ((makes_change p.change ≡ a.change) × HasShortPart p.answer))))
 
 -- nothing changes, and the client is to wait
 abbrev pub to_wait : Plan

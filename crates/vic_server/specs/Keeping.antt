@@ -44,11 +44,11 @@ held_weight k None = 0
 held_weight k (Some v) = pair_weight k v
 
 -- what the weight loses when a done entry is sealed: the pair that a put or del takes away
-abbrev pub freed_by : Dictionary → Op → ℕ
-freed_by d (op.Put k v) = held_weight k (map.get d k)
-freed_by d (op.Get k) = 0
-freed_by d (op.Del k) = held_weight k (map.get d k)
-freed_by d (op.List p) = 0
+abbrev pub weight_freed : Dictionary → Op → ℕ
+weight_freed d (op.Put k v) = held_weight k (map.get d k)
+weight_freed d (op.Get k) = 0
+weight_freed d (op.Del k) = held_weight k (map.get d k)
+weight_freed d (op.List p) = 0
 
 -- what a server in memory keeps true
 pub record IsSound (rows : List Ordered) (commits : List Committed) (index : List (Option Bool)) (seals : List Seal) (d : Dictionary) (members : List Member) (counted : ℕ) : Type 0 where

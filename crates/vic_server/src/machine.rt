@@ -11,7 +11,7 @@ ghost use Rattle.vic_wire.specs.Messages.{IsSeal, IsTagged, HasSpelling};
 ghost use Rattle.vic_wire.specs.declared.message.ToClient.TheVariants as say;
 ghost use Rattle.vic_wire.specs.Parts.{part_for};
 ghost use Rattle.vic_rules.specs.Client.{is_write as writes};
-ghost use Rattle.vic_order.specs.Order.{fresh_server, away, ready, member, set_member, size, sealed_count, no_seal, seal_at_position, ordered_at, commit_at, tagged, entries_above, op_weight, weight, update_part, with_commit, with_seal, owns_committed, turn, is_kept, content_with};
+ghost use Rattle.vic_order.specs.Order.{fresh_server, away_member, ready_member, member, set_member, size, sealed_count, no_seal, seal_at_position, ordered_at, commit_at, tagged_entry, entries_above, op_weight, weight, update_part, with_commit, with_seal, owns_committed, turn, is_kept, content_with};
 ghost use Rattle.vic_rules.specs.Objects.{content_hash};
 ghost use Rattle.vic_blob.specs.Keeping.{kept_under, IsRoom};
 ghost use Rattle.vic_bounds.specs.Bounds.{HasShortPart};
@@ -77,7 +77,7 @@ fn first_seal() -> Seal
 }
 
 fn copies(alloc: Global, rows: &[Row]) -> Result<TaggedList, NoMemory>
-    ensures is { IfOk result (λ ts. ts ≡ map_list tagged rows.now) }
+    ensures is { IfOk result (λ ts. ts ≡ map_list tagged_entry rows.now) }
     ensures spelled { IfOk result (λ ts. AllByRecursion IsTagged ts) }
 {
     let mut items = TaggedList::new(alloc);
@@ -305,7 +305,7 @@ impl Machine {
     /// A server of so many clients, of which none has come in.
     pub fn new(alloc: Global, mode: Mode, count: u8) -> Result<Machine, NoMemory>
         requires count { (0 < count) × (count ≤ 64) }
-        ensures { IfOk result (λ s. s ≡ fresh_server mode count away) }
+        ensures { IfOk result (λ s. s ≡ fresh_server mode count away_member) }
     {
         Machine::fresh(alloc, mode, count, Stage::Away)
     }
@@ -313,7 +313,7 @@ impl Machine {
     /// A server of so many clients, all of which have come in.
     pub fn gathered(alloc: Global, mode: Mode, count: u8) -> Result<Machine, NoMemory>
         requires count { (0 < count) × (count ≤ 64) }
-        ensures { IfOk result (λ s. s ≡ fresh_server mode count ready) }
+        ensures { IfOk result (λ s. s ≡ fresh_server mode count ready_member) }
     {
         Machine::fresh(alloc, mode, count, Stage::Ready)
     }

@@ -3,7 +3,7 @@
 ghost use Rattle.std.specs.Prelude.{◌≡◌, ◌+◌, ◌<◌, ◌≤◌, IfSome, option_copied};
 ghost use Rattle.vic_dict.specs.Dictionary.{Fits};
 ghost use Rattle.vic_order.specs.Order.{ordered_at, commit_at, sealed_count};
-ghost use Rattle.vic_server.specs.Changes.{leaves};
+ghost use Rattle.vic_server.specs.Changes.{server_after};
 ghost use Rattle.vic_server.specs.Next.{next_op_of, op_at, next_op};
 
 use crate::change::Change;
@@ -34,7 +34,7 @@ impl Machine {
     /// The entry at a position once a planned change was made.
     fn row_above<'a>(&'a self, change: &'a Change, position: u32) -> Option<&'a Row>
         requires { 0 < position }
-        ensures { option_copied result ≡ ordered_at (leaves self.now change.now) position }
+        ensures { option_copied result ≡ ordered_at (server_after self.now change.now) position }
     {
         match change {
             Change::Orders(_, row) if position == self.length() + 1 => Some(row),
@@ -45,7 +45,7 @@ impl Machine {
     /// How it is committed then.
     fn status_above(&self, change: &Change, position: u32) -> Option<bool>
         requires { 0 < position }
-        ensures { result ≡ commit_at (leaves self.now change.now) position }
+        ensures { result ≡ commit_at (server_after self.now change.now) position }
     {
         match change {
             Change::Commits(_, at, done, _) if *at == position => Some(*done),
@@ -55,7 +55,7 @@ impl Machine {
 
     pub(crate) fn op_above<'a>(&'a self, change: &'a Change, position: u32) -> Option<&'a Op>
         requires { 0 < position }
-        ensures is { option_copied result ≡ op_at (leaves self.now change.now) position }
+        ensures is { option_copied result ≡ op_at (server_after self.now change.now) position }
         ensures fits { IfSome (option_copied result) (λ o. Fits o) }
     {
         op_of(
@@ -65,7 +65,7 @@ impl Machine {
     }
 
     pub(crate) fn sealed_after(&self, change: &Change) -> u32
-        ensures is { result ≡ sealed_count (leaves self.now change.now) }
+        ensures is { result ≡ sealed_count (server_after self.now change.now) }
         ensures room { result ≤ 1048577 }
     {
         match change {

@@ -13,7 +13,7 @@ ghost use Rattle.vic_server.specs.declared.change.Change.TheVariants as change;
 ghost use Rattle.vic_order.specs.Order.{is_ready, is_away, is_open_at, is_inside, is_put, same_mode, is_member, owns_committed, ordered_at, commit_at, size, sealed_count, op_weight, weight, turn, turn_on, set_stage, with_seal, member, on_request, on_hello, serve_read, serve, top_seal, entries_above};
 ghost use Rattle.vic_bounds.specs.Bounds.{HasShortPart};
 ghost use Rattle.vic_server.specs.Keeping.{IsWithin, IsAllowed, invoke_tests};
-ghost use Rattle.vic_server.specs.Changes.{Follows, IsSeat, IsPossible, leaves, to_wait};
+ghost use Rattle.vic_server.specs.Changes.{Follows, IsSeat, IsPossible, server_after, to_wait};
 ghost use Rattle.vic_server.specs.Causes.{Causes};
 
 use crate::change::{Change, Plan};
@@ -442,7 +442,7 @@ impl Machine {
 
     pub(crate) fn enact(&mut self, alloc: Global, change: Change) -> Result<(), NoMemory>
         requires { IsPossible self.old change }
-        ensures ok { OnOk result (self.new ≡ leaves self.old change) }
+        ensures ok { OnOk result (self.new ≡ server_after self.old change) }
         ensures nothing { change ≡ Change.Nothing → IsOk result }
         ensures err { OnErr result (self.new ≡ self.old) }
     {
@@ -463,7 +463,7 @@ impl Machine {
 
     fn order(&mut self, who: u8, row: Row) -> Result<(), NoMemory>
         requires { IsPossible self.old (Change.Orders who row) }
-        ensures ok { OnOk result (self.new ≡ leaves self.old (Change.Orders who row)) }
+        ensures ok { OnOk result (self.new ≡ server_after self.old (Change.Orders who row)) }
         ensures err { OnErr result (self.new ≡ self.old) }
     {
         let last = row.seq();

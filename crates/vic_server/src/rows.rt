@@ -3,7 +3,7 @@
 ghost use Rattle.std.specs.Prelude.{◌≡◌, ◌<◌, IfOk, OnOk, OnErr};
 ghost use Rattle.vic_dict.specs.Dictionary.{Fits};
 ghost use Rattle.vic_wire.specs.Messages.{IsTagged, IsSeal};
-ghost use Rattle.vic_order.specs.Order.{tagged};
+ghost use Rattle.vic_order.specs.Order.{tagged_entry};
 
 use std::alloc::Global;
 use std::marker::Model;
@@ -62,7 +62,7 @@ impl Row {
 
     /// A copy of the entry with its tag. It takes memory for the operation's texts, and costs them.
     pub fn tagged(&self, alloc: Global) -> Result<Tagged, NoMemory>
-        ensures is { IfOk result (λ t. t ≡ tagged self.now) }
+        ensures is { IfOk result (λ t. t ≡ tagged_entry self.now) }
         ensures spelled { IfOk result (λ t. IsTagged t) }
     {
         let entry = self.item.entry.copy(alloc)?;

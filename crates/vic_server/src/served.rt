@@ -12,10 +12,10 @@ ghost use Rattle.vic_order.specs.Order.{serve, size, sealed_count, weight, order
 ghost use Rattle.vic_change.specs.Changes.{change};
 ghost use Rattle.vic_server.specs.Keeping.{pairs_weight};
 ghost use Rattle.vic_server.specs.Next.{next_op, op_at};
-ghost use Rattle.vic_server.specs.Changes.{Follows, IsPossible, leaves, makes, to_wait};
+ghost use Rattle.vic_server.specs.Changes.{Follows, IsPossible, server_after, makes_change, to_wait};
 ghost use Rattle.vic_server.specs.Causes.{Causes};
 ghost use Rattle.vic_server.specs.declared.change.Change.TheVariants as effect;
-ghost use Rattle.vic_server.specs.Replay.{replay, made, opening, kept, stepped};
+ghost use Rattle.vic_server.specs.Replay.{replay, changes_made, opening_server, kept_with, after_request};
 
 use crate::change::{Change as Effect, Plan};
 use crate::machine::Machine;
@@ -41,15 +41,15 @@ impl Model for Served {
     ghost use Rattle.std.specs.Prelude.{◌≡◌};
     ghost use Rattle.std.specs.Coded.{codes};
     ghost use Rattle.vic_server.specs.Keeping.{dictionary_code};
-    ghost use Rattle.vic_server.specs.Replay.{Kept, kept, opening, replay};
+    ghost use Rattle.vic_server.specs.Replay.{KeptServer, kept_with, opening_server, replay};
 
-    ghost Value = { Kept };
+    ghost Value = { KeptServer };
 
     ghost coded = { Prim.hlevel (codes, dictionary_code) };
 
-    ghost view = { λ a. kept (opening a.mode a.count a.gathered) a.changes.items a.machine };
+    ghost view = { λ a. kept_with (opening_server a.mode a.count a.gathered) a.changes.items a.machine };
 
-    ghost invariant = { λ a. a.machine ≡ replay (opening a.mode a.count a.gathered) a.changes.items };
+    ghost invariant = { λ a. a.machine ≡ replay (opening_server a.mode a.count a.gathered) a.changes.items };
 }
 
 fn copied_changes(alloc: Global, changes: &[Change]) -> Result<Vec<Change>, NoMemory>
@@ -67,7 +67,7 @@ impl Served {
     #[tactic(auto, unfolding(crate::specs::Replay::replay))]
     pub fn new(alloc: Global, mode: Mode, count: u8) -> Result<Served, NoMemory>
         requires count { (0 < count) × (count ≤ 64) }
-        ensures { IfOk result (λ s. s ≡ kept (opening mode count false) [] (opening mode count false)) }
+        ensures { IfOk result (λ s. s ≡ kept_with (opening_server mode count false) [] (opening_server mode count false)) }
     {
         let machine = Machine::new(alloc, mode, count)?;
         Ok(Served {
@@ -83,7 +83,7 @@ impl Served {
     #[tactic(auto, unfolding(crate::specs::Replay::replay))]
     pub fn gathered(alloc: Global, mode: Mode, count: u8) -> Result<Served, NoMemory>
         requires count { (0 < count) × (count ≤ 64) }
-        ensures { IfOk result (λ s. s ≡ kept (opening mode count true) [] (opening mode count true)) }
+        ensures { IfOk result (λ s. s ≡ kept_with (opening_server mode count true) [] (opening_server mode count true)) }
     {
         let machine = Machine::gathered(alloc, mode, count)?;
         Ok(Served {
@@ -154,8 +154,8 @@ impl Served {
     /// committed done.
     pub fn op_above<'a>(&'a self, change: &'a Effect, position: u32) -> Option<&'a Op>
         requires { 0 < position }
-        ensures is { option_copied result ≡ op_at (leaves self.now.server change.now) position }
-        ensures next { position ≡ sealed_count (leaves self.now.server change.now) + 1 → option_copied result ≡ next_op (leaves self.now.server change.now) }
+        ensures is { option_copied result ≡ op_at (server_after self.now.server change.now) position }
+        ensures next { position ≡ sealed_count (server_after self.now.server change.now) + 1 → option_copied result ≡ next_op (server_after self.now.server change.now) }
         ensures fits { IfSome (option_copied result) (λ o. Fits o) }
     {
         self.machine.op_above(change, position)
@@ -163,7 +163,7 @@ impl Served {
 
     /// How many entries are sealed once a planned change was made.
     pub fn sealed_after(&self, change: &Effect) -> u32
-        ensures is { result ≡ sealed_count (leaves self.now.server change.now) }
+        ensures is { result ≡ sealed_count (server_after self.now.server change.now) }
         ensures room { result ≤ 1048577 }
     {
         self.machine.sealed_after(change)
@@ -206,9 +206,9 @@ impl Served {
         change: Effect,
     ) -> Result<(), NoMemory>
         requires possible { IsPossible self.old.server change }
-        requires next { leaves self.old.server change ≡ (serve self.old.server who payload.now).next }
-        requires makes { makes change ≡ (serve self.old.server who payload.now).change }
-        ensures ok { OnOk result (self.new ≡ stepped self.old seat who payload.now) }
+        requires next { server_after self.old.server change ≡ (serve self.old.server who payload.now).next }
+        requires makes { makes_change change ≡ (serve self.old.server who payload.now).change }
+        ensures ok { OnOk result (self.new ≡ after_request self.old seat who payload.now) }
         ensures nothing { change ≡ effect.Nothing → IsOk result }
         ensures err { OnErr result (self.new ≡ self.old) }
     {
@@ -222,8 +222,8 @@ impl Served {
     // Makes a change, and keeps it in the history.
     fn enact(&mut self, alloc: Global, change: Effect, row: Change) -> Result<(), NoMemory>
         requires possible { IsPossible self.old.server change }
-        requires same { leaves self.old.server change ≡ (serve self.old.server row.who row.payload).next }
-        ensures ok { OnOk result (self.new ≡ kept self.old.opening (self.old.changes ++ row ∷ []) (leaves self.old.server change)) }
+        requires same { server_after self.old.server change ≡ (serve self.old.server row.who row.payload).next }
+        ensures ok { OnOk result (self.new ≡ kept_with self.old.opening (self.old.changes ++ row ∷ []) (server_after self.old.server change)) }
         ensures err { OnErr result (self.new ≡ self.old) }
     {
         self.changes.reserve(1)?;
@@ -258,7 +258,7 @@ impl Served {
         who: u8,
         payload: &[u8],
     ) -> Result<ToClient, NoMemory>
-        ensures ok { OnOk result (self.new ≡ stepped self.old seat who payload.now) }
+        ensures ok { OnOk result (self.new ≡ after_request self.old seat who payload.now) }
         ensures answer { IfOk result (λ a. a ≡ (serve self.old.server who payload.now).answer) }
         ensures spelled { IfOk result (λ a. HasSpelling a) }
         // Each refusal, and the word to wait, comes exactly where its own cause holds.

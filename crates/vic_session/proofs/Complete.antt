@@ -9,21 +9,21 @@ use Rattle.vic_conn.proofs.Pieces.{first_broken, any_pieces}
 use Rattle.vic_ports.specs.Causes.{LeavesBehind, IsSpent}
 use Rattle.vic_session.specs.declared.end.SessionEnd.{SessionEnd}
 use Rattle.vic_session.specs.declared.end.SessionEnd.TheVariants as ends
-use Rattle.vic_session.specs.Talks.{Talk, Talker, Doing, Leaves, Bad, Halts, hears, opening, talk, talker}
+use Rattle.vic_session.specs.Talks.{Talk, Talker, Doing, Leaves, Bad, Halts, talk_after_payload, opening_talk, talk, talker}
 use Rattle.vic_session.specs.Sessions.{Stage, Greets, Talks, Goes_away, Read, IsOver, IsAt, AllAwaited, IsStrange, HaltsBy, first_of, IsSession}
 use Rattle.vic_session.specs.Laws.{IsServed, SessionsAreComplete}
 
 -- ---- two talks over fronts of one list
 
 -- a talk that comes to its end takes no more
-too_long : (w : Talker) (t : Talk) (xs : List (List ℕ)) (p : List ℕ) (ps zs : List (List ℕ)) → zs ≡ xs ++ p ∷ ps → AllAwaited w t zs → IsOver (fold (hears w) t xs).doing → ⊥
+too_long : (w : Talker) (t : Talk) (xs : List (List ℕ)) (p : List ℕ) (ps zs : List (List ℕ)) → zs ≡ xs ++ p ∷ ps → AllAwaited w t zs → IsOver (fold (talk_after_payload w) t xs).doing → ⊥
 too_long w t [] p ps zs e all over = let here : AllAwaited w t (p ∷ ps) = subst (λ (l : List (List ℕ)). AllAwaited w t l) e all in here.0 over
 too_long w t (x ∷ xs) p ps zs e all over =
     let here : AllAwaited w t (x ∷ (xs ++ p ∷ ps)) = subst (λ (l : List (List ℕ)). AllAwaited w t l) e all in
-    too_long w (hears w t x) xs p ps (xs ++ p ∷ ps) refl here.1 over
+    too_long w (talk_after_payload w t x) xs p ps (xs ++ p ∷ ps) refl here.1 over
 
 -- so two that do, over fronts of one list, take the same
-same_end : (w : Talker) (t : Talk) (xs ys a b : List (List ℕ)) → xs ++ a ≡ ys ++ b → AllAwaited w t xs → AllAwaited w t ys → IsOver (fold (hears w) t xs).doing → IsOver (fold (hears w) t ys).doing
+same_end : (w : Talker) (t : Talk) (xs ys a b : List (List ℕ)) → xs ++ a ≡ ys ++ b → AllAwaited w t xs → AllAwaited w t ys → IsOver (fold (talk_after_payload w) t xs).doing → IsOver (fold (talk_after_payload w) t ys).doing
     → (xs ≡ ys) × (a ≡ b)
 same_end w t [] [] a b e ax ay ox oy = (refl, e)
 same_end w t [] (y ∷ ys) a b e ax ay ox oy = absurd (ay.0 ox)
@@ -31,9 +31,9 @@ same_end w t (x ∷ xs) [] a b e ax ay ox oy = absurd (ax.0 oy)
 same_end w t (x ∷ xs) (y ∷ ys) a b e ax ay ox oy =
     let first : x ≡ y = cc in
     let rest : xs ++ a ≡ ys ++ b = cc in
-    let there : AllAwaited w (hears w t x) ys = subst (λ (z : List ℕ). AllAwaited w (hears w t z) ys) (sym first) ay.1 in
-    let over : IsOver (fold (hears w) (hears w t x) ys).doing = subst (λ (z : List ℕ). IsOver (fold (hears w) (hears w t z) ys).doing) (sym first) oy in
-    let same = same_end w (hears w t x) xs ys a b rest ax.1 there ox over in
+    let there : AllAwaited w (talk_after_payload w t x) ys = subst (λ (z : List ℕ). AllAwaited w (talk_after_payload w t z) ys) (sym first) ay.1 in
+    let over : IsOver (fold (talk_after_payload w) (talk_after_payload w t x) ys).doing = subst (λ (z : List ℕ). IsOver (fold (talk_after_payload w) (talk_after_payload w t z) ys).doing) (sym first) oy in
+    let same = same_end w (talk_after_payload w t x) xs ys a b rest ax.1 there ox over in
     (ap (λ (z : List ℕ). z ∷ xs) first ∙ ap (λ (l : List (List ℕ)). y ∷ l) same.0, same.1)
 
 -- ---- what was read, of all that there is
@@ -62,28 +62,28 @@ module _ (g : Group) (me : ℕ) (script : List ℕ) (payloads : List (List ℕ))
   w : Talker
   w = talker g me script
 
-  over : IsOver (fold (hears (talker g me script)) (opening (talker g me script) script) v.taken).doing
+  over : IsOver (fold (talk_after_payload (talker g me script)) (opening_talk (talker g me script) script) v.taken).doing
   unfolding talk
   over = subst (λ (d : Doing). IsOver d) (sym v.leaves) tt
 
   -- it did not take all payloads
-  too_many : (taken : List (List ℕ)) (hi : List ℕ) → hi ∷ taken ≡ payloads → AllAwaited (talker g me script) (opening (talker g me script) script) taken → ⊥
+  too_many : (taken : List (List ℕ)) (hi : List ℕ) → hi ∷ taken ≡ payloads → AllAwaited (talker g me script) (opening_talk (talker g me script) script) taken → ⊥
   too_many taken hi e all =
       let joined : hi ∷ taken ≡ v.hi ∷ v.taken ++ v.gone ∷ v.more = e ∙ v.in_order in
       let rest : taken ≡ v.taken ++ v.gone ∷ v.more = cc in
-      too_long (talker g me script) (opening (talker g me script) script) v.taken v.gone v.more taken rest all over
+      too_long (talker g me script) (opening_talk (talker g me script) script) v.taken v.gone v.more taken rest all over
 
   -- where it came to its end, it took those
-  same : (taken more tail : List (List ℕ)) (hi : List ℕ) → (hi ∷ taken ++ more) ++ tail ≡ payloads → AllAwaited (talker g me script) (opening (talker g me script) script) taken
+  same : (taken more tail : List (List ℕ)) (hi : List ℕ) → (hi ∷ taken ++ more) ++ tail ≡ payloads → AllAwaited (talker g me script) (opening_talk (talker g me script) script) taken
       → IsOver (talk (talker g me script) script taken).doing → (taken ≡ v.taken) × (more ++ tail ≡ v.gone ∷ v.more)
   unfolding talk
   same taken more tail hi e all ends =
       let joined : hi ∷ ((taken ++ more) ++ tail) ≡ v.hi ∷ v.taken ++ v.gone ∷ v.more = e ∙ v.in_order in
       let rest : (taken ++ more) ++ tail ≡ v.taken ++ v.gone ∷ v.more = cc in
-      same_end (talker g me script) (opening (talker g me script) script) taken v.taken (more ++ tail) (v.gone ∷ v.more) (sym (append_assoc taken more tail) ∙ rest) all v.awaited ends over
+      same_end (talker g me script) (opening_talk (talker g me script) script) taken v.taken (more ++ tail) (v.gone ∷ v.more) (sym (append_assoc taken more tail) ∙ rest) all v.awaited ends over
 
   -- whatever its stage is, there is more
-  not_all : (stage : Stage) (read taken more : List (List ℕ)) → Read stage read taken more → AllAwaited (talker g me script) (opening (talker g me script) script) taken → more ≡ [] → read ≡ payloads → ⊥
+  not_all : (stage : Stage) (read taken more : List (List ℕ)) → Read stage read taken more → AllAwaited (talker g me script) (opening_talk (talker g me script) script) taken → more ≡ [] → read ≡ payloads → ⊥
   not_all Greets read taken more r all none e = let no : [] ≡ v.hi ∷ v.taken ++ v.gone ∷ v.more = sym none ∙ sym r.1 ∙ e ∙ v.in_order in absurd cc
   not_all Talks read taken more r all none e =
       too_many taken r.0 (sym (r.1.1 ∙ ap (λ (l : List (List ℕ)). r.0 ∷ taken ++ l) none ∙ append-nil (r.0 ∷ taken)) ∙ e) all
@@ -91,7 +91,7 @@ module _ (g : Group) (me : ℕ) (script : List ℕ) (payloads : List (List ℕ))
       too_many taken r.0 (sym (r.1.1 ∙ ap (λ (l : List (List ℕ)). r.0 ∷ taken ++ l) none ∙ append-nil (r.0 ∷ taken)) ∙ e) all
 
   -- a talk that came to its end has left
-  must_leave : (stage : Stage) (read taken more tail : List (List ℕ)) → stage ≡ Talks → Read stage read taken more → read ++ tail ≡ payloads → AllAwaited (talker g me script) (opening (talker g me script) script) taken
+  must_leave : (stage : Stage) (read taken more tail : List (List ℕ)) → stage ≡ Talks → Read stage read taken more → read ++ tail ≡ payloads → AllAwaited (talker g me script) (opening_talk (talker g me script) script) taken
       → IsOver (talk (talker g me script) script taken).doing → (talk (talker g me script) script taken).doing ≡ Leaves
   must_leave stage read taken more tail talks reads e all ends =
       let r : Read Talks read taken more = subst (λ (s : Stage). Read s read taken more) talks reads in
@@ -104,7 +104,7 @@ module _ (g : Group) (me : ℕ) (script : List ℕ) (payloads : List (List ℕ))
       ap read_answer is ∙ v.hi_is
 
   -- the answers to Hello and to Bye are as they should be
-  not_strange : (stage : Stage) (read taken more tail : List (List ℕ)) (h : List ℕ) → Read stage read taken more → read ++ tail ≡ payloads → AllAwaited (talker g me script) (opening (talker g me script) script) taken
+  not_strange : (stage : Stage) (read taken more tail : List (List ℕ)) (h : List ℕ) → Read stage read taken more → read ++ tail ≡ payloads → AllAwaited (talker g me script) (opening_talk (talker g me script) script) taken
       → IsAt stage (talk (talker g me script) script taken).doing → IsStrange stage (first_of more) h → ⊥
   not_strange Greets read taken more tail h r e all at x = x.1.1.1.0 (hi_first read taken more tail x.0 r e x.1.0)
   not_strange Talks read taken more tail h r e all at x = x

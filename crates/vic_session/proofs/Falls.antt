@@ -17,19 +17,19 @@ use Rattle.vic_rules.specs.declared.object.ObjectCall.{ObjectCall}
 use Rattle.vic_rules.specs.declared.object.ObjectCall.TheVariants as object
 use Rattle.vic_rules.specs.declared.object.Phase.{Phase}
 use Rattle.vic_rules.specs.declared.object.Phase.TheVariants as phase
-use Rattle.vic_rules.specs.Objects.{kept_at}
+use Rattle.vic_rules.specs.Objects.{step_on_kept}
 use Rattle.vic_rules.specs.declared.trace.Input.TheVariants as input
-use Rattle.vic_rules.specs.Client.{Standing, step, grown, is_awaited, has_form, verdict, verdict_on, replied, waited, goes_to, refused_at, updated, taken, taken_or_halts, on_payload}
-use Rattle.vic_client.specs.Kept.{Kept}
+use Rattle.vic_rules.specs.Client.{Standing, step, path_with_entries, is_awaited, has_form, verdict, verdict_on, move_on_reply, move_on_wait, move_by_object_step, move_on_refusal, move_on_update, move_on_answer, move_on_verdict, move_on_payload}
+use Rattle.vic_client.specs.Kept.{KeptClient}
 use Rattle.vic_script.specs.Lines.{lines_of}
-use Rattle.vic_script.specs.Run.{limit}
+use Rattle.vic_script.specs.Run.{script_limit}
 use Rattle.vic_text.specs.declared.client_line.ClientLine.{ClientLine}
 use Rattle.vic_text.specs.declared.client_line.ClientLine.TheVariants as line
 use Rattle.vic_text.specs.ClientLines.{client_line_of}
 use Rattle.vic_session.specs.declared.place.At.{At}
 use Rattle.vic_session.specs.declared.place.At.TheVariants as at
 use Rattle.vic_session.specs.declared.place.Place.{Place}
-use Rattle.vic_session.specs.Talks.{Talk, Talker, Doing, Calls, Tells, Settles, Leaves, Bad, Halts, steps, asks, begins, tells_state, unsettled, goes_on, ends_line, goes_from, hears, is_idle}
+use Rattle.vic_session.specs.Talks.{Talk, Talker, Doing, Calls, Tells, Settles, Leaves, Bad, Halts, talk_after_step, talk_after_asking, talk_from_line, talk_with_state, unsettled_count, talk_at_next_line, talk_after_line, talk_by_check, talk_after_payload, is_idle}
 use Rattle.vic_session.specs.Talking.{On, IsDoing, IsBusy}
 use Rattle.vic_session.specs.Sessions.{IsOver}
 use Rattle.vic_session.proofs.Extends.{here, after_step, hears_is}
@@ -57,13 +57,13 @@ open_some awaits.Entries m e = omega arith
 open_some awaits.Kept m e = omega arith
 open_some (awaits.Content h n) m e = omega arith
 
-falls_replied : (me : ℕ) (s : Standing) (seal : Seal) (path : List Entry) (part : Option Part) (a : Awaiting) → s.awaiting ≡ a → (replied me s seal path part a).next.halted ≡ None
-    → load_of (replied me s seal path part a).next < load_of s
+falls_replied : (me : ℕ) (s : Standing) (seal : Seal) (path : List Entry) (part : Option Part) (a : Awaiting) → s.awaiting ≡ a → (move_on_reply me s seal path part a).next.halted ≡ None
+    → load_of (move_on_reply me s seal path part a).next < load_of s
 falls_replied me s seal [] part a is live = absurd cc
 falls_replied me s seal (e ∷ below) None a is live = absurd cc
 falls_replied me s seal (e ∷ below) (Some part) (awaits.Reply n o load) is live =
     let five : open_of s.awaiting ≡ 5 = ap open_of is in
-    let one : length (replied me s seal (e ∷ below) (Some part) (awaits.Reply n o load)).next.own ≡ length s.own + 1 = length-append s.own _ in
+    let one : length (move_on_reply me s seal (e ∷ below) (Some part) (awaits.Reply n o load)).next.own ≡ length s.own + 1 = length-append s.own _ in
     omega (arith, five, one)
 falls_replied me s seal (e ∷ below) (Some part) awaits.Nothing is live = absurd cc
 falls_replied me s seal (e ∷ below) (Some part) awaits.Turn is live = absurd cc
@@ -71,7 +71,7 @@ falls_replied me s seal (e ∷ below) (Some part) awaits.Entries is live = absur
 falls_replied me s seal (e ∷ below) (Some part) awaits.Kept is live = absurd cc
 falls_replied me s seal (e ∷ below) (Some part) (awaits.Content h n) is live = absurd cc
 
-falls_updated : (s : Standing) (seal : Seal) (part : Option Part) (own : List Own) → s.own ≡ own → 0 < open_of s.awaiting → (updated s seal part own).next.halted ≡ None → load_of (updated s seal part own).next < load_of s
+falls_updated : (s : Standing) (seal : Seal) (part : Option Part) (own : List Own) → s.own ≡ own → 0 < open_of s.awaiting → (move_on_update s seal part own).next.halted ≡ None → load_of (move_on_update s seal part own).next < load_of s
 falls_updated s seal None own is some live = absurd cc
 falls_updated s seal (Some part) [] is some live = absurd cc
 falls_updated s seal (Some part) (o ∷ others) is some live =
@@ -95,19 +95,19 @@ six_open awaits.Entries e = absurd cc
 six_open awaits.Kept e = refl
 six_open (awaits.Content h n) e = absurd cc
 
-falls_waited : (s : Standing) (p : Phase) → open_of s.awaiting ≡ 2 → load_of (waited s p).next < load_of s
+falls_waited : (s : Standing) (p : Phase) → open_of s.awaiting ≡ 2 → load_of (move_on_wait s p).next < load_of s
 falls_waited s phase.Closed two = omega (arith, two)
 falls_waited s (phase.Keeping k h len) two = omega (arith, two)
 falls_waited s phase.Calling two = omega (arith, two)
 falls_waited s (phase.Fetching h len) two = omega (arith, two)
 
-falls_kept : (s : Standing) (p : Phase) → open_of s.awaiting ≡ 6 → (goes_to s false (kept_at p)).next.halted ≡ None → load_of (goes_to s false (kept_at p)).next < load_of s
+falls_kept : (s : Standing) (p : Phase) → open_of s.awaiting ≡ 6 → (move_by_object_step s false (step_on_kept p)).next.halted ≡ None → load_of (move_by_object_step s false (step_on_kept p)).next < load_of s
 falls_kept s phase.Closed six live = absurd cc
 falls_kept s (phase.Keeping k h len) six live = omega (arith, six)
 falls_kept s phase.Calling six live = absurd cc
 falls_kept s (phase.Fetching h len) six live = absurd cc
 
-falls_refused : (s : Standing) (r : ℕ) (a : Awaiting) → 0 < open_of s.awaiting → load_of (refused_at s r a).next < load_of s
+falls_refused : (s : Standing) (r : ℕ) (a : Awaiting) → 0 < open_of s.awaiting → load_of (move_on_refusal s r a).next < load_of s
 falls_refused s r awaits.Nothing some = omega (arith, some)
 falls_refused s r (awaits.Reply n o load) some = omega (arith, some)
 falls_refused s r awaits.Turn some = omega (arith, some)
@@ -115,8 +115,8 @@ falls_refused s r awaits.Entries some = omega (arith, some)
 falls_refused s r awaits.Kept some = omega (arith, some)
 falls_refused s r (awaits.Content h n) some = omega (arith, some)
 
-falls_taken : (me : ℕ) (s : Standing) (m : ToClient) → is_awaited s.awaiting m ≡ true → (taken me s m).next.halted ≡ None → load_of (taken me s m).next < load_of s
-falls_taken me s (say.Reply seal entries part) is live = falls_replied me s seal (grown s entries) (read_part part) s.awaiting refl live
+falls_taken : (me : ℕ) (s : Standing) (m : ToClient) → is_awaited s.awaiting m ≡ true → (move_on_answer me s m).next.halted ≡ None → load_of (move_on_answer me s m).next < load_of s
+falls_taken me s (say.Reply seal entries part) is live = falls_replied me s seal (path_with_entries s entries) (read_part part) s.awaiting refl live
 falls_taken me s say.Wait is live = falls_waited s s.phase (two_open s.awaiting is)
 falls_taken me s (say.Update seal part) is live = falls_updated s seal (read_part part) s.own refl (open_some s.awaiting (say.Update seal part) is) live
 falls_taken me s (say.Entries seal entries) is live = let some = open_some s.awaiting (say.Entries seal entries) is in omega (arith, some)
@@ -147,12 +147,12 @@ first_passes false others e = absurd cc
 passes_on : (g : Group) (me : ℕ) (s : Standing) (m : ToClient) → verdict_on g me s (Some m) ≡ None → is_awaited s.awaiting m ≡ true
 passes_on g me s m e = form_awaited s m (first_passes (has_form s m) _ e)
 
-falls_by : (g : Group) (me : ℕ) (s : Standing) (m : Option ToClient) (k : Option ℕ) → verdict_on g me s m ≡ k → (taken_or_halts me s m k).next.halted ≡ None → load_of (taken_or_halts me s m k).next < load_of s
+falls_by : (g : Group) (me : ℕ) (s : Standing) (m : Option ToClient) (k : Option ℕ) → verdict_on g me s m ≡ k → (move_on_verdict me s m k).next.halted ≡ None → load_of (move_on_verdict me s m k).next < load_of s
 falls_by g me s m (Some k) is live = absurd cc
 falls_by g me s (Some m) None is live = falls_taken me s m (passes_on g me s m is) live
 falls_by g me s None None is live = absurd cc
 
-falls_on : (g : Group) (me : ℕ) (s : Standing) (k : Option ℕ) (payload : List ℕ) → (on_payload g me s k payload).next.halted ≡ None → load_of (on_payload g me s k payload).next < load_of s
+falls_on : (g : Group) (me : ℕ) (s : Standing) (k : Option ℕ) (payload : List ℕ) → (move_on_payload g me s k payload).next.halted ≡ None → load_of (move_on_payload g me s k payload).next < load_of s
 unfolding verdict
 falls_on g me s (Some k) payload live = absurd cc
 falls_on g me s None payload live = falls_by g me s (read_answer payload) (verdict g me s payload) refl live
@@ -191,23 +191,23 @@ left_of (Halts k p) = 0
 abbrev pub need_at : Talker → Talk → ℕ
 need_at w t = needs w.group.mode t.lines + left_of t.doing + load_of t.now
 
-need_call : (w : Talker) (t : Talk) (o : Op) (d : Doing) → need_at w (asks w t (input.Call o) d) ≡ needs w.group.mode t.lines + left_of d + (2 * length t.now.own + 5)
-unfolding steps step
+need_call : (w : Talker) (t : Talk) (o : Op) (d : Doing) → need_at w (talk_after_asking w t (input.Call o) d) ≡ needs w.group.mode t.lines + left_of d + (2 * length t.now.own + 5)
+unfolding talk_after_step step
 need_call w t o d = refl
 
-need_object : (w : Talker) (t : Talk) (c : ObjectCall) (d : Doing) → need_at w (asks w t (input.Object c) d) ≤ needs w.group.mode t.lines + left_of d + (2 * length t.now.own + 6)
-unfolding steps step
+need_object : (w : Talker) (t : Talk) (c : ObjectCall) (d : Doing) → need_at w (talk_after_asking w t (input.Object c) d) ≤ needs w.group.mode t.lines + left_of d + (2 * length t.now.own + 6)
+unfolding talk_after_step step
 need_object w t (object.Store k c) d = omega arith
 need_object w t (object.Load k) d = omega arith
 need_object w t (object.Erase k) d = omega arith
 need_object w t (object.Names p) d = omega arith
 
-need_poll : (w : Talker) (t : Talk) (d : Doing) → need_at w (asks w t input.Poll d) ≡ needs w.group.mode t.lines + left_of d + (2 * length t.now.own + 2)
-unfolding steps step
+need_poll : (w : Talker) (t : Talk) (d : Doing) → need_at w (talk_after_asking w t input.Poll d) ≡ needs w.group.mode t.lines + left_of d + (2 * length t.now.own + 2)
+unfolding talk_after_step step
 need_poll w t d = refl
 
-need_sync : (w : Talker) (t : Talk) (d : Doing) → need_at w (asks w t input.Sync d) ≡ needs w.group.mode t.lines + left_of d + (2 * length t.now.own + 1)
-unfolding steps step
+need_sync : (w : Talker) (t : Talk) (d : Doing) → need_at w (talk_after_asking w t input.Sync d) ≡ needs w.group.mode t.lines + left_of d + (2 * length t.now.own + 1)
+unfolding talk_after_step step
 need_sync w t d = refl
 
 -- where a talk isn't over, it needs at most so much
@@ -222,7 +222,7 @@ either w true x y most f g = f
 either w false x y most f g = g
 
 begun : (w : Talker) (t : Talk) (l : Option ClientLine) (next : Talk → Talk) → ((u : Talk) → AtMost w (next u) (needs w.group.mode t.lines + 2 * length u.now.own))
-    → AtMost w (begins w t l next) (need_of l + needs w.group.mode t.lines + 2 * length t.now.own)
+    → AtMost w (talk_from_line w t l next) (need_of l + needs w.group.mode t.lines + 2 * length t.now.own)
 begun w t None next h = λ busy. absurd (busy tt)
 begun w t (Some line.Skip) next h = λ busy. (let x : need_at w (next t) ≤ needs w.group.mode t.lines + 2 * length t.now.own = h t busy in omega (arith, x))
 begun w t (Some (line.Call o)) next h = λ busy. (let x = need_call w t o Calls in omega (arith, x))
@@ -230,43 +230,43 @@ begun w t (Some (line.Object c)) next h = λ busy. (let x = need_object w t c Ca
 begun w t (Some line.Poll) next h = λ busy. (let x = need_poll w t Tells in omega (arith, x))
 begun w t (Some line.Sync) next h = λ busy. (let x = need_sync w t Tells in omega (arith, x))
 begun w t (Some (line.Settle zero)) next h = λ busy.
-    (let x : need_at w (next (tells_state t)) ≤ needs w.group.mode t.lines + 2 * length t.now.own = h (tells_state t) busy in omega (arith, x))
+    (let x : need_at w (next (talk_with_state t)) ≤ needs w.group.mode t.lines + 2 * length t.now.own = h (talk_with_state t) busy in omega (arith, x))
 begun w t (Some (line.Settle (suc n))) next h =
-    either w (nat_eq (unsettled t) 0) (next (tells_state t)) (asks w t input.Poll (Settles n)) (2 * suc n + needs w.group.mode t.lines + 2 * length t.now.own)
-    (λ busy. (let x : need_at w (next (tells_state t)) ≤ needs w.group.mode t.lines + 2 * length t.now.own = h (tells_state t) busy in omega (arith, x)))
+    either w (nat_eq (unsettled_count t) 0) (next (talk_with_state t)) (talk_after_asking w t input.Poll (Settles n)) (2 * suc n + needs w.group.mode t.lines + 2 * length t.now.own)
+    (λ busy. (let x : need_at w (next (talk_with_state t)) ≤ needs w.group.mode t.lines + 2 * length t.now.own = h (talk_with_state t) busy in omega (arith, x)))
     (λ busy. (let x = need_poll w t (Settles n) in omega (arith, x)))
 
-gone_on : (w : Talker) (t : Talk) (texts : List (List ℕ)) → AtMost w (goes_on w t texts) (needs w.group.mode texts + 2 * length t.now.own)
-unfolding goes_on
+gone_on : (w : Talker) (t : Talk) (texts : List (List ℕ)) → AtMost w (talk_at_next_line w t texts) (needs w.group.mode texts + 2 * length t.now.own)
+unfolding talk_at_next_line
 gone_on w t [] = λ busy. absurd (busy tt)
 gone_on w t (text ∷ texts) =
     let u = here w t text texts in
-    either w (nat_lt limit u.behind) (record u { doing = Bad 7 }) (begins w u (client_line_of w.group.mode text) (λ v. goes_on w v texts)) (needs w.group.mode (text ∷ texts) + 2 * length t.now.own)
-    (λ busy. absurd (busy tt)) (begun w u (client_line_of w.group.mode text) (λ v. goes_on w v texts) (λ v. gone_on w v texts))
+    either w (nat_lt script_limit u.behind) (record u { doing = Bad 7 }) (talk_from_line w u (client_line_of w.group.mode text) (λ v. talk_at_next_line w v texts)) (needs w.group.mode (text ∷ texts) + 2 * length t.now.own)
+    (λ busy. absurd (busy tt)) (begun w u (client_line_of w.group.mode text) (λ v. talk_at_next_line w v texts) (λ v. gone_on w v texts))
 
-told_on : (w : Talker) (t : Talk) → AtMost w (let u = tells_state t in goes_on w u u.lines) (needs w.group.mode t.lines + 2 * length t.now.own)
-told_on w t = gone_on w (tells_state t) t.lines
+told_on : (w : Talker) (t : Talk) → AtMost w (let u = talk_with_state t in talk_at_next_line w u u.lines) (needs w.group.mode t.lines + 2 * length t.now.own)
+told_on w t = gone_on w (talk_with_state t) t.lines
 
 -- what it is at is over
-ended : (w : Talker) (t : Talk) (d : Doing) → t.doing ≡ d → AtMost w (ends_line w t d) (needs w.group.mode t.lines + left_of d + 2 * length t.now.own)
+ended : (w : Talker) (t : Talk) (d : Doing) → t.doing ≡ d → AtMost w (talk_after_line w t d) (needs w.group.mode t.lines + left_of d + 2 * length t.now.own)
 ended w t Calls is = λ busy. (let x = gone_on w t t.lines busy in omega (arith, x))
 ended w t Tells is = λ busy. (let x = told_on w t busy in omega (arith, x))
 ended w t (Settles zero) is = λ busy. (let x = told_on w t busy in omega (arith, x))
 ended w t (Settles (suc n)) is =
-    either w (nat_eq (unsettled t) 0) (let u = tells_state t in goes_on w u u.lines) (asks w t input.Poll (Settles n)) (needs w.group.mode t.lines + 2 * suc n + 2 * length t.now.own)
+    either w (nat_eq (unsettled_count t) 0) (let u = talk_with_state t in talk_at_next_line w u u.lines) (talk_after_asking w t input.Poll (Settles n)) (needs w.group.mode t.lines + 2 * suc n + 2 * length t.now.own)
     (λ busy. (let x = told_on w t busy in omega (arith, x))) (λ busy. (let x = need_poll w t (Settles n) in omega (arith, x)))
 ended w t Leaves is = over w t (needs w.group.mode t.lines + 0 + 2 * length t.now.own) (subst (λ (d : Doing). IsOver d) (sym is) tt)
 ended w t (Bad k) is = over w t (needs w.group.mode t.lines + 0 + 2 * length t.now.own) (subst (λ (d : Doing). IsOver d) (sym is) tt)
 ended w t (Halts k p) is = over w t (needs w.group.mode t.lines + 0 + 2 * length t.now.own) (subst (λ (d : Doing). IsOver d) (sym is) tt)
 
-gone_from : (w : Talker) (t : Talk) (payload : List ℕ) → AtMost w (goes_from w t payload None) (need_at w t)
+gone_from : (w : Talker) (t : Talk) (payload : List ℕ) → AtMost w (talk_by_check w t payload None) (need_at w t)
 gone_from w t payload =
-    either w (is_idle t.now) (ends_line w t t.doing) t (need_at w t)
+    either w (is_idle t.now) (talk_after_line w t t.doing) t (need_at w t)
     (λ busy. (let x = ended w t t.doing refl busy in omega (arith, x))) (λ busy. omega arith)
 
-falls_halted : (w : Talker) (t : Talk) (payload : List ℕ) (k : Option ℕ) → (after_step w t payload).now.halted ≡ k → (IsOver (goes_from w (after_step w t payload) payload k).doing → ⊥)
-    → need_at w (goes_from w (after_step w t payload) payload k) < need_at w t
-unfolding steps
+falls_halted : (w : Talker) (t : Talk) (payload : List ℕ) (k : Option ℕ) → (after_step w t payload).now.halted ≡ k → (IsOver (talk_by_check w (after_step w t payload) payload k).doing → ⊥)
+    → need_at w (talk_by_check w (after_step w t payload) payload k) < need_at w t
+unfolding talk_after_step
 falls_halted w t payload (Some k) is busy = absurd (busy tt)
 falls_halted w t payload None is busy =
     let most = gone_from w (after_step w t payload) payload busy in
@@ -275,10 +275,10 @@ falls_halted w t payload None is busy =
     omega (arith, most, less, same)
 
 -- a talk that takes an answer and isn't over needs less then
-pub falls : (w : Talker) (t : Talk) (payload : List ℕ) → (IsOver (hears w t payload).doing → ⊥) → need_at w (hears w t payload) < need_at w t
+pub falls : (w : Talker) (t : Talk) (payload : List ℕ) → (IsOver (talk_after_payload w t payload).doing → ⊥) → need_at w (talk_after_payload w t payload) < need_at w t
 falls w t payload busy =
     subst (λ (v : Talk). need_at w v < need_at w t) (sym (hears_is w t payload))
-    (falls_halted w t payload (steps w t (input.Payload payload)).now.halted refl (subst (λ (v : Talk). IsOver v.doing → ⊥) (hears_is w t payload) busy))
+    (falls_halted w t payload (talk_after_step w t (input.Payload payload)).now.halted refl (subst (λ (v : Talk). IsOver v.doing → ⊥) (hears_is w t payload) busy))
 
 -- ---- a session
 
@@ -291,7 +291,7 @@ rank_at at.Leaves n = 0
 rank_at (at.Bad k) n = 0
 rank_at (at.Halts k h) n = 0
 
-abbrev pub rank : Kept → Place → ℕ
+abbrev pub rank : KeptClient → Place → ℕ
 rank c p = rank_at p.doing (needs c.mode (lines_of p.rest.now) + (2 * length c.own + open_of c.awaiting))
 
 busy_is : (a : At) (d : Doing) (n : ℕ) → IsBusy a → IsDoing a d → rank_at a n ≡ suc (n + left_of d)
@@ -316,7 +316,7 @@ rank_less at.Leaves d n m is f = omega arith
 rank_less (at.Bad k) d n m is f = omega arith
 rank_less (at.Halts k h) d n m is f = omega arith
 
-load_is : (w : Talker) (t : Talk) (start : List ℕ) (c : Kept) (p : Place) (out : List ℕ) → On w t start c p out
+load_is : (w : Talker) (t : Talk) (start : List ℕ) (c : KeptClient) (p : Place) (out : List ℕ) → On w t start c p out
     → needs c.mode (lines_of p.rest.now) + (2 * length c.own + open_of c.awaiting) ≡ needs w.group.mode t.lines + load_of t.now
 load_is w t start c p out on =
     let lines : needs c.mode (lines_of p.rest.now) ≡ needs w.group.mode t.lines
@@ -325,13 +325,13 @@ load_is w t start c p out on =
     let waits : open_of c.awaiting ≡ open_of t.now.awaiting = ap open_of (sym on.stands_so.awaiting) in
     omega (arith, lines, own, waits)
 
-pub rank_falls : (w : Talker) (t : Talk) (start payload : List ℕ) (c d : Kept) (p q : Place) (out text : List ℕ) → On w t start c p out → IsDoing p.doing t.doing → IsBusy p.doing
-    → On w (hears w t payload) start d q text → IsDoing q.doing (hears w t payload).doing → rank d q < rank c p
+pub rank_falls : (w : Talker) (t : Talk) (start payload : List ℕ) (c d : KeptClient) (p q : Place) (out text : List ℕ) → On w t start c p out → IsDoing p.doing t.doing → IsBusy p.doing
+    → On w (talk_after_payload w t payload) start d q text → IsDoing q.doing (talk_after_payload w t payload).doing → rank d q < rank c p
 rank_falls w t start payload c d p q out text on doing busy goes at =
     let was = load_is w t start c p out on in
-    let is = load_is w (hears w t payload) start d q text goes in
+    let is = load_is w (talk_after_payload w t payload) start d q text goes in
     let old = busy_is p.doing t.doing (needs c.mode (lines_of p.rest.now) + (2 * length c.own + open_of c.awaiting)) busy doing in
     let less : rank_at q.doing (needs d.mode (lines_of q.rest.now) + (2 * length d.own + open_of d.awaiting)) < suc (needs w.group.mode t.lines + left_of t.doing + load_of t.now)
-    = rank_less q.doing (hears w t payload).doing (needs d.mode (lines_of q.rest.now) + (2 * length d.own + open_of d.awaiting)) (needs w.group.mode t.lines + left_of t.doing + load_of t.now) at
+    = rank_less q.doing (talk_after_payload w t payload).doing (needs d.mode (lines_of q.rest.now) + (2 * length d.own + open_of d.awaiting)) (needs w.group.mode t.lines + left_of t.doing + load_of t.now) at
     (λ go. (let x = falls w t payload go in omega (arith, x, is))) in
     omega (arith, was, old, less)

@@ -21,7 +21,7 @@ use Rattle.vic_script.specs.Words.{is_plain, is_lower_hex, is_percent, hex_word,
 use Rattle.vic_rules.specs.declared.object.ObjectCall.{ObjectCall}
 use Rattle.vic_rules.specs.declared.object.ObjectCall.TheVariants as object
 use Rattle.vic_rules.specs.Objects.{FitsObject, AreBytesInObject}
-use Rattle.vic_script.specs.Lines.{put_first, lines_of, words_of, within, at_most, key_of, value_of, prefix_of, put_of, op_of, zeros_of, content_of, store_of, object_of, is_skipped}
+use Rattle.vic_script.specs.Lines.{put_first, lines_of, words_of, word_within, at_most, key_of, value_of, prefix_of, put_of, op_of, zeros_of, content_of, store_of, object_of, is_skipped}
 use Rattle.vic_text.specs.declared.client_line.ClientLine.{ClientLine}
 use Rattle.vic_text.specs.declared.client_line.ClientLine.TheVariants as line
 use Rattle.vic_text.specs.ClientLines.{client_line_of, client_line_in, plain_line, call_line, or_line, settle_of}
@@ -70,9 +70,9 @@ few-in : (least most : ℕ) (bytes : List ℕ) → AreBytes bytes → (b : Bool)
 few-in least most bytes h true few = (h, few refl)
 few-in least most bytes h false few = tt
 
-within-few : (least most : ℕ) (o : Option (List ℕ)) → BytesIn o → FewIn least most (within least most o)
-within-few least most None h = tt
-within-few least most (Some bytes) h =
+word_within-few : (least most : ℕ) (o : Option (List ℕ)) → BytesIn o → FewIn least most (word_within least most o)
+word_within-few least most None h = tt
+word_within-few least most (Some bytes) h =
     few-in least most bytes h (nat_le least (length bytes) && nat_le (length bytes) most)
     (λ e. let p = and_parts _ _ e in (leb-true _ _ p.0, leb-true _ _ p.1))
 
@@ -107,8 +107,8 @@ op-fits : (words : List (List ℕ)) → FitsOp (op_of words)
 op-fits [] = tt
 op-fits (name ∷ []) = tt
 op-fits (name ∷ a ∷ []) =
-    let key = within-few 1 255 (word_bytes a) (word-bytes a) in
-    let prefix = within-few 0 255 (word_bytes a) (word-bytes a) in
+    let key = word_within-few 1 255 (word_bytes a) (word-bytes a) in
+    let prefix = word_within-few 0 255 (word_bytes a) (word-bytes a) in
     let lists : Option Op = if bytes_eq name (codes "list") then option_map op.List (prefix_of a) else None in
     let dels : Option Op = if bytes_eq name (codes "del") then option_map op.Del (key_of a) else lists in
     op-either (bytes_eq name (codes "get")) (option_map op.Get (key_of a)) dels (get-fits (key_of a) key)
@@ -116,7 +116,7 @@ op-fits (name ∷ a ∷ []) =
     (op-either (bytes_eq name (codes "list")) (option_map op.List (prefix_of a)) None (list-fits (prefix_of a) prefix) tt))
 op-fits (name ∷ a ∷ b ∷ []) =
     op-either (bytes_eq name (codes "put")) (put_of (key_of a) (value_of b)) None
-    (put-fits (key_of a) (value_of b) (within-few 1 255 (word_bytes a) (word-bytes a)) (within-few 0 64 (word_bytes b) (word-bytes b))) tt
+    (put-fits (key_of a) (value_of b) (word_within-few 1 255 (word_bytes a) (word-bytes a)) (word_within-few 0 64 (word_bytes b) (word-bytes b))) tt
 op-fits (name ∷ a ∷ b ∷ c ∷ others) = tt
 
 -- ---- calls on objects
@@ -143,8 +143,8 @@ few-either false x y h k = k
 
 content-few : (word : List ℕ) → FewIn 0 8388608 (content_of word)
 content-few word =
-    few-either (starts_with nat_eq word (codes "zeros:")) (zeros_of (drop 6 word)) (within 0 8388608 (word_bytes word))
-    (zeros-in (word_number (drop 6 word))) (within-few 0 8388608 (word_bytes word) (word-bytes word))
+    few-either (starts_with nat_eq word (codes "zeros:")) (zeros_of (drop 6 word)) (word_within 0 8388608 (word_bytes word))
+    (zeros-in (word_number (drop 6 word))) (word_within-few 0 8388608 (word_bytes word) (word-bytes word))
 
 abbrev FitsCall : Option ObjectCall → Type 0
 FitsCall None = Unit {0}
@@ -175,8 +175,8 @@ object-fits : (words : List (List ℕ)) → FitsCall (object_of words)
 object-fits [] = tt
 object-fits (name ∷ []) = tt
 object-fits (name ∷ a ∷ []) =
-    let key = within-few 1 255 (word_bytes a) (word-bytes a) in
-    let prefix = within-few 0 255 (word_bytes a) (word-bytes a) in
+    let key = word_within-few 1 255 (word_bytes a) (word-bytes a) in
+    let prefix = word_within-few 0 255 (word_bytes a) (word-bytes a) in
     let lists : Option ObjectCall = if bytes_eq name (codes "names") then option_map object.Names (prefix_of a) else None in
     let erases : Option ObjectCall = if bytes_eq name (codes "erase") then option_map object.Erase (key_of a) else lists in
     object-either (bytes_eq name (codes "load")) (option_map object.Load (key_of a)) erases (load-fits (key_of a) key)
@@ -184,7 +184,7 @@ object-fits (name ∷ a ∷ []) =
     (object-either (bytes_eq name (codes "names")) (option_map object.Names (prefix_of a)) None (names-fits (prefix_of a) prefix) tt))
 object-fits (name ∷ a ∷ b ∷ []) =
     object-either (bytes_eq name (codes "store")) (store_of (key_of a) (content_of b)) None
-    (store-fits (key_of a) (content_of b) (within-few 1 255 (word_bytes a) (word-bytes a)) (content-few b)) tt
+    (store-fits (key_of a) (content_of b) (word_within-few 1 255 (word_bytes a) (word-bytes a)) (content-few b)) tt
 object-fits (name ∷ a ∷ b ∷ c ∷ others) = tt
 
 -- ---- lines

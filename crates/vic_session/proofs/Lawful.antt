@@ -17,11 +17,11 @@ use Rattle.vic_conn.proofs.Spelled.{fronts_are}
 use Rattle.vic_ports.specs.Causes.{LeavesBehind}
 use Rattle.vic_spellings.proofs.Steps.{bytes-take, bytes-drop}
 use Rattle.vic_script.specs.Lines.{lines_of}
-use Rattle.vic_script.specs.Run.{limit}
+use Rattle.vic_script.specs.Run.{script_limit}
 use Rattle.vic_text.specs.declared.client_line.ClientLine.{ClientLine}
 use Rattle.vic_text.specs.declared.client_line.ClientLine.TheVariants as line
 use Rattle.vic_text.specs.ClientLines.{client_line_of}
-use Rattle.vic_session.specs.Talks.{Talk, Talker, Doing, Calls, Tells, Settles, Leaves, Bad, Halts, steps, asks, begins, tells_state, unsettled, goes_on, ends_line, is_idle, goes_from, hears, fresh, opening, talk, talker}
+use Rattle.vic_session.specs.Talks.{Talk, Talker, Doing, Calls, Tells, Settles, Leaves, Bad, Halts, talk_after_step, talk_after_asking, talk_from_line, talk_with_state, unsettled_count, talk_at_next_line, talk_after_line, is_idle, talk_by_check, talk_after_payload, fresh_talk, opening_talk, talk, talker}
 use Rattle.vic_session.specs.Sessions.{Stage, Greets, Talks, Goes_away, Read}
 use Rattle.vic_session.specs.Laws.{TalksAreLawful, SessionsAreLawful}
 use Rattle.vic_session.proofs.Steps.{heard}
@@ -61,8 +61,8 @@ module _ (w : Talker) (member : (0 < w.me) × (w.me ≤ w.group.count)) where
   abbrev Good : Talk → Type 0
   Good t = Sound t (length t.lines)
 
-  stepped : (t : Talk) (n : ℕ) (given : Input) → Sound t n → MayStep w.group t.now given → calls_of (step w.group w.me t.now given).next ≤ t.number → Sound (steps w t given) n
-  unfolding steps
+  stepped : (t : Talk) (n : ℕ) (given : Input) → Sound t n → MayStep w.group t.now given → calls_of (step w.group w.me t.now given).next ≤ t.number → Sound (talk_after_step w t given) n
+  unfolding talk_after_step
   stepped t n given s may few = record {
     made = (s.made, is_step w.group w.me t.history t.now given s.at member may);
     at = stands_next w.group w.me t.history t.now given s.at;
@@ -71,13 +71,13 @@ module _ (w : Talker) (member : (0 < w.me) × (w.me ≤ w.group.count)) where
     room = s.room;
   }
 
-  asked : (t : Talk) (given : Input) (d : Doing) → Good t → MayStep w.group t.now given → calls_of (step w.group w.me t.now given).next ≤ t.number → Good (asks w t given d)
-  unfolding steps
+  asked : (t : Talk) (given : Input) (d : Doing) → Good t → MayStep w.group t.now given → calls_of (step w.group w.me t.now given).next ≤ t.number → Good (talk_after_asking w t given d)
+  unfolding talk_after_step
   asked t given d s may few =
       let x = stepped t (length t.lines) given s may few in
       record { made = x.made; at = x.at; few = x.few; behind = x.behind; room = x.room }
 
-  told : (t : Talk) (n : ℕ) → Sound t n → Sound (tells_state t) n
+  told : (t : Talk) (n : ℕ) → Sound t n → Sound (talk_with_state t) n
   told t n s = record { made = s.made; at = s.at; few = s.few; behind = s.behind; room = s.room }
 
   at_doing : (t : Talk) (d : Doing) → Good t → Good (record t { doing = d })
@@ -88,8 +88,8 @@ module _ (w : Talker) (member : (0 < w.me) × (w.me ≤ w.group.count)) where
   either false x y h k = k refl
 
   -- a line is begun
-  begun : (t : Talk) (l : Option ClientLine) (next : Talk → Talk) → Good t → IsIdle t.now → t.now.calls + 1 ≤ t.number → t.number ≤ limit → CanIn l w.group.mode
-      → ((u : Talk) → Sound u (length t.lines) → IsIdle u.now → Good (next u)) → Good (begins w t l next)
+  begun : (t : Talk) (l : Option ClientLine) (next : Talk → Talk) → Good t → IsIdle t.now → t.now.calls + 1 ≤ t.number → t.number ≤ script_limit → CanIn l w.group.mode
+      → ((u : Talk) → Sound u (length t.lines) → IsIdle u.now → Good (next u)) → Good (talk_from_line w t l next)
   begun t None next s idle few most can goes = at_doing t (Bad 1) s
   begun t (Some line.Skip) next s idle few most can goes = goes t s idle
   begun t (Some (line.Call o)) next s idle few most can goes =
@@ -98,10 +98,10 @@ module _ (w : Talker) (member : (0 < w.me) × (w.me ≤ w.group.count)) where
       asked t (input.Object c) Calls s (idle, (can.0, (can.1.0, (can.1.1, omega (arith, few, most))))) (calls_object w t t.number c few)
   begun t (Some line.Poll) next s idle few most can goes = asked t input.Poll Tells s idle (calls_poll w t t.number s.few)
   begun t (Some line.Sync) next s idle few most can goes = asked t input.Sync Tells s idle (calls_sync w t t.number s.few)
-  begun t (Some (line.Settle zero)) next s idle few most can goes = goes (tells_state t) (told t (length t.lines) s) idle
+  begun t (Some (line.Settle zero)) next s idle few most can goes = goes (talk_with_state t) (told t (length t.lines) s) idle
   begun t (Some (line.Settle (suc n))) next s idle few most can goes =
-      either (nat_eq (unsettled t) 0) (next (tells_state t)) (asks w t input.Poll (Settles n))
-      (λ e. goes (tells_state t) (told t (length t.lines) s) idle) (λ e. asked t input.Poll (Settles n) s idle (calls_poll w t t.number s.few))
+      either (nat_eq (unsettled_count t) 0) (next (talk_with_state t)) (talk_after_asking w t input.Poll (Settles n))
+      (λ e. goes (talk_with_state t) (told t (length t.lines) s) idle) (λ e. asked t input.Poll (Settles n) s idle (calls_poll w t t.number s.few))
 
   at_line : (t : Talk) (text : List ℕ) (texts : List (List ℕ)) → Sound t (suc (length texts)) → Good (here w t text texts)
   at_line t text texts s = record {
@@ -112,52 +112,52 @@ module _ (w : Talker) (member : (0 < w.me) × (w.me ≤ w.group.count)) where
     room = omega (arith, s.room);
   }
 
-  goes : (t : Talk) (texts : List (List ℕ)) → Sound t (length texts) → IsIdle t.now → Good (goes_on w t texts)
-  unfolding goes_on
+  goes : (t : Talk) (texts : List (List ℕ)) → Sound t (length texts) → IsIdle t.now → Good (talk_at_next_line w t texts)
+  unfolding talk_at_next_line
   goes t [] s idle = record { made = s.made; at = s.at; few = s.few; behind = s.behind; room = s.room }
   goes t (text ∷ texts) s idle =
       let u = here w t text texts in
       let there : Good (here w t text texts) = at_line t text texts s in
-      either (nat_lt limit u.behind) (record u { doing = Bad 7 }) (begins w u (client_line_of w.group.mode text) (λ v. goes_on w v texts))
+      either (nat_lt script_limit u.behind) (record u { doing = Bad 7 }) (talk_from_line w u (client_line_of w.group.mode text) (λ v. talk_at_next_line w v texts))
       (λ e. at_doing u (Bad 7) there)
-      (λ e. begun u (client_line_of w.group.mode text) (λ v. goes_on w v texts) there idle (omega (arith, s.few)) (omega (arith, ltb-false limit u.behind e, there.behind))
+      (λ e. begun u (client_line_of w.group.mode text) (λ v. talk_at_next_line w v texts) there idle (omega (arith, s.few)) (omega (arith, ltb-false script_limit u.behind e, there.behind))
       (spelled-can w.group.mode text) (λ v sound rests. goes v texts sound rests))
 
-  told_on : (t : Talk) → Good t → IsIdle t.now → Good (let u = tells_state t in goes_on w u u.lines)
-  told_on t s idle = goes (tells_state t) t.lines (told t (length t.lines) s) idle
+  told_on : (t : Talk) → Good t → IsIdle t.now → Good (let u = talk_with_state t in talk_at_next_line w u u.lines)
+  told_on t s idle = goes (talk_with_state t) t.lines (told t (length t.lines) s) idle
 
-  ended : (t : Talk) (d : Doing) → Good t → IsIdle t.now → Good (ends_line w t d)
+  ended : (t : Talk) (d : Doing) → Good t → IsIdle t.now → Good (talk_after_line w t d)
   ended t Calls s idle = goes t t.lines s idle
   ended t Tells s idle = told_on t s idle
   ended t (Settles zero) s idle = told_on t s idle
   ended t (Settles (suc n)) s idle =
-      either (nat_eq (unsettled t) 0) (let u = tells_state t in goes_on w u u.lines) (asks w t input.Poll (Settles n))
+      either (nat_eq (unsettled_count t) 0) (let u = talk_with_state t in talk_at_next_line w u u.lines) (talk_after_asking w t input.Poll (Settles n))
       (λ e. told_on t s idle) (λ e. asked t input.Poll (Settles n) s idle (calls_poll w t t.number s.few))
   ended t Leaves s idle = s
   ended t (Bad k) s idle = s
   ended t (Halts k p) s idle = s
 
-  gone_on : (t : Talk) (payload : List ℕ) (k : Option ℕ) → Good t → Good (goes_from w t payload k)
+  gone_on : (t : Talk) (payload : List ℕ) (k : Option ℕ) → Good t → Good (talk_by_check w t payload k)
   gone_on t payload (Some k) s = at_doing t (Halts k payload) s
-  gone_on t payload None s = either (is_idle t.now) (ends_line w t t.doing) t (λ idle. ended t t.doing s idle) (λ e. s)
+  gone_on t payload None s = either (is_idle t.now) (talk_after_line w t t.doing) t (λ idle. ended t t.doing s idle) (λ e. s)
 
   after : (t : Talk) (payload : List ℕ) → Good t → AreBytes payload → Good (after_step w t payload)
-  unfolding steps
+  unfolding talk_after_step
   after t payload s bytes =
       let most = (heard w.group w.me t.now payload).calls in
       let x = stepped t (length t.lines) (input.Payload payload) s bytes (omega (arith, most, s.few)) in
       record { made = x.made; at = x.at; few = x.few; behind = x.behind; room = x.room }
 
-  takes : (t : Talk) (payload : List ℕ) → Good t → AreBytes payload → Good (hears w t payload)
-  unfolding hears
-  takes t payload s bytes = gone_on (after_step w t payload) payload (steps w t (input.Payload payload)).now.halted (after t payload s bytes)
+  takes : (t : Talk) (payload : List ℕ) → Good t → AreBytes payload → Good (talk_after_payload w t payload)
+  unfolding talk_after_payload
+  takes t payload s bytes = gone_on (after_step w t payload) payload (talk_after_step w t (input.Payload payload)).now.halted (after t payload s bytes)
 
-  all_taken : (t : Talk) (payloads : List (List ℕ)) → Good t → AllByRecursion AreBytes payloads → Good (fold (hears w) t payloads)
+  all_taken : (t : Talk) (payloads : List (List ℕ)) → Good t → AllByRecursion AreBytes payloads → Good (fold (talk_after_payload w) t payloads)
   all_taken t [] s all = s
-  all_taken t (p ∷ ps) s all = all_taken (hears w t p) ps (takes t p s all.0) all.1
+  all_taken t (p ∷ ps) s all = all_taken (talk_after_payload w t p) ps (takes t p s all.0) all.1
 
   -- a client that has done nothing yet
-  begins_so : w.from ≡ at_start → (script : List ℕ) → w.total ≡ length script → Sound (fresh w.from) (length (lines_of script))
+  begins_so : w.from ≡ at_start → (script : List ℕ) → w.total ≡ length script → Sound (fresh_talk w.from) (length (lines_of script))
   unfolding standing
   begins_so is script total = record {
     made = tt;
@@ -171,7 +171,7 @@ module _ (w : Talker) (member : (0 < w.me) × (w.me ≤ w.group.count)) where
   unfolding talk
   talks is script total taken all =
       let idle : IsIdle w.from = subst (λ (s : Standing). IsIdle s) (sym is) refl in
-      (all_taken (opening w script) taken (goes (fresh w.from) (lines_of script) (begins_so is script total) idle) all).made
+      (all_taken (opening_talk w script) taken (goes (fresh_talk w.from) (lines_of script) (begins_so is script total) idle) all).made
 
 pub talks_are_lawful : TalksAreLawful
 talks_are_lawful g me script taken group some most all = record { group = group; steps = talks (talker g me script) (some, most) refl script refl taken all }

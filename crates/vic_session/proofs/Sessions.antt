@@ -7,7 +7,7 @@ use Rattle.vic_wire.specs.Reading.{read_answer}
 use Rattle.vic_rules.specs.declared.trace.Input.TheVariants as input
 use Rattle.vic_rules.specs.Client.{Standing, at_start}
 use Rattle.vic_rules.specs.History.{standing}
-use Rattle.vic_client.specs.Kept.{Kept, StandsFor, group_of}
+use Rattle.vic_client.specs.Kept.{KeptClient, StandsFor, kept_group}
 use Rattle.vic_conn.specs.Frames.{frames_of}
 use Rattle.vic_ports.specs.Written.{AppendedAll, AppendedFront}
 use Rattle.vic_ports.specs.Links.{Told}
@@ -20,7 +20,7 @@ use Rattle.vic_session.specs.declared.end.SessionEnd.TheVariants as ends
 use Rattle.vic_session.specs.declared.place.At.{At}
 use Rattle.vic_session.specs.declared.place.At.TheVariants as at
 use Rattle.vic_session.specs.declared.place.Place.{Place}
-use Rattle.vic_session.specs.Talks.{Talk, Talker, Doing, Leaves, goes_on, steps, hears, fresh, opening, talk, talker, one_of, sent_in}
+use Rattle.vic_session.specs.Talks.{Talk, Talker, Doing, Leaves, talk_at_next_line, talk_after_step, talk_after_payload, fresh_talk, opening_talk, talk, talker, one_of, sent_in}
 use Rattle.vic_session.specs.Talking.{On, Went, GoesTo, IsDoing, IsBusy, PrintsFront, IsShortOf}
 use Rattle.vic_session.specs.Wires.{frames, Asks}
 use Rattle.vic_session.specs.Sessions.{Stage, Greets, Talks, Goes_away, hello, bye, requests, Read, IsOver, IsOwed, IsAt, AllAwaited, EndsBy, Sent, Prints, printed_at, stands_at, IsLeftAt, IsLeftShort, StandsShort, StandsBehind, IsSessionOf}
@@ -40,14 +40,14 @@ fold_more : {A B : Type 0} (f : B → A → B) (z : B) (xs : List A) (y : A) →
 fold_more f z [] y = refl
 fold_more f z (x ∷ xs) y = fold_more f (f z x) xs y
 
-talk_more : (w : Talker) (script : List ℕ) (taken : List (List ℕ)) (p : List ℕ) → talk w script (taken ++ p ∷ []) ≡ hears w (talk w script taken) p
+talk_more : (w : Talker) (script : List ℕ) (taken : List (List ℕ)) (p : List ℕ) → talk w script (taken ++ p ∷ []) ≡ talk_after_payload w (talk w script taken) p
 unfolding talk
-talk_more w script taken p = fold_more (hears w) (opening w script) taken p
+talk_more w script taken p = fold_more (talk_after_payload w) (opening_talk w script) taken p
 
 -- one more payload was awaited
-awaited_more : (w : Talker) (t : Talk) (taken : List (List ℕ)) (p : List ℕ) → AllAwaited w t taken → (IsOver (fold (hears w) t taken).doing → ⊥) → AllAwaited w t (taken ++ p ∷ [])
+awaited_more : (w : Talker) (t : Talk) (taken : List (List ℕ)) (p : List ℕ) → AllAwaited w t taken → (IsOver (fold (talk_after_payload w) t taken).doing → ⊥) → AllAwaited w t (taken ++ p ∷ [])
 awaited_more w t [] p all more = (more, tt)
-awaited_more w t (x ∷ taken) p all more = (all.0, awaited_more w (hears w t x) taken p all.1 more)
+awaited_more w t (x ∷ taken) p all more = (all.0, awaited_more w (talk_after_payload w t x) taken p all.1 more)
 
 -- where all of a text was written, a front of one that goes on was
 front_more : (a b : List (List ℕ)) (old new : Option (List ℕ)) → AppendedAll (frames a) old new → AppendedFront (frames (a ++ b)) old new
@@ -66,7 +66,7 @@ module _ (g : Group) (me : ℕ) (script : List ℕ) (old : Told) (start : List �
   talks taken = talk (talker g me script) script taken
 
   -- a client that has made all steps of its talk is left so, where memory ran out
-  short_all : (stage : Stage) (taken : List (List ℕ)) (new : Told) (kept : Kept) → IsLeftAt g me (stands_at stage (talk (talker g me script) script taken)) kept
+  short_all : (stage : Stage) (taken : List (List ℕ)) (new : Told) (kept : KeptClient) → IsLeftAt g me (stands_at stage (talk (talker g me script) script taken)) kept
       → AppendedFront (frames (requests (talker g me script) (talk (talker g me script) script taken) stage)) old.written new.written → StandsShort stage g me script (talk (talker g me script) script taken) old new kept
   short_all Greets taken new kept here sent = here
   short_all Talks taken new kept here sent = record {
@@ -80,8 +80,8 @@ module _ (g : Group) (me : ℕ) (script : List ℕ) (old : Told) (start : List �
   short_all Goes_away taken new kept here sent = here
 
   -- an exchange failed
-  failed : (f : WireFault) (new : Told) (stage : Stage) (ps taken : List (List ℕ)) (left printed : List ℕ) (kept : Kept) → Failed f old new ps left (requests (talker g me script) (talk (talker g me script) script taken) stage)
-      → ((more : List (List ℕ)) → Read stage (ps ++ more) taken more) → AllAwaited (talker g me script) (opening (talker g me script) script) taken → IsAt stage (talk (talker g me script) script taken).doing
+  failed : (f : WireFault) (new : Told) (stage : Stage) (ps taken : List (List ℕ)) (left printed : List ℕ) (kept : KeptClient) → Failed f old new ps left (requests (talker g me script) (talk (talker g me script) script taken) stage)
+      → ((more : List (List ℕ)) → Read stage (ps ++ more) taken more) → AllAwaited (talker g me script) (opening_talk (talker g me script) script) taken → IsAt stage (talk (talker g me script) script taken).doing
       → IsOwed stage (talk (talker g me script) script taken).doing → (stage ≡ Greets → left ≡ []) → printed ≡ start ++ printed_at stage (talk (talker g me script) script taken)
       → IsLeftAt g me (stands_at stage (talk (talker g me script) script taken)) kept → IsSessionOf g me script old start (end_for f) new printed kept
   failed fault.Link new stage ps taken left printed kept x form awaited at owed none is stands = by_cause x.cause
@@ -126,8 +126,8 @@ module _ (g : Group) (me : ℕ) (script : List ℕ) (old : Told) (start : List �
   }
 
   -- no exchange failed
-  ended : (end : SessionEnd) (new : Told) (stage : Stage) (ps taken more sent : List (List ℕ)) (left printed : List ℕ) (kept : Kept) → Wire old new ps left sent → Read stage (ps ++ (frames_of left).0) taken more
-      → AllAwaited (talker g me script) (opening (talker g me script) script) taken → IsAt stage (talk (talker g me script) script taken).doing
+  ended : (end : SessionEnd) (new : Told) (stage : Stage) (ps taken more sent : List (List ℕ)) (left printed : List ℕ) (kept : KeptClient) → Wire old new ps left sent → Read stage (ps ++ (frames_of left).0) taken more
+      → AllAwaited (talker g me script) (opening_talk (talker g me script) script) taken → IsAt stage (talk (talker g me script) script taken).doing
       → (AppendedAll (frames sent) old.written new.written → Sent end (frames (requests (talker g me script) (talk (talker g me script) script taken) stage)) old new)
       → Prints end (printed_at stage (talk (talker g me script) script taken)) start printed
       → ((rest : List ℕ) → new.faults ≡ old.faults → EndsBy end stage (talk (talker g me script) script taken) old new more rest)
@@ -154,7 +154,7 @@ module _ (g : Group) (me : ℕ) (script : List ℕ) (old : Told) (start : List �
   greets_form : (more : List (List ℕ)) → Read Greets ([] ++ more) [] more
   greets_form more = (refl, refl)
 
-  unanswered_hello : (end : SessionEnd) (after : List ℕ) (new : Told) (kept : Kept) → IsLeftAt g me at_start kept → Unanswered (Some (hello (talker g me []))) [] after old new end → IsSessionOf g me script old start end new start kept
+  unanswered_hello : (end : SessionEnd) (after : List ℕ) (new : Told) (kept : KeptClient) → IsLeftAt g me at_start kept → Unanswered (Some (hello (talker g me []))) [] after old new end → IsSessionOf g me script old start end new start kept
   unanswered_hello ends.LinkFault after new kept here a = failed fault.Link new Greets [] [] [] start kept (wire_failed old old [] [] [] (wire_start old) (Some (hello (talker g me []))) fault.Link after new a) greets_form tt tt tt (λ e. refl) (sym (append-nil start)) here
   unanswered_hello ends.BadFrame after new kept here a = failed fault.Length new Greets [] [] [] start kept (wire_failed old old [] [] [] (wire_start old) (Some (hello (talker g me []))) fault.Length after new a) greets_form tt tt tt (λ e. refl) (sym (append-nil start)) here
   unanswered_hello ends.NoMemory after new kept here (inl same) =
@@ -167,7 +167,7 @@ module _ (g : Group) (me : ℕ) (script : List ℕ) (old : Told) (start : List �
   unanswered_hello (ends.Halted k h) after new kept here a = absurd a
   unanswered_hello (ends.GreetingRefused r) after new kept here a = absurd a
 
-  judged_hello : (end : SessionEnd) (after p : List ℕ) (new : Told) (kept : Kept) → IsLeftAt g me at_start kept → Asks (Some (hello (talker g me []))) [] after old new (Ok p) → JudgedHello p (Err end) → IsSessionOf g me script old start end new start kept
+  judged_hello : (end : SessionEnd) (after p : List ℕ) (new : Told) (kept : KeptClient) → IsLeftAt g me at_start kept → Asks (Some (hello (talker g me []))) [] after old new (Ok p) → JudgedHello p (Err end) → IsSessionOf g me script old start end new start kept
   judged_hello end after p new kept here a j = by_end end j
     where
       wire : Wire old new (p ∷ []) after (hello (talker g me []) ∷ [])
@@ -188,14 +188,14 @@ module _ (g : Group) (me : ℕ) (script : List ℕ) (old : Told) (start : List �
       by_end ends.BadFrame j = absurd j
 
   -- the greeting failed
-  pub not_greeted : (end : SessionEnd) (after : List ℕ) (new : Told) (kept : Kept) → IsLeftAt g me at_start kept → Greeted g me [] after old new (Err end) → IsSessionOf g me script old start end new start kept
+  pub not_greeted : (end : SessionEnd) (after : List ℕ) (new : Told) (kept : KeptClient) → IsLeftAt g me at_start kept → Greeted g me [] after old new (Err end) → IsSessionOf g me script old start end new start kept
   not_greeted end after new kept here (inl a) = unanswered_hello end after new kept here a
   not_greeted end after new kept here (inr a) = judged_hello end after a.0 new kept here a.1.0 a.1.1
 
   -- ---- the talk
 
   -- what holds before an exchange
-  pub record Going (now : Told) (left : List ℕ) (c : Kept) (p : Place) (out : List ℕ) (pending : Option (List ℕ)) : Type 0 where
+  pub record Going (now : Told) (left : List ℕ) (c : KeptClient) (p : Place) (out : List ℕ) (pending : Option (List ℕ)) : Type 0 where
     pub hi : List ℕ
     pub hi_is : read_answer hi ≡ Some say.Hi
     pub taken : List (List ℕ)
@@ -203,24 +203,24 @@ module _ (g : Group) (me : ℕ) (script : List ℕ) (old : Told) (start : List �
     pub wire : Wire old now (hi ∷ taken) left before
     pub on : On (talker g me script) (talk (talker g me script) script taken) start c p out
     pub doing : IsDoing p.doing (talk (talker g me script) script taken).doing
-    pub awaited : AllAwaited (talker g me script) (opening (talker g me script) script) taken
+    pub awaited : AllAwaited (talker g me script) (opening_talk (talker g me script) script) taken
     pub all : requests (talker g me script) (talk (talker g me script) script taken) Talks ≡ before ++ one_of pending
 
   begin : Talk
-  begin = record (fresh at_start) { lines = lines_of script }
+  begin = record (fresh_talk at_start) { lines = lines_of script }
 
-  open_same : (x ls : List (List ℕ)) → goes_on (talker g me script) (record (fresh at_start) { lines = x }) ls ≡ goes_on (talker g me script) (fresh at_start) ls
-  unfolding goes_on
+  open_same : (x ls : List (List ℕ)) → talk_at_next_line (talker g me script) (record (fresh_talk at_start) { lines = x }) ls ≡ talk_at_next_line (talker g me script) (fresh_talk at_start) ls
+  unfolding talk_at_next_line
   open_same x [] = refl
   open_same x (l ∷ ls) = refl
 
-  open_is : goes_on (talker g me script) (record (fresh at_start) { lines = lines_of script }) (lines_of script) ≡ talk (talker g me script) script []
+  open_is : talk_at_next_line (talker g me script) (record (fresh_talk at_start) { lines = lines_of script }) (lines_of script) ≡ talk (talker g me script) script []
   unfolding talk
   open_is = open_same (lines_of script) (lines_of script)
 
   -- the talk begins
-  pub on_begin : (c : Kept) (p : Place) → c.id ≡ me → group_of c ≡ g → StandsFor c at_start → length script ≡ p.total → p.behind ≡ 0 → p.number ≡ 0 → p.rest.now ≡ script
-      → On (talker g me script) (record (fresh at_start) { lines = lines_of script }) start c p start
+  pub on_begin : (c : KeptClient) (p : Place) → c.id ≡ me → kept_group c ≡ g → StandsFor c at_start → length script ≡ p.total → p.behind ≡ 0 → p.number ≡ 0 → p.rest.now ≡ script
+      → On (talker g me script) (record (fresh_talk at_start) { lines = lines_of script }) start c p start
   on_begin c p id group so total behind number rest = record {
     me = id;
     group = group;
@@ -240,10 +240,10 @@ module _ (g : Group) (me : ℕ) (script : List ℕ) (old : Told) (start : List �
     wire_hi : Wire old now (greeted.0 ∷ []) after (hello (talker g me script) ∷ [])
     wire_hi = wire_asked old old [] [] [] (wire_start old) (Some (hello (talker g me []))) after greeted.0 now greeted.1.0
 
-    pub going_start : (c : Kept) (p : Place) (out : List ℕ) (sent : Option (List ℕ))
-        → GoesTo (talker g me script) (record (fresh at_start) { lines = lines_of script }) (goes_on (talker g me script) (record (fresh at_start) { lines = lines_of script }) (lines_of script)) start c p out (Ok sent) → Going now after c p out sent
+    pub going_start : (c : KeptClient) (p : Place) (out : List ℕ) (sent : Option (List ℕ))
+        → GoesTo (talker g me script) (record (fresh_talk at_start) { lines = lines_of script }) (talk_at_next_line (talker g me script) (record (fresh_talk at_start) { lines = lines_of script }) (lines_of script)) start c p out (Ok sent) → Going now after c p out sent
     going_start c p out sent w =
-        let v = subst (λ (v : Talk). Went (talker g me script) (record (fresh at_start) { lines = lines_of script }) v start c p out sent) open_is w in
+        let v = subst (λ (v : Talk). Went (talker g me script) (record (fresh_talk at_start) { lines = lines_of script }) v start c p out sent) open_is w in
         record {
           hi = greeted.0;
           hi_is = greeted.1.1;
@@ -257,10 +257,10 @@ module _ (g : Group) (me : ℕ) (script : List ℕ) (old : Told) (start : List �
         }
 
     -- no step of the talk was made
-    short_none : (kept : Kept) → IsLeftAt g me at_start kept → IsLeftShort g me script (talk (talker g me script) script []) old now kept
+    short_none : (kept : KeptClient) → IsLeftAt g me at_start kept → IsLeftShort g me script (talk (talker g me script) script []) old now kept
     unfolding standing
     short_none kept here =
-        let r = reaches_on (talker g me script) (record (fresh at_start) { lines = lines_of script }) (lines_of script) in
+        let r = reaches_on (talker g me script) (record (fresh_talk at_start) { lines = lines_of script }) (lines_of script) in
         record {
           made = [];
           unmade = r.more;
@@ -270,13 +270,13 @@ module _ (g : Group) (me : ℕ) (script : List ℕ) (old : Told) (start : List �
           sent = all_is_front (frames (hello (talker g me script) ∷ [])) old.written now.written wire_hi.sends;
         }
 
-    pub no_start : (kept : Kept) (out : List ℕ) → IsLeftAt g me at_start kept → PrintsFront start (goes_on (talker g me script) (record (fresh at_start) { lines = lines_of script }) (lines_of script)) out → IsSessionOf g me script old start ends.NoMemory now out kept
+    pub no_start : (kept : KeptClient) (out : List ℕ) → IsLeftAt g me at_start kept → PrintsFront start (talk_at_next_line (talker g me script) (record (fresh_talk at_start) { lines = lines_of script }) (lines_of script)) out → IsSessionOf g me script old start ends.NoMemory now out kept
     no_start kept out here front =
         let f = subst (λ (v : Talk). PrintsFront start v out) open_is front in
         ended ends.NoMemory now Talks (greeted.0 ∷ []) [] (frames_of after).0 (hello (talker g me script) ∷ []) after out kept wire_hi (greeted.0, (greeted.1.1, refl)) tt tt
         (λ all. front_more (hello (talker g me script) ∷ []) (sent_in (talk (talker g me script) script []).history) old.written now.written all) f (λ rest quiet. quiet) (short_none kept here)
 
-  module _ (now : Told) (left : List ℕ) (c : Kept) (p : Place) (out : List ℕ) (pending : Option (List ℕ)) (i : Going now left c p out pending) where
+  module _ (now : Told) (left : List ℕ) (c : KeptClient) (p : Place) (out : List ℕ) (pending : Option (List ℕ)) (i : Going now left c p out pending) where
     w : Talker
     w = talker g me script
 
@@ -292,15 +292,15 @@ module _ (g : Group) (me : ℕ) (script : List ℕ) (old : Told) (start : List �
 
     -- the answer was taken
     module _ (after payload : List ℕ) (new : Told) (busy : IsBusy p.doing) (a : Asks pending left after now new (Ok payload)) where
-      awaited_on : AllAwaited (talker g me script) (opening (talker g me script) script) (i.taken ++ payload ∷ [])
+      awaited_on : AllAwaited (talker g me script) (opening_talk (talker g me script) script) (i.taken ++ payload ∷ [])
       unfolding talk
-      awaited_on = awaited_more (talker g me script) (opening (talker g me script) script) i.taken payload i.awaited (owed_busy p.doing (talk (talker g me script) script i.taken).doing busy i.doing)
+      awaited_on = awaited_more (talker g me script) (opening_talk (talker g me script) script) i.taken payload i.awaited (owed_busy p.doing (talk (talker g me script) script i.taken).doing busy i.doing)
 
       wire_on : Wire old new (i.hi ∷ i.taken ++ payload ∷ []) after (i.before ++ one_of pending)
       wire_on = wire_asked old now (i.hi ∷ i.taken) left i.before i.wire pending after payload new a
 
-      pub going_more : (d : Kept) (q : Place) (text : List ℕ) (sent : Option (List ℕ))
-          → GoesTo (talker g me script) (talk (talker g me script) script i.taken) (hears (talker g me script) (talk (talker g me script) script i.taken) payload) start d q text (Ok sent) → Going new after d q text sent
+      pub going_more : (d : KeptClient) (q : Place) (text : List ℕ) (sent : Option (List ℕ))
+          → GoesTo (talker g me script) (talk (talker g me script) script i.taken) (talk_after_payload (talker g me script) (talk (talker g me script) script i.taken) payload) start d q text (Ok sent) → Going new after d q text sent
       going_more d q text sent went =
           let v = subst (λ (v : Talk). Went (talker g me script) (talk (talker g me script) script i.taken) v start d q text sent) (sym (talk_more (talker g me script) script i.taken payload)) went in
           record {
@@ -320,7 +320,7 @@ module _ (g : Group) (me : ℕ) (script : List ℕ) (old : Told) (start : List �
       sent_before = subst (λ (l : List (List ℕ)). AppendedAll (frames l) old.written new.written) (sym i.all) wire_on.sends
 
       -- memory ran out before the step on the payload, or behind it
-      short_of : (d : Kept) → IsShortOf (talker g me script) (talk (talker g me script) script i.taken) payload d → IsLeftShort g me script (talk (talker g me script) script (i.taken ++ payload ∷ [])) old new d
+      short_of : (d : KeptClient) → IsShortOf (talker g me script) (talk (talker g me script) script i.taken) payload d → IsLeftShort g me script (talk (talker g me script) script (i.taken ++ payload ∷ [])) old new d
       short_of d (inl here) =
           let t = talk (talker g me script) script i.taken in
           let r = reaches_hears (talker g me script) t payload in
@@ -334,7 +334,7 @@ module _ (g : Group) (me : ℕ) (script : List ℕ) (old : Told) (start : List �
           }
       short_of d (inr here) =
           let t = talk (talker g me script) script i.taken in
-          let u = steps (talker g me script) t (input.Payload payload) in
+          let u = talk_after_step (talker g me script) t (input.Payload payload) in
           let r = reaches_behind (talker g me script) t payload in
           let at = (reaches_step (talker g me script) t payload).there (talk_there g me script i.taken) in
           let more = sent_step (talker g me script) t (input.Payload payload) in
@@ -348,7 +348,7 @@ module _ (g : Group) (me : ℕ) (script : List ℕ) (old : Told) (start : List �
                 (front_more (hello (talker g me script) ∷ sent_in t.history) _ old.written new.written sent_before);
           }
 
-      pub no_hearing : (d : Kept) (text : List ℕ) → IsShortOf (talker g me script) (talk (talker g me script) script i.taken) payload d → PrintsFront start (hears (talker g me script) (talk (talker g me script) script i.taken) payload) text → IsSessionOf g me script old start ends.NoMemory new text d
+      pub no_hearing : (d : KeptClient) (text : List ℕ) → IsShortOf (talker g me script) (talk (talker g me script) script i.taken) payload d → PrintsFront start (talk_after_payload (talker g me script) (talk (talker g me script) script i.taken) payload) text → IsSessionOf g me script old start ends.NoMemory new text d
       no_hearing d text short front =
           let t = talk (talker g me script) script i.taken in
           let e = extends_hears (talker g me script) t payload in

@@ -19,17 +19,17 @@ use Rattle.vic_rules.specs.declared.state.Awaiting.{Awaiting}
 use Rattle.vic_rules.specs.declared.state.Awaiting.TheVariants as awaits
 use Rattle.vic_rules.specs.declared.object.Phase.{Phase}
 use Rattle.vic_rules.specs.declared.object.Phase.TheVariants as phase
-use Rattle.vic_rules.specs.Objects.{Stepped, is_reference, kept_at, answered, decided_as, after_decision}
+use Rattle.vic_rules.specs.Objects.{ObjectStep, is_reference, step_on_kept, step_on_answer, step_on_outcome, after_decision}
 use Rattle.vic_rules.specs.declared.trace.Input.{Input}
 use Rattle.vic_rules.specs.declared.trace.Input.TheVariants as input
 use Rattle.vic_rules.specs.declared.trace.TraceStep.{TraceStep}
-use Rattle.vic_rules.specs.Client.{Standing, Move, Sending, step, payload_of, awaits_nothing, halts, decision, grown, replied, waited, goes_to, refused_at, updated, taken, taken_or_halts, on_payload, verdict}
-use Rattle.vic_session.specs.Talks.{Talk, Talker, steps, one_of, sent_in}
+use Rattle.vic_rules.specs.Client.{Standing, Move, Sending, step, payload_of, awaits_nothing, move_to_halt, decision, path_with_entries, move_on_reply, move_on_wait, move_by_object_step, move_on_refusal, move_on_update, move_on_answer, move_on_verdict, move_on_payload, verdict}
+use Rattle.vic_session.specs.Talks.{Talk, Talker, talk_after_step, one_of, sent_in}
 use Rattle.vic_session.specs.Talking.{will_call, calls_of}
 
 -- where the client stands after a step
-pub standing_step : (w : Talker) (t : Talk) (given : Input) → (steps w t given).now ≡ (step w.group w.me t.now given).next
-unfolding steps
+pub standing_step : (w : Talker) (t : Talk) (given : Input) → (talk_after_step w t given).now ≡ (step w.group w.me t.now given).next
+unfolding talk_after_step
 standing_step w t given = refl
 
 -- the move of a step
@@ -43,8 +43,8 @@ sent_more x h =
     ∙ flat_map-append (λ (y : TraceStep). one_of y.sent) (reverse h) (x ∷ [])
     ∙ ap (λ (l : List (List ℕ)). sent_in h ++ l) (append-nil (one_of x.sent))
 
-pub sent_step : (w : Talker) (t : Talk) (given : Input) → sent_in (steps w t given).history ≡ sent_in t.history ++ one_of (payload_of w.group w.me (moved w t given).next (moved w t given).sends)
-unfolding steps
+pub sent_step : (w : Talker) (t : Talk) (given : Input) → sent_in (talk_after_step w t given).history ≡ sent_in t.history ++ one_of (payload_of w.group w.me (moved w t given).next (moved w t given).sends)
+unfolding talk_after_step
 sent_step w t given = sent_more (record { client = w.me; input = given; sent = payload_of w.group w.me (moved w t given).next (moved w t given).sends; returned = (moved w t given).returns; object = (moved w t given).object }) t.history
 
 -- ---- a payload
@@ -55,15 +55,15 @@ pub record Heard (s : Standing) (v : Move) : Type 0 where
   pub busy : (x : Sending) → v.sends ≡ Some x → awaits_nothing v.next.awaiting ≡ false
   pub quiet : (x : Sending) → v.sends ≡ Some x → v.next.halted ≡ s.halted
 
-heard_halts : (s : Standing) (k : ℕ) → Heard s (halts s k)
+heard_halts : (s : Standing) (k : ℕ) → Heard s (move_to_halt s k)
 heard_halts s k = record { calls = omega arith; busy = λ x e. absurd cc; quiet = λ x e. absurd cc }
 
 -- a call that is decided has nothing more to call
-none_either : (b : Bool) (x y : Stepped) (n : ℕ) → will_call x.0 ≤ n → will_call y.0 ≤ n → will_call (if◌then◌else◌ {A = Stepped} b x y).0 ≤ n
+none_either : (b : Bool) (x y : ObjectStep) (n : ℕ) → will_call x.0 ≤ n → will_call y.0 ≤ n → will_call (if◌then◌else◌ {A = ObjectStep} b x y).0 ≤ n
 none_either true x y n h k = h
 none_either false x y n h k = k
 
-none_answered : (a : Answer) (n : ℕ) → will_call (answered a).0 ≤ n
+none_answered : (a : Answer) (n : ℕ) → will_call (step_on_answer a).0 ≤ n
 none_answered answer.Stored n = omega arith
 none_answered (answer.Found v) n = none_either (is_reference v) _ _ n (omega arith) (omega arith)
 none_answered answer.NotFound n = omega arith
@@ -71,7 +71,7 @@ none_answered answer.Removed n = omega arith
 none_answered answer.Absent n = omega arith
 none_answered (answer.Names names) n = omega arith
 
-none_decided : (o : Outcome) (n : ℕ) → will_call (decided_as o).0 ≤ n
+none_decided : (o : Outcome) (n : ℕ) → will_call (step_on_outcome o).0 ≤ n
 none_decided (outcome.Done a) n = none_answered a n
 none_decided (outcome.Aborted u) n = omega arith
 none_decided (outcome.Refused r) n = omega arith
@@ -83,7 +83,7 @@ none_more (phase.Keeping k h len) o = omega arith
 none_more phase.Calling o = none_decided o 0
 none_more (phase.Fetching h len) o = omega arith
 
-heard_replied : (me : ℕ) (s : Standing) (seal : Seal) (path : List Entry) (part : Option Part) (a : Awaiting) → Heard s (replied me s seal path part a)
+heard_replied : (me : ℕ) (s : Standing) (seal : Seal) (path : List Entry) (part : Option Part) (a : Awaiting) → Heard s (move_on_reply me s seal path part a)
 heard_replied me s seal [] part a = heard_halts s 1
 heard_replied me s seal (e ∷ below) None a = heard_halts s 1
 heard_replied me s seal (e ∷ below) (Some part) (awaits.Reply n o load) =
@@ -95,19 +95,19 @@ heard_replied me s seal (e ∷ below) (Some part) awaits.Entries = heard_halts s
 heard_replied me s seal (e ∷ below) (Some part) awaits.Kept = heard_halts s 1
 heard_replied me s seal (e ∷ below) (Some part) (awaits.Content h n) = heard_halts s 1
 
-heard_updated : (s : Standing) (seal : Seal) (part : Option Part) (own : List Own) → Heard s (updated s seal part own)
+heard_updated : (s : Standing) (seal : Seal) (part : Option Part) (own : List Own) → Heard s (move_on_update s seal part own)
 heard_updated s seal None own = heard_halts s 1
 heard_updated s seal (Some part) [] = heard_halts s 1
 heard_updated s seal (Some part) (o ∷ others) = record { calls = omega arith; busy = λ x e. refl; quiet = λ x e. refl }
 
-heard_waited : (s : Standing) (p : Phase) → Heard s (waited s p)
+heard_waited : (s : Standing) (p : Phase) → Heard s (move_on_wait s p)
 heard_waited s phase.Closed = record { calls = omega arith; busy = λ x e. absurd cc; quiet = λ x e. absurd cc }
 heard_waited s (phase.Keeping k h len) = record { calls = omega arith; busy = λ x e. absurd cc; quiet = λ x e. absurd cc }
 heard_waited s phase.Calling = record { calls = omega arith; busy = λ x e. absurd cc; quiet = λ x e. absurd cc }
 heard_waited s (phase.Fetching h len) = record { calls = omega arith; busy = λ x e. refl; quiet = λ x e. refl }
 
 -- the put of a store whose content is kept is the call that was to come
-heard_kept : (s : Standing) (p : Phase) → s.phase ≡ p → Heard s (goes_to s false (kept_at p))
+heard_kept : (s : Standing) (p : Phase) → s.phase ≡ p → Heard s (move_by_object_step s false (step_on_kept p))
 heard_kept s phase.Closed is = heard_halts s 1
 heard_kept s (phase.Keeping k h len) is =
     let one : will_call s.phase ≡ 1 = ap will_call is in
@@ -115,7 +115,7 @@ heard_kept s (phase.Keeping k h len) is =
 heard_kept s phase.Calling is = heard_halts s 1
 heard_kept s (phase.Fetching h len) is = heard_halts s 1
 
-heard_refused : (s : Standing) (r : ℕ) (a : Awaiting) → Heard s (refused_at s r a)
+heard_refused : (s : Standing) (r : ℕ) (a : Awaiting) → Heard s (move_on_refusal s r a)
 heard_refused s r awaits.Kept = record { calls = omega arith; busy = λ x e. absurd cc; quiet = λ x e. absurd cc }
 heard_refused s r awaits.Nothing = let less = none_more s.phase (outcome.Refused r) in record { calls = omega (arith, less); busy = λ x e. absurd cc; quiet = λ x e. absurd cc }
 heard_refused s r (awaits.Reply n o load) = let less = none_more s.phase (outcome.Refused r) in record { calls = omega (arith, less); busy = λ x e. absurd cc; quiet = λ x e. absurd cc }
@@ -123,8 +123,8 @@ heard_refused s r awaits.Turn = let less = none_more s.phase (outcome.Refused r)
 heard_refused s r awaits.Entries = let less = none_more s.phase (outcome.Refused r) in record { calls = omega (arith, less); busy = λ x e. absurd cc; quiet = λ x e. absurd cc }
 heard_refused s r (awaits.Content h n) = let less = none_more s.phase (outcome.Refused r) in record { calls = omega (arith, less); busy = λ x e. absurd cc; quiet = λ x e. absurd cc }
 
-heard_taken : (me : ℕ) (s : Standing) (m : ToClient) → Heard s (taken me s m)
-heard_taken me s (say.Reply seal entries part) = heard_replied me s seal (grown s entries) (read_part part) s.awaiting
+heard_taken : (me : ℕ) (s : Standing) (m : ToClient) → Heard s (move_on_answer me s m)
+heard_taken me s (say.Reply seal entries part) = heard_replied me s seal (path_with_entries s entries) (read_part part) s.awaiting
 heard_taken me s say.Wait = heard_waited s s.phase
 heard_taken me s (say.Update seal part) = heard_updated s seal (read_part part) s.own
 heard_taken me s (say.Entries seal entries) = record { calls = omega arith; busy = λ x e. absurd cc; quiet = λ x e. absurd cc }
@@ -135,12 +135,12 @@ heard_taken me s (say.Content c) = record { calls = omega arith; busy = λ x e. 
 heard_taken me s say.Gone = heard_halts s 1
 heard_taken me s say.Absent = heard_halts s 1
 
-heard_by : (me : ℕ) (s : Standing) (m : Option ToClient) (k : Option ℕ) → Heard s (taken_or_halts me s m k)
+heard_by : (me : ℕ) (s : Standing) (m : Option ToClient) (k : Option ℕ) → Heard s (move_on_verdict me s m k)
 heard_by me s m (Some k) = heard_halts s k
 heard_by me s (Some m) None = heard_taken me s m
 heard_by me s None None = heard_halts s 1
 
-heard_on : (g : Group) (me : ℕ) (s : Standing) (k : Option ℕ) (payload : List ℕ) → Heard s (on_payload g me s k payload)
+heard_on : (g : Group) (me : ℕ) (s : Standing) (k : Option ℕ) (payload : List ℕ) → Heard s (move_on_payload g me s k payload)
 heard_on g me s (Some k) payload = heard_halts s k
 heard_on g me s None payload = heard_by me s (read_answer payload) (verdict g me s payload)
 
@@ -148,7 +148,7 @@ pub heard : (g : Group) (me : ℕ) (s : Standing) (payload : List ℕ) → Heard
 unfolding step
 heard g me s payload = heard_on g me s s.halted payload
 
-live_on : (g : Group) (me : ℕ) (s : Standing) (k : Option ℕ) (payload : List ℕ) → s.halted ≡ k → (x : Sending) → (on_payload g me s k payload).sends ≡ Some x → (on_payload g me s k payload).next.halted ≡ None
+live_on : (g : Group) (me : ℕ) (s : Standing) (k : Option ℕ) (payload : List ℕ) → s.halted ≡ k → (x : Sending) → (move_on_payload g me s k payload).sends ≡ Some x → (move_on_payload g me s k payload).next.halted ≡ None
 live_on g me s (Some k) payload e x sends = absurd cc
 live_on g me s None payload e x sends = (heard_on g me s None payload).quiet x sends ∙ e
 

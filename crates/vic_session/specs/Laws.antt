@@ -11,7 +11,7 @@ use Rattle.vic_ports.specs.Causes.{Rose}
 use Rattle.vic_ports.specs.Links.{Told}
 use Rattle.vic_session.specs.declared.end.SessionEnd.{SessionEnd}
 use Rattle.vic_session.specs.declared.end.SessionEnd.TheVariants as ends
-use Rattle.vic_session.specs.Talks.{Leaves, opening, talk, talker}
+use Rattle.vic_session.specs.Talks.{Leaves, opening_talk, talk, talker}
 use Rattle.vic_session.specs.Sessions.{AllAwaited, IsSession}
 
 -- the steps of a talk are a lawful history of its client alone, whatever the script and the payloads are
@@ -29,7 +29,7 @@ pub record IsServed (g : Group) (me : ℕ) (script : List ℕ) (payloads : List 
   pub hi : List ℕ
   pub hi_is : read_answer hi ≡ Some say.Hi
   pub taken : List (List ℕ)
-  pub awaited : AllAwaited (talker g me script) (opening (talker g me script) script) taken
+  pub awaited : AllAwaited (talker g me script) (opening_talk (talker g me script) script) taken
   pub leaves : (talk (talker g me script) script taken).doing ≡ Leaves
   pub gone : List ℕ
   pub gone_is : read_answer gone ≡ Some say.Gone

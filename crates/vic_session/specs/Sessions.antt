@@ -14,11 +14,11 @@ use Rattle.vic_ports.specs.Links.{Told}
 use Rattle.vic_rules.specs.declared.trace.TraceStep.{TraceStep}
 use Rattle.vic_rules.specs.Client.{Standing, at_start}
 use Rattle.vic_rules.specs.History.{standing}
-use Rattle.vic_client.specs.Kept.{Kept, StandsFor, group_of}
+use Rattle.vic_client.specs.Kept.{KeptClient, StandsFor, kept_group}
 use Rattle.vic_script.specs.Words.{newline}
 use Rattle.vic_session.specs.declared.end.SessionEnd.{SessionEnd}
 use Rattle.vic_session.specs.declared.end.SessionEnd.TheVariants as ends
-use Rattle.vic_session.specs.Talks.{Talk, Talker, Doing, Leaves, Bad, Halts, hears, opening, talk, talker, sent_in, digest_of}
+use Rattle.vic_session.specs.Talks.{Talk, Talker, Doing, Leaves, Bad, Halts, talk_after_payload, opening_talk, talk, talker, sent_in, digest_of}
 
 -- how far a session came: it greeted; it was answered by Hi and talks; or it said that it leaves
 pub data Stage : Type 0 where
@@ -79,7 +79,7 @@ IsOwed Goes_away doing = Unit {0}
 -- each payload was taken where one was awaited
 abbrev pub AllAwaited : Talker → Talk → List (List ℕ) → Type 0
 AllAwaited w t [] = Unit {0}
-AllAwaited w t (p ∷ ps) = (IsOver t.doing → ⊥) × AllAwaited w (hears w t p) ps
+AllAwaited w t (p ∷ ps) = (IsOver t.doing → ⊥) × AllAwaited w (talk_after_payload w t p) ps
 
 -- it goes away only where every line was done
 abbrev pub IsAt : Stage → Doing → Type 0
@@ -130,7 +130,7 @@ pub record IsSession (g : Group) (me : ℕ) (script : List ℕ) (old : Told) (ou
   pub more : List (List ℕ)
   pub stage : Stage
   pub reads : Read stage (frames_of read).0 taken more
-  pub awaited : AllAwaited (talker g me script) (opening (talker g me script) script) taken
+  pub awaited : AllAwaited (talker g me script) (opening_talk (talker g me script) script) taken
   pub at : IsAt stage (talk (talker g me script) script taken).doing
   pub sent : Sent end (frames (requests (talker g me script) (talk (talker g me script) script taken) stage)) old new
   pub prints : Prints end (printed_at stage (talk (talker g me script) script taken)) out printed
@@ -143,12 +143,12 @@ stands_at Talks t = t.now
 stands_at Goes_away t = t.now
 
 -- it is the client of that number in that group, and stands there
-abbrev pub IsLeftAt : Group → ℕ → Standing → Kept → Type 0
-IsLeftAt g me s c = (c.id ≡ me) × ((group_of c ≡ g) × StandsFor c s)
+abbrev pub IsLeftAt : Group → ℕ → Standing → KeptClient → Type 0
+IsLeftAt g me s c = (c.id ≡ me) × ((kept_group c ≡ g) × StandsFor c s)
 
 -- where memory ran out in a talk, its newest steps aren't made, two at most: those on the last payload, or at the first line. The
 -- client stands behind the others, and a front of their requests was sent
-pub record IsLeftShort (g : Group) (me : ℕ) (script : List ℕ) (t : Talk) (old new : Told) (c : Kept) : Type 0 where
+pub record IsLeftShort (g : Group) (me : ℕ) (script : List ℕ) (t : Talk) (old new : Told) (c : KeptClient) : Type 0 where
   pub made : List TraceStep
   pub unmade : List TraceStep
   pub all : t.history ≡ unmade ++ made
@@ -157,17 +157,17 @@ pub record IsLeftShort (g : Group) (me : ℕ) (script : List ℕ) (t : Talk) (ol
   pub sent : AppendedFront (frames (hello (talker g me script) ∷ sent_in made)) old.written new.written
 
 -- and so of a session: before the talk and behind it none of its steps is missing
-abbrev pub StandsShort : Stage → Group → ℕ → List ℕ → Talk → Told → Told → Kept → Type 0
+abbrev pub StandsShort : Stage → Group → ℕ → List ℕ → Talk → Told → Told → KeptClient → Type 0
 StandsShort Greets g me script t old new c = IsLeftAt g me at_start c
 StandsShort Talks g me script t old new c = IsLeftShort g me script t old new c
 StandsShort Goes_away g me script t old new c = IsLeftAt g me t.now c
 
 -- the client afterwards
-abbrev pub StandsBehind : SessionEnd → Stage → Group → ℕ → List ℕ → Talk → Told → Told → Kept → Type 0
+abbrev pub StandsBehind : SessionEnd → Stage → Group → ℕ → List ℕ → Talk → Told → Told → KeptClient → Type 0
 StandsBehind ends.NoMemory stage g me script t old new c = StandsShort stage g me script t old new c
 StandsBehind end stage g me script t old new c = IsLeftAt g me (stands_at stage t) c
 
 -- what a session did, and how it left its client
-pub record IsSessionOf (g : Group) (me : ℕ) (script : List ℕ) (old : Told) (out : List ℕ) (end : SessionEnd) (new : Told) (printed : List ℕ) (c : Kept) : Type 0 where
+pub record IsSessionOf (g : Group) (me : ℕ) (script : List ℕ) (old : Told) (out : List ℕ) (end : SessionEnd) (new : Told) (printed : List ℕ) (c : KeptClient) : Type 0 where
   pub did : IsSession g me script old out end new printed
   pub stands : StandsBehind end did.stage g me script (talk (talker g me script) script did.taken) old new c

@@ -5,7 +5,7 @@ use Rattle.vic_dict.specs.Dictionary.{Fits}
 use Rattle.vic_rules.specs.Objects.{FitsObject}
 use Rattle.vic_rules.specs.declared.trace.Input.{Input}
 use Rattle.vic_rules.specs.declared.trace.Input.TheVariants as input
-use Rattle.vic_client.specs.Kept.{Kept, is_idle}
+use Rattle.vic_client.specs.Kept.{KeptClient, is_idle}
 use Rattle.vic_session.specs.declared.stepping.Given.{Given}
 use Rattle.vic_session.specs.declared.stepping.Given.TheVariants as given
 
@@ -26,7 +26,7 @@ IsAsked given.Sync = Unit {0}
 IsAsked (given.Payload payload) = ⊥
 
 -- an idle client may be asked, for a call within the limits; a payload may come at any time
-abbrev pub MayBeGiven : Given → Kept → Type 0
+abbrev pub MayBeGiven : Given → KeptClient → Type 0
 MayBeGiven (given.Call op) c = IsTrue (is_idle c) × ((c.mode ≡ mode.Plain) × (Fits op.now × (c.calls + 1 < 2 ^ 32)))
 MayBeGiven (given.Object call) c = IsTrue (is_idle c) × ((c.mode ≡ mode.Objects) × (FitsObject call.now × (c.calls + 1 < 2 ^ 32)))
 MayBeGiven given.Poll c = IsTrue (is_idle c)

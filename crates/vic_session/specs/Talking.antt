@@ -7,10 +7,10 @@ use Rattle.vic_rules.specs.declared.object.Phase.TheVariants as phase
 use Rattle.vic_rules.specs.Objects.{FitsObject}
 use Rattle.vic_rules.specs.Client.{Standing, step, payload_of}
 use Rattle.vic_client.specs.declared.step.Step.{Step}
-use Rattle.vic_client.specs.Kept.{Kept, StandsFor, group_of}
+use Rattle.vic_client.specs.Kept.{KeptClient, StandsFor, kept_group}
 use Rattle.vic_client.specs.Pending.{FitsFrame}
 use Rattle.vic_script.specs.Lines.{lines_of}
-use Rattle.vic_script.specs.Run.{limit}
+use Rattle.vic_script.specs.Run.{script_limit}
 use Rattle.vic_dict.specs.declared.op.Mode.{Mode}
 use Rattle.vic_dict.specs.declared.op.Mode.TheVariants as mode
 use Rattle.vic_dict.specs.Dictionary.{Fits}
@@ -23,7 +23,7 @@ use Rattle.vic_session.specs.declared.place.Place.{Place}
 use Rattle.vic_session.specs.declared.lines.Begun.{Begun}
 use Rattle.vic_session.specs.declared.lines.Begun.TheVariants as begun
 use Rattle.vic_session.specs.Sessions.{IsLeftAt}
-use Rattle.vic_session.specs.Talks.{Talk, Talker, Doing, Calls, Tells, Settles, Leaves, Bad, Halts, steps, asks, begins, goes_on, one_of, sent_in, digest_of}
+use Rattle.vic_session.specs.Talks.{Talk, Talker, Doing, Calls, Tells, Settles, Leaves, Bad, Halts, talk_after_step, talk_after_asking, talk_from_line, talk_at_next_line, one_of, sent_in, digest_of}
 
 abbrev pub IsDoing : At → Doing → Type 0
 IsDoing at.Calls d = d ≡ Calls
@@ -35,14 +35,14 @@ IsDoing (at.Halts k h) d = (payload : List ℕ) × ((d ≡ Halts k payload) × (
 
 -- the place is within the limit of a script, and so are the lines before it
 abbrev pub IsWithin : Place → Type 0
-IsWithin p = (p.behind + length p.rest.now ≡ p.total) × ((p.number ≤ p.behind) × (p.behind ≤ limit))
+IsWithin p = (p.behind + length p.rest.now ≡ p.total) × ((p.number ≤ p.behind) × (p.behind ≤ script_limit))
 
 -- it is, where lines are still to come; where every line was done, so is the script
 abbrev pub IsFine : At → Place → Type 0
 IsFine at.Calls p = IsWithin p
 IsFine at.Tells p = IsWithin p
 IsFine (at.Settles n) p = IsWithin p
-IsFine at.Leaves p = p.total ≤ limit
+IsFine at.Leaves p = p.total ≤ script_limit
 IsFine (at.Bad k) p = Unit {0}
 IsFine (at.Halts k h) p = Unit {0}
 
@@ -67,13 +67,13 @@ abbrev pub calls_of : Standing → ℕ
 calls_of s = s.calls + will_call s.phase
 
 -- the client stands somewhere, and has called no more often than lines were begun
-abbrev pub Stands : Kept → ℕ → Type 0
+abbrev pub Stands : KeptClient → ℕ → Type 0
 Stands c number = (s : Standing) × (StandsFor c s × (calls_of s ≤ number))
 
 -- what the client, the place and the print are, of a talk that began with this print
-pub record On (w : Talker) (t : Talk) (start : List ℕ) (c : Kept) (p : Place) (out : List ℕ) : Type 0 where
+pub record On (w : Talker) (t : Talk) (start : List ℕ) (c : KeptClient) (p : Place) (out : List ℕ) : Type 0 where
   pub me : c.id ≡ w.me
-  pub group : group_of c ≡ w.group
+  pub group : kept_group c ≡ w.group
   pub stands_so : StandsFor c t.now
   pub few : calls_of t.now ≤ p.number
   pub total : w.total ≡ p.total
@@ -87,26 +87,26 @@ abbrev pub PrintsFront : List ℕ → Talk → List ℕ → Type 0
 PrintsFront start t out = (front rest : List ℕ) × ((t.text ≡ front ++ rest) × (out ≡ start ++ front))
 
 -- the talk went on from one to the other, and this is to be sent
-pub record Went (w : Talker) (old new : Talk) (start : List ℕ) (c : Kept) (p : Place) (out : List ℕ) (sent : Option (List ℕ)) : Type 0 where
+pub record Went (w : Talker) (old new : Talk) (start : List ℕ) (c : KeptClient) (p : Place) (out : List ℕ) (sent : Option (List ℕ)) : Type 0 where
   pub on : On w new start c p out
   pub doing : IsDoing p.doing new.doing
   pub sends : sent_in new.history ≡ sent_in old.history ++ one_of sent
 
-abbrev pub GoesTo : Talker → Talk → Talk → List ℕ → Kept → Place → List ℕ → Result (Option (List ℕ)) NoMemory → Type 0
+abbrev pub GoesTo : Talker → Talk → Talk → List ℕ → KeptClient → Place → List ℕ → Result (Option (List ℕ)) NoMemory → Type 0
 GoesTo w old new start c p out (Ok sent) = Went w old new start c p out sent
 GoesTo w old new start c p out (Err e) = PrintsFront start new out
 
 -- a line was begun, and nothing was sent; or the client asks; or it is bad
-abbrev pub Began : Talker → Talk → List ℕ → Option ClientLine → Kept → Kept → Place → List ℕ → List ℕ → Begun → Type 0
+abbrev pub Began : Talker → Talk → List ℕ → Option ClientLine → KeptClient → KeptClient → Place → List ℕ → List ℕ → Begun → Type 0
 Began w t start line old new p was out begun.Next =
-    (u : Talk) × (((next : Talk → Talk) → begins w t line next ≡ next u) × ((u.history ≡ t.history) × ((new ≡ old) × On w u start new p out)))
+    (u : Talk) × (((next : Talk → Talk) → talk_from_line w t line next ≡ next u) × ((u.history ≡ t.history) × ((new ≡ old) × On w u start new p out)))
 Began w t start line old new p was out (begun.Asks sent doing) =
-    (given : Input) × ((d : Doing) × (((next : Talk → Talk) → begins w t line next ≡ asks w t given d)
-    × (IsDoing doing d × ((out ≡ was) × Went w t (asks w t given d) start new (record p { doing = doing }) out (Some sent)))))
-Began w t start line old new p was out begun.Bad = ((next : Talk → Talk) → begins w t line next ≡ record t { doing = Bad 1 }) × ((new ≡ old) × (out ≡ was))
+    (given : Input) × ((d : Doing) × (((next : Talk → Talk) → talk_from_line w t line next ≡ talk_after_asking w t given d)
+    × (IsDoing doing d × ((out ≡ was) × Went w t (talk_after_asking w t given d) start new (record p { doing = doing }) out (Some sent)))))
+Began w t start line old new p was out begun.Bad = ((next : Talk → Talk) → talk_from_line w t line next ≡ record t { doing = Bad 1 }) × ((new ≡ old) × (out ≡ was))
 
 -- where nothing was sent, the client is as before
-abbrev pub Rests : Begun → Kept → Kept → Type 0
+abbrev pub Rests : Begun → KeptClient → KeptClient → Type 0
 Rests begun.Next old new = new ≡ old
 Rests (begun.Asks sent doing) old new = IsBusy doing
 Rests begun.Bad old new = new ≡ old
@@ -121,14 +121,14 @@ CanBegin (line.Settle n) kind = Unit {0}
 CanBegin line.Skip kind = Unit {0}
 
 -- the talk goes on from where it is led to as it does from here, and nothing was sent on the way
-abbrev pub Led : Talker → Talk → List ℕ → Kept → Place → List ℕ → Type 0
-Led w t start c p out = (u : Talk) × (On w u start c p out × ((goes_on w t t.lines ≡ goes_on w u u.lines) × (u.history ≡ t.history)))
+abbrev pub Led : Talker → Talk → List ℕ → KeptClient → Place → List ℕ → Type 0
+Led w t start c p out = (u : Talk) × (On w u start c p out × ((talk_at_next_line w t t.lines ≡ talk_at_next_line w u u.lines) × (u.history ≡ t.history)))
 
 -- the next line was begun
-abbrev pub Lined : Talker → Talk → List ℕ → Kept → Place → List ℕ → Begun → Type 0
+abbrev pub Lined : Talker → Talk → List ℕ → KeptClient → Place → List ℕ → Begun → Type 0
 Lined w t start c p out begun.Next = Led w t start c p out
-Lined w t start c p out (begun.Asks sent doing) = Went w t (goes_on w t t.lines) start c p out (Some sent)
-Lined w t start c p out begun.Bad = Went w t (goes_on w t t.lines) start c p out None
+Lined w t start c p out (begun.Asks sent doing) = Went w t (talk_at_next_line w t t.lines) start c p out (Some sent)
+Lined w t start c p out begun.Bad = Went w t (talk_at_next_line w t t.lines) start c p out None
 
 -- what is sent fits a frame
 abbrev pub FitsIn : Begun → Type 0
@@ -152,10 +152,10 @@ MaySend (at.Bad k) sent = sent ≡ None
 MaySend (at.Halts k h) sent = sent ≡ None
 
 -- a talk has made a step on a payload: the client stands behind it, and nothing is printed of it yet
-pub record Heard (w : Talker) (t : Talk) (start payload : List ℕ) (r : Step) (c : Kept) (p : Place) (out : List ℕ) : Type 0 where
+pub record Heard (w : Talker) (t : Talk) (start payload : List ℕ) (r : Step) (c : KeptClient) (p : Place) (out : List ℕ) : Type 0 where
   pub me : c.id ≡ w.me
-  pub group : group_of c ≡ w.group
-  pub stands_so : StandsFor c (steps w t (input.Payload payload)).now
+  pub group : kept_group c ≡ w.group
+  pub stands_so : StandsFor c (talk_after_step w t (input.Payload payload)).now
   pub few : calls_of t.now ≤ p.number
   pub total : w.total ≡ p.total
   pub number : t.number ≡ p.number
@@ -168,5 +168,5 @@ pub record Heard (w : Talker) (t : Talk) (start payload : List ℕ) (r : Step) (
   pub object : r.object ≡ (step w.group w.me t.now (input.Payload payload)).object
 
 -- memory ran out at a payload: the client stands before its step on that, or behind it
-abbrev pub IsShortOf : Talker → Talk → List ℕ → Kept → Type 0
-IsShortOf w t payload c = IsLeftAt w.group w.me t.now c ⊎ IsLeftAt w.group w.me (steps w t (input.Payload payload)).now c
+abbrev pub IsShortOf : Talker → Talk → List ℕ → KeptClient → Type 0
+IsShortOf w t payload c = IsLeftAt w.group w.me t.now c ⊎ IsLeftAt w.group w.me (talk_after_step w t (input.Payload payload)).now c

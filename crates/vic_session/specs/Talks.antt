@@ -12,7 +12,7 @@ use Rattle.vic_rules.specs.declared.trace.TraceStep.{TraceStep}
 use Rattle.vic_rules.specs.Client.{Standing, at_start, step, payload_of, awaits_nothing}
 use Rattle.vic_script.specs.Words.{outcome_words, object_words, newline}
 use Rattle.vic_script.specs.Lines.{lines_of}
-use Rattle.vic_script.specs.Run.{limit, place_behind}
+use Rattle.vic_script.specs.Run.{script_limit, line_end}
 use Rattle.vic_text.specs.declared.client_line.ClientLine.{ClientLine}
 use Rattle.vic_text.specs.declared.client_line.ClientLine.TheVariants as line
 use Rattle.vic_text.specs.ClientLines.{client_line_of}
@@ -45,57 +45,57 @@ pub record Talker : Type 0 where
   pub from : Standing
   pub total : ℕ
 
-abbrev pub unsettled : Talk → ℕ
-unsettled t = length t.now.own
+abbrev pub unsettled_count : Talk → ℕ
+unsettled_count t = length t.now.own
 
 -- `state sealed S length L unsettled U`
 abbrev pub state_line : Standing → List ℕ
 state_line s = codes "state sealed " ++ decimal s.sealed ++ codes " length " ++ decimal (length s.path) ++ codes " unsettled " ++ decimal (length s.own) ++ newline
 
-abbrev pub tells_state : Talk → Talk
-tells_state t = record t { text = t.text ++ state_line t.now }
+abbrev pub talk_with_state : Talk → Talk
+talk_with_state t = record t { text = t.text ++ state_line t.now }
 
 -- the client makes a step
-unfoldable pub steps : Talker → Talk → Input → Talk
-steps w t given =
+unfoldable pub talk_after_step : Talker → Talk → Input → Talk
+talk_after_step w t given =
     let v = step w.group w.me t.now given in
     record t { now = v.next; history = record { client = w.me; input = given; sent = payload_of w.group w.me v.next v.sends; returned = v.returns; object = v.object } ∷ t.history }
 
 -- it is asked for something, and is at it
-abbrev pub asks : Talker → Talk → Input → Doing → Talk
-asks w t given doing = record (steps w t given) { doing = doing }
+abbrev pub talk_after_asking : Talker → Talk → Input → Doing → Talk
+talk_after_asking w t given doing = record (talk_after_step w t given) { doing = doing }
 
 -- ---- lines
 
 -- a line is begun; one at which nothing is sent goes on to the next
-abbrev pub begins : Talker → Talk → Option ClientLine → (Talk → Talk) → Talk
-begins w t None next = record t { doing = Bad 1 }
-begins w t (Some line.Skip) next = next t
-begins w t (Some (line.Call o)) next = asks w t (input.Call o) Calls
-begins w t (Some (line.Object c)) next = asks w t (input.Object c) Calls
-begins w t (Some line.Poll) next = asks w t input.Poll Tells
-begins w t (Some line.Sync) next = asks w t input.Sync Tells
-begins w t (Some (line.Settle zero)) next = next (tells_state t)
-begins w t (Some (line.Settle (suc n))) next = if nat_eq (unsettled t) 0 then next (tells_state t) else asks w t input.Poll (Settles n)
+abbrev pub talk_from_line : Talker → Talk → Option ClientLine → (Talk → Talk) → Talk
+talk_from_line w t None next = record t { doing = Bad 1 }
+talk_from_line w t (Some line.Skip) next = next t
+talk_from_line w t (Some (line.Call o)) next = talk_after_asking w t (input.Call o) Calls
+talk_from_line w t (Some (line.Object c)) next = talk_after_asking w t (input.Object c) Calls
+talk_from_line w t (Some line.Poll) next = talk_after_asking w t input.Poll Tells
+talk_from_line w t (Some line.Sync) next = talk_after_asking w t input.Sync Tells
+talk_from_line w t (Some (line.Settle zero)) next = next (talk_with_state t)
+talk_from_line w t (Some (line.Settle (suc n))) next = if nat_eq (unsettled_count t) 0 then next (talk_with_state t) else talk_after_asking w t input.Poll (Settles n)
 
 -- the client is idle: the next line is begun, or it leaves. A line that reaches past the limit is bad by kind 7, before all else
-unfoldable pub goes_on : Talker → Talk → List (List ℕ) → Talk
-goes_on w t [] = record t { doing = Leaves; lines = [] }
-goes_on w t (text ∷ texts) =
-    let behind = place_behind w.total t.behind text in
+unfoldable pub talk_at_next_line : Talker → Talk → List (List ℕ) → Talk
+talk_at_next_line w t [] = record t { doing = Leaves; lines = [] }
+talk_at_next_line w t (text ∷ texts) =
+    let behind = line_end w.total t.behind text in
     let here = record t { number = t.number + 1; behind = behind; lines = texts } in
-    if nat_lt limit behind then record here { doing = Bad 7 }
-    else begins w here (client_line_of w.group.mode text) (λ u. goes_on w u texts)
+    if nat_lt script_limit behind then record here { doing = Bad 7 }
+    else talk_from_line w here (client_line_of w.group.mode text) (λ u. talk_at_next_line w u texts)
 
 -- ---- payloads
 
 -- what the client is at is over
-abbrev pub ends_line : Talker → Talk → Doing → Talk
-ends_line w t Calls = goes_on w t t.lines
-ends_line w t Tells = let u = tells_state t in goes_on w u u.lines
-ends_line w t (Settles zero) = let u = tells_state t in goes_on w u u.lines
-ends_line w t (Settles (suc n)) = if nat_eq (unsettled t) 0 then (let u = tells_state t in goes_on w u u.lines) else asks w t input.Poll (Settles n)
-ends_line w t doing = t
+abbrev pub talk_after_line : Talker → Talk → Doing → Talk
+talk_after_line w t Calls = talk_at_next_line w t t.lines
+talk_after_line w t Tells = let u = talk_with_state t in talk_at_next_line w u u.lines
+talk_after_line w t (Settles zero) = let u = talk_with_state t in talk_at_next_line w u u.lines
+talk_after_line w t (Settles (suc n)) = if nat_eq (unsettled_count t) 0 then (let u = talk_with_state t in talk_at_next_line w u u.lines) else talk_after_asking w t input.Poll (Settles n)
+talk_after_line w t doing = t
 
 abbrev pub is_idle : Standing → Bool
 is_idle s = awaits_nothing s.awaiting && is_none s.halted
@@ -122,29 +122,29 @@ abbrev pub outcome_lines : Option ℕ → Option Outcome → Option ObjectOutcom
 outcome_lines (Some check) returned object = []
 outcome_lines None returned object = outcome_line returned ++ object_line object
 
-abbrev pub goes_from : Talker → Talk → List ℕ → Option ℕ → Talk
-goes_from w t payload (Some check) = record t { doing = Halts check payload }
-goes_from w t payload None = if is_idle t.now then ends_line w t t.doing else t
+abbrev pub talk_by_check : Talker → Talk → List ℕ → Option ℕ → Talk
+talk_by_check w t payload (Some check) = record t { doing = Halts check payload }
+talk_by_check w t payload None = if is_idle t.now then talk_after_line w t t.doing else t
 
 -- it takes a payload
-unfoldable pub hears : Talker → Talk → List ℕ → Talk
-hears w t payload =
-    let u = steps w t (input.Payload payload) in
+unfoldable pub talk_after_payload : Talker → Talk → List ℕ → Talk
+talk_after_payload w t payload =
+    let u = talk_after_step w t (input.Payload payload) in
     let halted = u.now.halted in
-    goes_from w (record u { text = u.text ++ outcome_lines halted (returned_in u.history) (object_in u.history) }) payload halted
+    talk_by_check w (record u { text = u.text ++ outcome_lines halted (returned_in u.history) (object_in u.history) }) payload halted
 
 -- ---- the whole
 
-abbrev pub fresh : Standing → Talk
-fresh s = record { now = s; history = []; text = []; doing = Leaves; number = 0; behind = 0; lines = [] }
+abbrev pub fresh_talk : Standing → Talk
+fresh_talk s = record { now = s; history = []; text = []; doing = Leaves; number = 0; behind = 0; lines = [] }
 
 -- the talk over a script, once the client was greeted
-abbrev pub opening : Talker → List ℕ → Talk
-opening w script = goes_on w (fresh w.from) (lines_of script)
+abbrev pub opening_talk : Talker → List ℕ → Talk
+opening_talk w script = talk_at_next_line w (fresh_talk w.from) (lines_of script)
 
 -- and after it took payloads, the oldest first
 unfoldable pub talk : Talker → List ℕ → List (List ℕ) → Talk
-talk w script payloads = fold (hears w) (opening w script) payloads
+talk w script payloads = fold (talk_after_payload w) (opening_talk w script) payloads
 
 -- a client that has done nothing yet
 abbrev pub talker : Group → ℕ → List ℕ → Talker

@@ -6,12 +6,12 @@ ghost use Rattle.vic_client.specs.Kept.{StandsFor, is_idle};
 ghost use Rattle.vic_client.specs.Pending.{FitsFrame};
 ghost use Rattle.vic_dict.specs.declared.op.Mode.{Mode as AMode};
 ghost use Rattle.vic_text.specs.ClientLines.{client_line_of};
-ghost use Rattle.vic_session.specs.Talks.{outcome_line, object_line, outcome_lines, Talk, Talker, state_line, goes_on, ends_line, hears, asks, tells_state, Settles};
+ghost use Rattle.vic_session.specs.Talks.{outcome_line, object_line, outcome_lines, Talk, Talker, state_line, talk_at_next_line, talk_after_line, talk_after_payload, talk_after_asking, talk_with_state, Settles};
 ghost use Rattle.vic_rules.specs.declared.trace.Input.TheVariants as input;
 ghost use Rattle.vic_session.specs.Talking.{On, IsWithin, IsFine, IsDoing, Stands, GoesTo, Began, Rests, CanBegin, Lined, LinedAt, FitsIn, MaySend, IsBusy, Heard, IsShortOf};
 ghost use Rattle.vic_session.specs.declared.place.Place.{Place as APlace};
 
-use crate::place::{At, Place, first_line, place_behind};
+use crate::place::{At, Place, first_line, line_end};
 use crate::stepping::{Given, make_step, request_for};
 use std::alloc::Global;
 use vic_client::{Client, Step};
@@ -157,7 +157,7 @@ fn do_line(
     ensures stays { OnErr result (client.new ≡ client.old) }
 {
     let (text, others) = first_line(place.rest);
-    place.behind = place_behind(place.total, place.behind, text);
+    place.behind = line_end(place.total, place.behind, text);
     place.number += 1;
     place.rest = others;
     if SCRIPT_LIMIT < place.behind {
@@ -188,7 +188,7 @@ pub fn go_on(
     requires few { client.old.calls ≤ place.old.number }
     requires within { IsWithin place.old }
     requires total { place.old.total < 2 ^ 63 }
-    ensures went { (w : Talker) (t : Talk) (start : List ℕ) → On w t start client.old place.old out.old → GoesTo w t (goes_on w t t.lines) start client.new place.new out.new result }
+    ensures went { (w : Talker) (t : Talk) (start : List ℕ) → On w t start client.old place.old out.old → GoesTo w t (talk_at_next_line w t t.lines) start client.new place.new out.new result }
     ensures fine { IfOk result (λ sent. IsFine place.new.doing place.new) }
     ensures sends { IfOk result (λ sent. MaySend place.new.doing sent) }
     ensures fits { IfOk result (λ sent. IfSome sent FitsFrame) }
@@ -218,7 +218,7 @@ fn tell_and_go(
     requires few { client.old.calls ≤ place.old.number }
     requires within { IsWithin place.old }
     requires total { place.old.total < 2 ^ 63 }
-    ensures went { (w : Talker) (t : Talk) (start : List ℕ) → On w t start client.old place.old out.old → GoesTo w t (goes_on w (tells_state t) t.lines) start client.new place.new out.new result }
+    ensures went { (w : Talker) (t : Talk) (start : List ℕ) → On w t start client.old place.old out.old → GoesTo w t (talk_at_next_line w (talk_with_state t) t.lines) start client.new place.new out.new result }
     ensures fine { IfOk result (λ sent. IsFine place.new.doing place.new) }
     ensures sends { IfOk result (λ sent. MaySend place.new.doing sent) }
     ensures fits { IfOk result (λ sent. IfSome sent FitsFrame) }
@@ -241,7 +241,7 @@ fn poll_again(
     requires idle { IsTrue (is_idle client.old) }
     requires few { client.old.calls ≤ place.old.number }
     requires within { IsWithin place.old }
-    ensures went { (w : Talker) (t : Talk) (start out : List ℕ) → On w t start client.old place.old out → GoesTo w t (asks w t input.Poll (Settles left)) start client.new place.new out result }
+    ensures went { (w : Talker) (t : Talk) (start out : List ℕ) → On w t start client.old place.old out → GoesTo w t (talk_after_asking w t input.Poll (Settles left)) start client.new place.new out result }
     ensures fine { IfOk result (λ sent. IsFine place.new.doing place.new) }
     ensures sends { IfOk result (λ sent. MaySend place.new.doing sent) }
     ensures fits { IfOk result (λ sent. IfSome sent FitsFrame) }
@@ -269,7 +269,7 @@ fn end_line(
     requires busy { IsBusy place.old.doing }
     requires within { IsWithin place.old }
     requires total { place.old.total < 2 ^ 63 }
-    ensures went { (w : Talker) (t : Talk) (start : List ℕ) → On w t start client.old place.old out.old → IsDoing place.old.doing t.doing → GoesTo w t (ends_line w t t.doing) start client.new place.new out.new result }
+    ensures went { (w : Talker) (t : Talk) (start : List ℕ) → On w t start client.old place.old out.old → IsDoing place.old.doing t.doing → GoesTo w t (talk_after_line w t t.doing) start client.new place.new out.new result }
     ensures fine { IfOk result (λ sent. IsFine place.new.doing place.new) }
     ensures sends { IfOk result (λ sent. MaySend place.new.doing sent) }
     ensures fits { IfOk result (λ sent. IfSome sent FitsFrame) }
@@ -346,7 +346,7 @@ fn hear_step(
     requires busy { IsBusy place.old.doing }
     requires within { IsWithin place.old }
     requires total { place.old.total < 2 ^ 63 }
-    ensures went { (w : Talker) (t : Talk) (start : List ℕ) → Heard w t start payload.now step client.old place.old out.old → GoesTo w t (hears w t payload.now) start client.new place.new out.new result }
+    ensures went { (w : Talker) (t : Talk) (start : List ℕ) → Heard w t start payload.now step client.old place.old out.old → GoesTo w t (talk_after_payload w t payload.now) start client.new place.new out.new result }
     ensures fine { IfOk result (λ sent. IsFine place.new.doing place.new) }
     ensures sends { IfOk result (λ sent. MaySend place.new.doing sent) }
     ensures fits { IfOk result (λ sent. IfSome sent FitsFrame) }
@@ -390,7 +390,7 @@ pub fn hear(
     requires busy { IsBusy place.old.doing }
     requires within { IsWithin place.old }
     requires total { place.old.total < 2 ^ 63 }
-    ensures went { (w : Talker) (t : Talk) (start : List ℕ) → On w t start client.old place.old out.old → IsDoing place.old.doing t.doing → GoesTo w t (hears w t payload.now) start client.new place.new out.new result }
+    ensures went { (w : Talker) (t : Talk) (start : List ℕ) → On w t start client.old place.old out.old → IsDoing place.old.doing t.doing → GoesTo w t (talk_after_payload w t payload.now) start client.new place.new out.new result }
     ensures fine { IfOk result (λ sent. IsFine place.new.doing place.new) }
     ensures sends { IfOk result (λ sent. MaySend place.new.doing sent) }
     ensures fits { IfOk result (λ sent. IfSome sent FitsFrame) }

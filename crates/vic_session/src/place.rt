@@ -2,7 +2,7 @@
 
 ghost use Rattle.std.specs.Prelude.{◌≡◌, ◌<◌, ◌≤◌, ◌+◌, ◌^◌, ◌∷◌, [], length};
 ghost use Rattle.vic_script.specs.Lines.{lines_of};
-ghost use Rattle.vic_script.specs.Run.{place_behind as place_by};
+ghost use Rattle.vic_script.specs.Run.{line_end};
 
 use vic_text::split_line;
 use vic_wire::Digest32;
@@ -40,8 +40,8 @@ pub struct Place<'a> {
 pub fn first_line(text: &[u8]) -> (&[u8], &[u8])
     requires { 0 < length text.now }
     ensures lines { lines_of text.now ≡ result.0.now ∷ lines_of result.1.now }
-    ensures place { place_by (length text.now) 0 result.0.now + length result.1.now ≡ length text.now }
-    ensures some { 0 < place_by (length text.now) 0 result.0.now }
+    ensures place { line_end (length text.now) 0 result.0.now + length result.1.now ≡ length text.now }
+    ensures some { 0 < line_end (length text.now) 0 result.0.now }
     ensures shorter { length result.0.now + length result.1.now ≤ length text.now }
 {
     match split_line(text) {
@@ -51,9 +51,9 @@ pub fn first_line(text: &[u8]) -> (&[u8], &[u8])
 }
 
 /// The place behind a line that begins behind so many bytes; its own 0a, if it has one, belongs to it.
-pub fn place_behind(total: usize, before: usize, line: &[u8]) -> usize
+pub fn line_end(total: usize, before: usize, line: &[u8]) -> usize
     requires { before + length line.now < 2 ^ 63 }
-    ensures { result ≡ place_by total before line.now }
+    ensures { result ≡ line_end total before line.now }
 {
     (before + line.len() + 1).min(total)
 }

@@ -2,8 +2,8 @@
 
 ghost use Rattle.std.specs.Prelude.{◌≡◌, ◌<◌, ◌≤◌, ◌^◌, [], length};
 ghost use Rattle.vic_rules.specs.Client.{at_start};
-ghost use Rattle.vic_client.specs.Kept.{StandsFor, group_of};
-ghost use Rattle.vic_script.specs.Run.{limit};
+ghost use Rattle.vic_client.specs.Kept.{StandsFor, kept_group};
+ghost use Rattle.vic_script.specs.Run.{script_limit};
 ghost use Rattle.vic_session.specs.Running.{Greeted, Parted, Left, JudgedHello, JudgedBye};
 ghost use Rattle.vic_session.specs.Sessions.{IsSessionOf};
 
@@ -41,7 +41,7 @@ fn greet<L: Link>(
     buffer: &mut [u8],
 ) -> Result<(), SessionEnd>
     requires { 0 < length buffer.old }
-    ensures { Greeted (group_of client.now) client.now.id reader.old reader.new (L.told link.old) (L.told link.new) result }
+    ensures { Greeted (kept_group client.now) client.now.id reader.old reader.new (L.told link.old) (L.told link.new) result }
 {
     let Ok(hello) = request_payload(alloc, &ToServer::Hello(client.mode(), client.id())) else {
         return Err(SessionEnd::NoMemory);
@@ -118,9 +118,9 @@ pub fn run_lines<L: Link>(
     out: &mut Bytes,
 ) -> SessionEnd
     requires { StandsFor client.old at_start }
-    ensures did { IsSessionOf (group_of client.old) client.old.id script.now (L.told link.old) out.old result (L.told link.new) out.new client.new }
+    ensures did { IsSessionOf (kept_group client.old) client.old.id script.now (L.told link.old) out.old result (L.told link.new) out.new client.new }
     // A script past the limit has a bad line.
-    ensures whole { result ≡ SessionEnd.Ok → length script.now ≤ limit }
+    ensures whole { result ≡ SessionEnd.Ok → length script.now ≤ script_limit }
 {
     let mut reader = FrameReader::new(alloc);
     let mut buffer = [0u8; 4096];

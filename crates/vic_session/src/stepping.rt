@@ -2,7 +2,7 @@
 
 ghost use Rattle.std.specs.Prelude.{◌≡◌, IfOk, IfSome, IsSome, OnOk, OnErr, Some};
 ghost use Rattle.vic_rules.specs.Client.{Standing};
-ghost use Rattle.vic_client.specs.Kept.{StandsFor, IsSame, move_of, sent_at};
+ghost use Rattle.vic_client.specs.Kept.{StandsFor, IsSameClient, kept_move, sent_at};
 ghost use Rattle.vic_client.specs.Pending.{IsPendingOf, FitsFrame};
 ghost use Rattle.vic_client.specs.Shows.{Shows};
 ghost use Rattle.vic_session.specs.Stepping.{input_of, IsAsked, MayBeGiven};
@@ -43,8 +43,8 @@ fn plan(alloc: Global, client: &mut Client, given: Given<'_>) -> Result<Pending,
 /// saved here, between the two lines.
 pub fn make_step(alloc: Global, client: &mut Client, given: Given<'_>) -> Result<Step, NoMemory>
     requires { MayBeGiven given client.old }
-    ensures same { IsSame client.old client.new }
-    ensures shows { (s : Standing) → StandsFor client.old s → IfOk result (λ r. Shows client.old r client.new (move_of client.old s (input_of given.entry))) }
+    ensures same { IsSameClient client.old client.new }
+    ensures shows { (s : Standing) → StandsFor client.old s → IfOk result (λ r. Shows client.old r client.new (kept_move client.old s (input_of given.entry))) }
     ensures sends { IsAsked given.entry → IfOk result (λ r. IsSome r.send) }
     ensures fits { IfOk result (λ r. IfSome r.send FitsFrame) }
     ensures err { OnErr result (client.new ≡ client.old) }
@@ -57,9 +57,9 @@ pub fn make_step(alloc: Global, client: &mut Client, given: Given<'_>) -> Result
 pub fn request_for(alloc: Global, client: &mut Client, given: Given<'_>) -> Result<Bytes, NoMemory>
     requires may { MayBeGiven given client.old }
     requires asks { IsAsked given }
-    ensures same { IsSame client.old client.new }
-    ensures sent { (s : Standing) → StandsFor client.old s → IfOk result (λ b. Some b ≡ sent_at client.old (move_of client.old s (input_of given.entry))) }
-    ensures stands { (s : Standing) → StandsFor client.old s → OnOk result (StandsFor client.new (move_of client.old s (input_of given.entry)).next) }
+    ensures same { IsSameClient client.old client.new }
+    ensures sent { (s : Standing) → StandsFor client.old s → IfOk result (λ b. Some b ≡ sent_at client.old (kept_move client.old s (input_of given.entry))) }
+    ensures stands { (s : Standing) → StandsFor client.old s → OnOk result (StandsFor client.new (kept_move client.old s (input_of given.entry)).next) }
     ensures fits { IfOk result FitsFrame }
     ensures err { OnErr result (client.new ≡ client.old) }
 {

@@ -8,7 +8,7 @@ use Rattle.vic_dict.specs.declared.op.Entry.{Entry}
 use Rattle.vic_wire.specs.declared.message.Tagged.{Tagged}
 use Rattle.vic_wire.specs.Texts.{op_text, entry_text}
 use Rattle.vic_wire.specs.Messages.{IsEntry, IsTagged, tagged_field, entries_field}
-use Rattle.vic_wire.specs.Reading.{◌>>=◌, byte_at, number_at, allowed, digest_at, op_at, entry_at, tagged_at, tagged_list_at, entries_at}
+use Rattle.vic_wire.specs.Reading.{◌>>=◌, byte_at, number_at, if_allowed, digest_at, op_at, entry_at, tagged_at, tagged_list_at, entries_at}
 use Rattle.vic_spellings.specs.Spellings.{HaveByteTags}
 use Rattle.vic_spellings.proofs.Steps.{bind_ok, allowed_ok, ok_is, Takes, Takes-none, Takes-then, Takes-cons}
 use Rattle.vic_spellings.proofs.Fields.{within_takes, positive_takes, w16_takes, w16_again, w32_again, digest_takes, digest_again}
@@ -19,10 +19,10 @@ use Rattle.vic_spellings.proofs.Operations.{op_takes, op_again}
 pub entry_takes : (bytes : List ℕ) (x : Entry × List ℕ) → AreBytes bytes → entry_at bytes ≡ Ok x → Takes bytes (entry_text x.0) x.1 × IsEntry x.0
 unfolding entry_at
 entry_takes bytes x fits e =
-    let a = bind_ok (byte_at bytes) (λ c. allowed (ltb 0 c.0 && leb c.0 64) c >>= λ client. number_at w32 client.1 >>= λ s. allowed (ltb 0 s.0) s >>= λ seq. op_at seq.1 >>= λ o. Ok (record { client = client.0; seq = seq.0; op = o.0 }, o.1)) x e in
-    let b = bind_ok (allowed (ltb 0 a.0.0 && leb a.0.0 64) a.0) (λ client. number_at w32 client.1 >>= λ s. allowed (ltb 0 s.0) s >>= λ seq. op_at seq.1 >>= λ o. Ok (record { client = client.0; seq = seq.0; op = o.0 }, o.1)) x a.2 in
-    let c = bind_ok (number_at w32 b.0.1) (λ s. allowed (ltb 0 s.0) s >>= λ seq. op_at seq.1 >>= λ o. Ok (record { client = b.0.0; seq = seq.0; op = o.0 }, o.1)) x b.2 in
-    let d = bind_ok (allowed (ltb 0 c.0.0) c.0) (λ seq. op_at seq.1 >>= λ o. Ok (record { client = b.0.0; seq = seq.0; op = o.0 }, o.1)) x c.2 in
+    let a = bind_ok (byte_at bytes) (λ c. if_allowed (ltb 0 c.0 && leb c.0 64) c >>= λ client. number_at w32 client.1 >>= λ s. if_allowed (ltb 0 s.0) s >>= λ seq. op_at seq.1 >>= λ o. Ok (record { client = client.0; seq = seq.0; op = o.0 }, o.1)) x e in
+    let b = bind_ok (if_allowed (ltb 0 a.0.0 && leb a.0.0 64) a.0) (λ client. number_at w32 client.1 >>= λ s. if_allowed (ltb 0 s.0) s >>= λ seq. op_at seq.1 >>= λ o. Ok (record { client = client.0; seq = seq.0; op = o.0 }, o.1)) x a.2 in
+    let c = bind_ok (number_at w32 b.0.1) (λ s. if_allowed (ltb 0 s.0) s >>= λ seq. op_at seq.1 >>= λ o. Ok (record { client = b.0.0; seq = seq.0; op = o.0 }, o.1)) x b.2 in
+    let d = bind_ok (if_allowed (ltb 0 c.0.0) c.0) (λ seq. op_at seq.1 >>= λ o. Ok (record { client = b.0.0; seq = seq.0; op = o.0 }, o.1)) x c.2 in
     let f = bind_ok (op_at d.0.1) (λ o. Ok (record { client = b.0.0; seq = d.0.0; op = o.0 }, o.1)) x d.2 in
     let client = within_takes 64 bytes a.0 b.0 fits a.1 b.1 in
     let seq = positive_takes b.0.1 c.0 d.0 client.2 c.1 d.1 in
@@ -81,8 +81,8 @@ pub entries_takes : (least most : ℕ) (bytes : List ℕ) (x : List Tagged × Li
     → Takes bytes (entries_field x.0) x.1 × ((least ≤ length x.0) × (length x.0 ≤ most)) × AllByRecursion IsTagged x.0 × HaveByteTags x.0
 unfolding entries_at
 entries_takes least most bytes x fits e =
-    let a = bind_ok (number_at w16 bytes) (λ n. allowed (leb least n.0 && leb n.0 most) n >>= λ count. tagged_list_at count.0 count.1) x e in
-    let b = bind_ok (allowed (leb least a.0.0 && leb a.0.0 most) a.0) (λ count. tagged_list_at count.0 count.1) x a.2 in
+    let a = bind_ok (number_at w16 bytes) (λ n. if_allowed (leb least n.0 && leb n.0 most) n >>= λ count. tagged_list_at count.0 count.1) x e in
+    let b = bind_ok (if_allowed (leb least a.0.0 && leb a.0.0 most) a.0) (λ count. tagged_list_at count.0 count.1) x a.2 in
     let counted = allowed_ok (leb least a.0.0 && leb a.0.0 most) a.0 b.0 b.1 in
     let tests = and_parts (leb least a.0.0) (leb a.0.0 most) counted.0 in
     let number = w16_takes bytes a.0 fits a.1 in

@@ -8,7 +8,7 @@ use Rattle.vic_dict.specs.Lists.{AreBytes}
 use Rattle.vic_wire.specs.declared.message.Digest32.{Digest32}
 use Rattle.vic_wire.specs.Texts.{short_text}
 use Rattle.vic_wire.specs.Messages.{IsDigest, IsNumber}
-use Rattle.vic_wire.specs.Reading.{Short, ◌>>=◌, byte_at, bytes_at, number_at, allowed, digest_at, short_at}
+use Rattle.vic_wire.specs.Reading.{Short, ◌>>=◌, byte_at, bytes_at, number_at, if_allowed, digest_at, short_at}
 use Rattle.vic_spellings.proofs.Steps.{bytes-rest, bytes-drop, bytes-take, bind_ok, guard_ok, allowed_ok, ok_is, Takes}
 
 -- ---- a byte
@@ -84,14 +84,14 @@ pub w32_again : (n : ℕ) (rest : List ℕ) → n < 2 ^ 32 → number_at w32 (to
 w32_again n rest lt = number_again w32 (2 ^ 32) wide32 n rest lt
 
 -- a number that isn't 0
-pub positive_takes : (bytes : List ℕ) (x y : ℕ × List ℕ) → AreBytes bytes → number_at w32 bytes ≡ Ok x → allowed (ltb 0 x.0) x ≡ Ok y → Takes bytes (to_be_bytes w32 y.0) y.1 × IsNumber y.0
+pub positive_takes : (bytes : List ℕ) (x y : ℕ × List ℕ) → AreBytes bytes → number_at w32 bytes ≡ Ok x → if_allowed (ltb 0 x.0) x ≡ Ok y → Takes bytes (to_be_bytes w32 y.0) y.1 × IsNumber y.0
 positive_takes bytes x y fits e f =
     let a = allowed_ok (ltb 0 x.0) x y f in
     let t = w32_takes bytes x fits e in
     subst (λ (z : ℕ × List ℕ). Takes bytes (to_be_bytes w32 z.0) z.1 × IsNumber z.0) a.1 (t.0, (ltb-true 0 x.0 a.0, t.1))
 
 -- a byte from 1 up to a bound
-pub within_takes : (most : ℕ) (bytes : List ℕ) (x y : ℕ × List ℕ) → AreBytes bytes → byte_at bytes ≡ Ok x → allowed (ltb 0 x.0 && leb x.0 most) x ≡ Ok y
+pub within_takes : (most : ℕ) (bytes : List ℕ) (x y : ℕ × List ℕ) → AreBytes bytes → byte_at bytes ≡ Ok x → if_allowed (ltb 0 x.0 && leb x.0 most) x ≡ Ok y
     → (bytes ≡ y.0 ∷ y.1) × ((0 < y.0) × (y.0 ≤ most)) × AreBytes y.1
 within_takes most bytes x y fits e f =
     let a = allowed_ok (ltb 0 x.0 && leb x.0 most) x y f in
@@ -119,8 +119,8 @@ pub short_takes : (least most : ℕ) (bytes : List ℕ) (x : List ℕ × List �
     → Takes bytes (short_text x.0) x.1 × ((least ≤ length x.0) × (length x.0 ≤ most)) × AreBytes x.0
 unfolding short_at
 short_takes least most bytes x fits e =
-    let a = bind_ok (byte_at bytes) (λ n. allowed (leb least n.0 && leb n.0 most) n >>= λ fit. bytes_at n.0 n.1) x e in
-    let b = bind_ok (allowed (leb least a.0.0 && leb a.0.0 most) a.0) (λ fit. bytes_at a.0.0 a.0.1) x a.2 in
+    let a = bind_ok (byte_at bytes) (λ n. if_allowed (leb least n.0 && leb n.0 most) n >>= λ fit. bytes_at n.0 n.1) x e in
+    let b = bind_ok (if_allowed (leb least a.0.0 && leb a.0.0 most) a.0) (λ fit. bytes_at a.0.0 a.0.1) x a.2 in
     let g = and_parts (leb least a.0.0) (leb a.0.0 most) (allowed_ok (leb least a.0.0 && leb a.0.0 most) a.0 b.0 b.1).0 in
     let first = byte_takes bytes a.0 fits a.1 in
     let second = bytes_takes a.0.0 a.0.1 x first.2 b.2 in

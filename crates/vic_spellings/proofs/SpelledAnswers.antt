@@ -8,7 +8,7 @@ use Rattle.vic_wire.specs.declared.message.Tagged.{Tagged}
 use Rattle.vic_wire.specs.declared.message.ToClient.{ToClient}
 use Rattle.vic_wire.specs.declared.message.ToClient.TheVariants as say
 use Rattle.vic_wire.specs.Messages.{seal_field, entries_field, answer_text, HasSpelling}
-use Rattle.vic_wire.specs.Reading.{FieldFault, Value, ◌>>=◌, byte_at, allowed, seal_at, entries_at, ended, update_at, answer_of_kind, some_read, read_answer}
+use Rattle.vic_wire.specs.Reading.{FieldFault, Value, ◌>>=◌, byte_at, if_allowed, seal_at, entries_at, if_ended, update_at, answer_of_kind, some_read, read_answer}
 use Rattle.vic_spellings.specs.Spellings.{HoldsBytes}
 use Rattle.vic_spellings.proofs.Steps.{bind_ok, allowed_ok, by_kind, err_is_none, ended_ok, some_ok, ok_is, Takes-then}
 use Rattle.vic_spellings.proofs.Fields.{byte_takes, within_takes}
@@ -20,7 +20,7 @@ abbrev pub Spells : List ℕ → ToClient → Type 0
 Spells bytes m = HasSpelling m × (bytes ≡ answer_text m) × HoldsBytes m
 
 -- an answer of one byte
-bare_found : (kind : ℕ) (bare : ToClient) (bytes : List ℕ) (m : ToClient) → Spells (kind ∷ []) bare → ended (bare, bytes) ≡ Ok m → Spells (kind ∷ bytes) m
+bare_found : (kind : ℕ) (bare : ToClient) (bytes : List ℕ) (m : ToClient) → Spells (kind ∷ []) bare → if_ended (bare, bytes) ≡ Ok m → Spells (kind ∷ bytes) m
 bare_found kind bare bytes m is e =
     let d = ended_ok (bare, bytes) m e in
     subst (λ (n : ToClient). Spells (kind ∷ bytes) n) d.1 (is.0, ap (λ (t : List ℕ). kind ∷ t) d.0 ∙ is.1, is.2)
@@ -43,10 +43,10 @@ update_found bytes m fits e =
     let made : ToClient = say.Update a.0.0 a.0.1 in
     subst (λ (n : ToClient). Spells (0x44 ∷ bytes) n) {x = made} (ok_is made m a.2) (s.1, ap (λ (t : List ℕ). 0x44 ∷ t) s.0.parts, (s.2, s.0.rest_fits))
 
-entries_found : (bytes : List ℕ) (m : ToClient) → AreBytes bytes → (seal_at bytes >>= (λ s. entries_at 0 8192 s.1 >>= (λ es. ended (say.Entries s.0 es.0, es.1)))) ≡ Ok m → Spells (0x45 ∷ bytes) m
+entries_found : (bytes : List ℕ) (m : ToClient) → AreBytes bytes → (seal_at bytes >>= (λ s. entries_at 0 8192 s.1 >>= (λ es. if_ended (say.Entries s.0 es.0, es.1)))) ≡ Ok m → Spells (0x45 ∷ bytes) m
 entries_found bytes m fits e =
-    let a = bind_ok (seal_at bytes) (λ s. entries_at 0 8192 s.1 >>= (λ es. ended (say.Entries s.0 es.0, es.1))) m e in
-    let b = bind_ok (entries_at 0 8192 a.0.1) (λ es. ended (say.Entries a.0.0 es.0, es.1)) m a.2 in
+    let a = bind_ok (seal_at bytes) (λ s. entries_at 0 8192 s.1 >>= (λ es. if_ended (say.Entries s.0 es.0, es.1))) m e in
+    let b = bind_ok (entries_at 0 8192 a.0.1) (λ es. if_ended (say.Entries a.0.0 es.0, es.1)) m a.2 in
     let s = seal_takes bytes a.0 fits a.1 in
     let es = entries_takes 0 8192 a.0.1 b.0 s.0.rest_fits b.1 in
     let made : ToClient = say.Entries a.0.0 b.0.0 in
@@ -55,17 +55,17 @@ entries_found bytes m fits e =
     let whole : bytes ≡ seal_field a.0.0 ++ entries_field b.0.0 = s.0.parts ∙ ap (λ (t : List ℕ). seal_field a.0.0 ++ t) last in
     subst (λ (n : ToClient). Spells (0x45 ∷ bytes) n) {x = made} d.1 ((s.1, (es.1.1, es.2)), ap (λ (t : List ℕ). 0x45 ∷ t) whole, (s.2, es.3))
 
-refused_found : (bytes : List ℕ) (m : ToClient) → AreBytes bytes → (byte_at bytes >>= (λ r. allowed (ltb 0 r.0 && leb r.0 7) r >>= (λ x. ended (say.Refused x.0, x.1)))) ≡ Ok m → Spells (0x46 ∷ bytes) m
+refused_found : (bytes : List ℕ) (m : ToClient) → AreBytes bytes → (byte_at bytes >>= (λ r. if_allowed (ltb 0 r.0 && leb r.0 7) r >>= (λ x. if_ended (say.Refused x.0, x.1)))) ≡ Ok m → Spells (0x46 ∷ bytes) m
 refused_found bytes m fits e =
-    let a = bind_ok (byte_at bytes) (λ r. allowed (ltb 0 r.0 && leb r.0 7) r >>= (λ x. ended (say.Refused x.0, x.1))) m e in
-    let b = bind_ok (allowed (ltb 0 a.0.0 && leb a.0.0 7) a.0) (λ x. ended (say.Refused x.0, x.1)) m a.2 in
+    let a = bind_ok (byte_at bytes) (λ r. if_allowed (ltb 0 r.0 && leb r.0 7) r >>= (λ x. if_ended (say.Refused x.0, x.1))) m e in
+    let b = bind_ok (if_allowed (ltb 0 a.0.0 && leb a.0.0 7) a.0) (λ x. if_ended (say.Refused x.0, x.1)) m a.2 in
     let t = within_takes 7 bytes a.0 b.0 fits a.1 b.1 in
     let made : ToClient = say.Refused b.0.0 in
     let d = ended_ok (made, b.0.1) m b.2 in
     let whole : bytes ≡ b.0.0 ∷ [] = t.0 ∙ ap (λ (r : List ℕ). b.0.0 ∷ r) d.0 in
     subst (λ (n : ToClient). Spells (0x46 ∷ bytes) n) {x = made} d.1 (t.1, ap (λ (r : List ℕ). 0x46 ∷ r) whole, tt)
 
-content_found : (bytes : List ℕ) (m : ToClient) → AreBytes bytes → allowed (leb (length bytes) 8388608) (say.Content bytes) ≡ Ok m → Spells (0x48 ∷ bytes) m
+content_found : (bytes : List ℕ) (m : ToClient) → AreBytes bytes → if_allowed (leb (length bytes) 8388608) (say.Content bytes) ≡ Ok m → Spells (0x48 ∷ bytes) m
 content_found bytes m fits e =
     let a = allowed_ok (leb (length bytes) 8388608) (say.Content bytes) m e in
     subst (λ (n : ToClient). Spells (0x48 ∷ bytes) n) a.1 (leb-true (length bytes) 8388608 a.0, refl, fits)
@@ -76,25 +76,25 @@ kind_found kind bytes m fits e =
     let P : ℕ → Type 0 = λ (n : ℕ). Spells (n ∷ bytes) m in
     let found : Result ToClient FieldFault = Ok m in
     let none : Result ToClient FieldFault = Err Value in
-    let absent : Result ToClient FieldFault = ended (say.Absent, bytes) in
+    let absent : Result ToClient FieldFault = if_ended (say.Absent, bytes) in
     let at4a = cond (eqb kind 0x4a) absent none in
-    let gone : Result ToClient FieldFault = ended (say.Gone, bytes) in
+    let gone : Result ToClient FieldFault = if_ended (say.Gone, bytes) in
     let at49 = cond (eqb kind 0x49) gone at4a in
-    let content : Result ToClient FieldFault = allowed (leb (length bytes) 8388608) (say.Content bytes) in
+    let content : Result ToClient FieldFault = if_allowed (leb (length bytes) 8388608) (say.Content bytes) in
     let at48 = cond (eqb kind 0x48) content at49 in
-    let kept : Result ToClient FieldFault = ended (say.Kept, bytes) in
+    let kept : Result ToClient FieldFault = if_ended (say.Kept, bytes) in
     let at47 = cond (eqb kind 0x47) kept at48 in
-    let refused : Result ToClient FieldFault = byte_at bytes >>= (λ r. allowed (ltb 0 r.0 && leb r.0 7) r >>= (λ x. ended (say.Refused x.0, x.1))) in
+    let refused : Result ToClient FieldFault = byte_at bytes >>= (λ r. if_allowed (ltb 0 r.0 && leb r.0 7) r >>= (λ x. if_ended (say.Refused x.0, x.1))) in
     let at46 = cond (eqb kind 0x46) refused at47 in
-    let entries : Result ToClient FieldFault = seal_at bytes >>= (λ s. entries_at 0 8192 s.1 >>= (λ es. ended (say.Entries s.0 es.0, es.1))) in
+    let entries : Result ToClient FieldFault = seal_at bytes >>= (λ s. entries_at 0 8192 s.1 >>= (λ es. if_ended (say.Entries s.0 es.0, es.1))) in
     let at45 = cond (eqb kind 0x45) entries at46 in
     let update : Result ToClient FieldFault = update_at bytes in
     let at44 = cond (eqb kind 0x44) update at45 in
-    let wait : Result ToClient FieldFault = ended (say.Wait, bytes) in
+    let wait : Result ToClient FieldFault = if_ended (say.Wait, bytes) in
     let at43 = cond (eqb kind 0x43) wait at44 in
     let reply : Result ToClient FieldFault = seal_at bytes >>= (λ s. entries_at 1 8192 s.1 >>= (λ es. Ok (say.Reply s.0 es.0 es.1))) in
     let at42 = cond (eqb kind 0x42) reply at43 in
-    let hi : Result ToClient FieldFault = ended (say.Hi, bytes) in
+    let hi : Result ToClient FieldFault = if_ended (say.Hi, bytes) in
     by_kind P kind 0x41 hi at42 found e (λ h. bare_found 0x41 say.Hi bytes m (tt, refl, tt) h)
     (λ e1. by_kind P kind 0x42 reply at43 found e1 (λ h. reply_found bytes m fits h)
     (λ e2. by_kind P kind 0x43 wait at44 found e2 (λ h. bare_found 0x43 say.Wait bytes m (tt, refl, tt) h)

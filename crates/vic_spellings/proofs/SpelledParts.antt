@@ -9,7 +9,7 @@ use Rattle.vic_dict.specs.Dictionary.{IsKey}
 use Rattle.vic_wire.specs.declared.message.Digest32.{Digest32}
 use Rattle.vic_wire.specs.Texts.{short_text}
 use Rattle.vic_wire.specs.Trees.{Tree, Empty, Leaf, Inner, Stub}
-use Rattle.vic_wire.specs.Reading.{FieldFault, Read, ◌>>=◌, byte_at, bytes_at, number_at, digest_at, allowed}
+use Rattle.vic_wire.specs.Reading.{FieldFault, Read, ◌>>=◌, byte_at, bytes_at, number_at, digest_at, if_allowed}
 use Rattle.vic_wire.specs.Reading as reading
 use Rattle.vic_wire.specs.Parts.{Part, IsNodeFrom, IsPart, node_field, part_text, PartFault, PartRead, BadTag, BadLength, IndexNotRising, ◌then◌, place, field, length_at, text_at, leaf_at, index_at, stub_at, node_at, tree_at, at_end, part_at, if_read, read_part}
 use Rattle.vic_spellings.specs.Spellings.{PartHoldsBytes, PartsAreSpelled}
@@ -50,7 +50,7 @@ pub text_takes : (all low high : ℕ) (bytes : List ℕ) (x : List ℕ × List �
 unfolding text_at
 text_takes all low high bytes x fits e =
     let a = then_ok (field all bytes BadLength (length_at low high bytes)) (λ n. field all n.1 BadLength (bytes_at n.0 n.1)) x e in
-    let n = bind_ok (byte_at bytes) (λ n. allowed (leb low n.0 && leb n.0 high) n) a.0 (field_ok all bytes BadLength (length_at low high bytes) a.0 a.1) in
+    let n = bind_ok (byte_at bytes) (λ n. if_allowed (leb low n.0 && leb n.0 high) n) a.0 (field_ok all bytes BadLength (length_at low high bytes) a.0 a.1) in
     let b = allowed_ok (leb low n.0.0 && leb n.0.0 high) n.0 a.0 n.2 in
     let g = and_parts (leb low n.0.0) (leb n.0.0 high) b.0 in
     let first : (bytes ≡ a.0.0 ∷ a.0.1) × (a.0.0 < 256) × AreBytes a.0.1 = subst (λ (y : ℕ × List ℕ). (bytes ≡ y.0 ∷ y.1) × (y.0 < 256) × AreBytes y.1) b.1 (byte_takes bytes n.0 fits n.1) in
@@ -85,7 +85,7 @@ leaf_again all k v rest key value =
 
 pub index_takes : (low : ℕ) (bytes : List ℕ) (x : ℕ × List ℕ) → AreBytes bytes → index_at low bytes ≡ Ok x → Takes bytes (to_be_bytes w16 x.0) x.1 × ((low ≤ x.0) × (x.0 < 2296))
 index_takes low bytes x fits e =
-    let a = bind_ok (number_at w16 bytes) (λ i. allowed (leb low i.0 && ltb i.0 2296) i) x e in
+    let a = bind_ok (number_at w16 bytes) (λ i. if_allowed (leb low i.0 && ltb i.0 2296) i) x e in
     let b = allowed_ok (leb low a.0.0 && ltb a.0.0 2296) a.0 x a.2 in
     let g = and_parts (leb low a.0.0) (ltb a.0.0 2296) b.0 in
     let t = w16_takes bytes a.0 fits a.1 in
@@ -221,8 +221,8 @@ pub part_takes : (bytes : List ℕ) (t : Part) → AreBytes bytes → read_part 
 unfolding read_part part_at
 part_takes bytes t fits e =
     let all = length bytes in
-    let a = then_ok (field all bytes BadTag (byte_at bytes >>= (λ form. allowed (form.0 == 1) form))) (λ form. tree_at all form.1 then at_end all) t (read_ok (part_at bytes) t e) in
-    let f = bind_ok (byte_at bytes) (λ form. allowed (form.0 == 1) form) a.0 (field_ok all bytes BadTag (byte_at bytes >>= (λ form. allowed (form.0 == 1) form)) a.0 a.1) in
+    let a = then_ok (field all bytes BadTag (byte_at bytes >>= (λ form. if_allowed (form.0 == 1) form))) (λ form. tree_at all form.1 then at_end all) t (read_ok (part_at bytes) t e) in
+    let f = bind_ok (byte_at bytes) (λ form. if_allowed (form.0 == 1) form) a.0 (field_ok all bytes BadTag (byte_at bytes >>= (λ form. if_allowed (form.0 == 1) form)) a.0 a.1) in
     let g = allowed_ok (eqb f.0.0 1) f.0 a.0 f.2 in
     let form = byte_takes bytes f.0 fits f.1 in
     let rest_is : f.0.1 ≡ a.0.1 = ap (λ (y : ℕ × List ℕ). y.1) g.1 in

@@ -12,7 +12,7 @@ use Rattle.vic_wire.specs.declared.message.ToServer.{ToServer}
 use Rattle.vic_wire.specs.declared.message.ToServer.TheVariants as ask
 use Rattle.vic_wire.specs.Texts.{op_text, mode_byte, status_byte}
 use Rattle.vic_wire.specs.Messages.{IsDigest, request_text, HasRequestSpelling}
-use Rattle.vic_wire.specs.Reading.{FieldFault, Value, ◌>>=◌, byte_at, number_at, allowed, digest_at, op_at, ended, mode_of, hello_at, invoke_at, commit_at, seal_request_at, sync_at, fetch_at, request_of_kind, some_read, read_request}
+use Rattle.vic_wire.specs.Reading.{FieldFault, Value, ◌>>=◌, byte_at, number_at, if_allowed, digest_at, op_at, if_ended, mode_of, hello_at, invoke_at, commit_at, seal_request_at, sync_at, fetch_at, request_of_kind, some_read, read_request}
 use Rattle.vic_spellings.specs.Spellings.{RequestHoldsBytes}
 use Rattle.vic_spellings.proofs.Steps.{bytes-nil, bind_ok, allowed_ok, by_kind, err_is_none, ended_ok, some_ok, ok_is, Takes, Takes-then}
 use Rattle.vic_spellings.proofs.Fields.{byte_takes, w32_takes, w32_again, positive_takes, digest_takes, digest_again}
@@ -23,7 +23,7 @@ abbrev pub SpellsRequest : List ℕ → ToServer → Type 0
 SpellsRequest bytes m = HasRequestSpelling m × (bytes ≡ request_text m) × RequestHoldsBytes m
 
 -- a request of one byte
-bare_found : (kind : ℕ) (bare : ToServer) (bytes : List ℕ) (m : ToServer) → SpellsRequest (kind ∷ []) bare → ended (bare, bytes) ≡ Ok m → SpellsRequest (kind ∷ bytes) m
+bare_found : (kind : ℕ) (bare : ToServer) (bytes : List ℕ) (m : ToServer) → SpellsRequest (kind ∷ []) bare → if_ended (bare, bytes) ≡ Ok m → SpellsRequest (kind ∷ bytes) m
 bare_found kind bare bytes m is e =
     let d = ended_ok (bare, bytes) m e in
     subst (λ (n : ToServer). SpellsRequest (kind ∷ bytes) n) d.1 (is.0, ap (λ (t : List ℕ). kind ∷ t) d.0 ∙ is.1, is.2)
@@ -58,11 +58,11 @@ hello_spelled bytes after_version after_kind rest b kind client e f g h i = cc
 hello_found : (bytes : List ℕ) (m : ToServer) → AreBytes bytes → hello_at bytes ≡ Ok m → SpellsRequest (0x21 ∷ bytes) m
 unfolding hello_at
 hello_found bytes m fits e =
-    let a = bind_ok (byte_at bytes) (λ v. allowed (eqb v.0 1) v >>= λ version. byte_at version.1 >>= λ m. mode_of m.0 >>= λ kind. byte_at m.1 >>= λ c. ended (ask.Hello kind c.0, c.1)) m e in
-    let b = bind_ok (allowed (eqb a.0.0 1) a.0) (λ version. byte_at version.1 >>= λ m. mode_of m.0 >>= λ kind. byte_at m.1 >>= λ c. ended (ask.Hello kind c.0, c.1)) m a.2 in
-    let c = bind_ok (byte_at b.0.1) (λ m. mode_of m.0 >>= λ kind. byte_at m.1 >>= λ c. ended (ask.Hello kind c.0, c.1)) m b.2 in
-    let d = bind_ok (mode_of c.0.0) (λ kind. byte_at c.0.1 >>= λ c. ended (ask.Hello kind c.0, c.1)) m c.2 in
-    let f = bind_ok (byte_at c.0.1) (λ c. ended (ask.Hello d.0 c.0, c.1)) m d.2 in
+    let a = bind_ok (byte_at bytes) (λ v. if_allowed (eqb v.0 1) v >>= λ version. byte_at version.1 >>= λ m. mode_of m.0 >>= λ kind. byte_at m.1 >>= λ c. if_ended (ask.Hello kind c.0, c.1)) m e in
+    let b = bind_ok (if_allowed (eqb a.0.0 1) a.0) (λ version. byte_at version.1 >>= λ m. mode_of m.0 >>= λ kind. byte_at m.1 >>= λ c. if_ended (ask.Hello kind c.0, c.1)) m a.2 in
+    let c = bind_ok (byte_at b.0.1) (λ m. mode_of m.0 >>= λ kind. byte_at m.1 >>= λ c. if_ended (ask.Hello kind c.0, c.1)) m b.2 in
+    let d = bind_ok (mode_of c.0.0) (λ kind. byte_at c.0.1 >>= λ c. if_ended (ask.Hello kind c.0, c.1)) m c.2 in
+    let f = bind_ok (byte_at c.0.1) (λ c. if_ended (ask.Hello d.0 c.0, c.1)) m d.2 in
     let made : ToServer = ask.Hello d.0 f.0.0 in
     let g = ended_ok (made, f.0.1) m f.2 in
     let version = version_takes bytes a.0 b.0 fits a.1 b.1 in
@@ -70,7 +70,7 @@ hello_found bytes m fits e =
     let client = byte_takes c.0.1 f.0 kind.2 f.1 in
     subst (λ (n : ToServer). SpellsRequest (0x21 ∷ bytes) n) {x = made} g.1 (client.1, hello_spelled bytes b.0.1 c.0.1 f.0.1 c.0.0 d.0 f.0.0 version.0 kind.0 (mode_takes c.0.0 d.0 d.1) client.0 g.0, tt)
   where
-    version_takes : (bytes : List ℕ) (x y : ℕ × List ℕ) → AreBytes bytes → byte_at bytes ≡ Ok x → allowed (eqb x.0 1) x ≡ Ok y → (bytes ≡ 1 ∷ y.1) × AreBytes y.1
+    version_takes : (bytes : List ℕ) (x y : ℕ × List ℕ) → AreBytes bytes → byte_at bytes ≡ Ok x → if_allowed (eqb x.0 1) x ≡ Ok y → (bytes ≡ 1 ∷ y.1) × AreBytes y.1
     version_takes bytes x y fits e f =
         let a = allowed_ok (eqb x.0 1) x y f in
         let t = byte_takes bytes x fits e in
@@ -79,11 +79,11 @@ hello_found bytes m fits e =
 invoke_found : (bytes : List ℕ) (m : ToServer) → AreBytes bytes → invoke_at bytes ≡ Ok m → SpellsRequest (0x22 ∷ bytes) m
 unfolding invoke_at
 invoke_found bytes m fits e =
-    let a = bind_ok (number_at w32 bytes) (λ known. number_at w32 known.1 >>= λ s. allowed (ltb 0 s.0) s >>= λ seq. op_at seq.1 >>= λ o. digest_at o.1 >>= λ tag. ended (ask.Invoke known.0 seq.0 o.0 tag.0, tag.1)) m e in
-    let b = bind_ok (number_at w32 a.0.1) (λ s. allowed (ltb 0 s.0) s >>= λ seq. op_at seq.1 >>= λ o. digest_at o.1 >>= λ tag. ended (ask.Invoke a.0.0 seq.0 o.0 tag.0, tag.1)) m a.2 in
-    let c = bind_ok (allowed (ltb 0 b.0.0) b.0) (λ seq. op_at seq.1 >>= λ o. digest_at o.1 >>= λ tag. ended (ask.Invoke a.0.0 seq.0 o.0 tag.0, tag.1)) m b.2 in
-    let d = bind_ok (op_at c.0.1) (λ o. digest_at o.1 >>= λ tag. ended (ask.Invoke a.0.0 c.0.0 o.0 tag.0, tag.1)) m c.2 in
-    let f = bind_ok (digest_at d.0.1) (λ tag. ended (ask.Invoke a.0.0 c.0.0 d.0.0 tag.0, tag.1)) m d.2 in
+    let a = bind_ok (number_at w32 bytes) (λ known. number_at w32 known.1 >>= λ s. if_allowed (ltb 0 s.0) s >>= λ seq. op_at seq.1 >>= λ o. digest_at o.1 >>= λ tag. if_ended (ask.Invoke known.0 seq.0 o.0 tag.0, tag.1)) m e in
+    let b = bind_ok (number_at w32 a.0.1) (λ s. if_allowed (ltb 0 s.0) s >>= λ seq. op_at seq.1 >>= λ o. digest_at o.1 >>= λ tag. if_ended (ask.Invoke a.0.0 seq.0 o.0 tag.0, tag.1)) m a.2 in
+    let c = bind_ok (if_allowed (ltb 0 b.0.0) b.0) (λ seq. op_at seq.1 >>= λ o. digest_at o.1 >>= λ tag. if_ended (ask.Invoke a.0.0 seq.0 o.0 tag.0, tag.1)) m b.2 in
+    let d = bind_ok (op_at c.0.1) (λ o. digest_at o.1 >>= λ tag. if_ended (ask.Invoke a.0.0 c.0.0 o.0 tag.0, tag.1)) m c.2 in
+    let f = bind_ok (digest_at d.0.1) (λ tag. if_ended (ask.Invoke a.0.0 c.0.0 d.0.0 tag.0, tag.1)) m d.2 in
     let made : ToServer = ask.Invoke a.0.0 c.0.0 d.0.0 f.0.0 in
     let g = ended_ok (made, f.0.1) m f.2 in
     let known = w32_takes bytes a.0 fits a.1 in
@@ -97,7 +97,7 @@ invoke_found bytes m fits e =
     subst (λ (n : ToServer). SpellsRequest (0x22 ∷ bytes) n) {x = made} g.1 ((known.1, (seq.1, ((o.1, o.2), tag.1))), whole, tag.2)
 
 -- the status byte, which is read as whether it is 0
-status_takes : (bytes : List ℕ) (x y : ℕ × List ℕ) → AreBytes bytes → byte_at bytes ≡ Ok x → allowed (leb x.0 1) x ≡ Ok y → (bytes ≡ status_byte (eqb y.0 0) ∷ y.1) × AreBytes y.1
+status_takes : (bytes : List ℕ) (x y : ℕ × List ℕ) → AreBytes bytes → byte_at bytes ≡ Ok x → if_allowed (leb x.0 1) x ≡ Ok y → (bytes ≡ status_byte (eqb y.0 0) ∷ y.1) × AreBytes y.1
 status_takes bytes x y fits e f =
     let a = allowed_ok (leb x.0 1) x y f in
     let t = byte_takes bytes x fits e in
@@ -112,11 +112,11 @@ status_takes bytes x y fits e f =
 commit_found : (bytes : List ℕ) (m : ToServer) → AreBytes bytes → commit_at bytes ≡ Ok m → SpellsRequest (0x23 ∷ bytes) m
 unfolding commit_at
 commit_found bytes m fits e =
-    let a = bind_ok (number_at w32 bytes) (λ p. allowed (ltb 0 p.0) p >>= λ position. byte_at position.1 >>= λ s. allowed (leb s.0 1) s >>= λ status. digest_at status.1 >>= λ tag. ended (ask.Commit position.0 (eqb status.0 0) tag.0, tag.1)) m e in
-    let b = bind_ok (allowed (ltb 0 a.0.0) a.0) (λ position. byte_at position.1 >>= λ s. allowed (leb s.0 1) s >>= λ status. digest_at status.1 >>= λ tag. ended (ask.Commit position.0 (eqb status.0 0) tag.0, tag.1)) m a.2 in
-    let c = bind_ok (byte_at b.0.1) (λ s. allowed (leb s.0 1) s >>= λ status. digest_at status.1 >>= λ tag. ended (ask.Commit b.0.0 (eqb status.0 0) tag.0, tag.1)) m b.2 in
-    let d = bind_ok (allowed (leb c.0.0 1) c.0) (λ status. digest_at status.1 >>= λ tag. ended (ask.Commit b.0.0 (eqb status.0 0) tag.0, tag.1)) m c.2 in
-    let f = bind_ok (digest_at d.0.1) (λ tag. ended (ask.Commit b.0.0 (eqb d.0.0 0) tag.0, tag.1)) m d.2 in
+    let a = bind_ok (number_at w32 bytes) (λ p. if_allowed (ltb 0 p.0) p >>= λ position. byte_at position.1 >>= λ s. if_allowed (leb s.0 1) s >>= λ status. digest_at status.1 >>= λ tag. if_ended (ask.Commit position.0 (eqb status.0 0) tag.0, tag.1)) m e in
+    let b = bind_ok (if_allowed (ltb 0 a.0.0) a.0) (λ position. byte_at position.1 >>= λ s. if_allowed (leb s.0 1) s >>= λ status. digest_at status.1 >>= λ tag. if_ended (ask.Commit position.0 (eqb status.0 0) tag.0, tag.1)) m a.2 in
+    let c = bind_ok (byte_at b.0.1) (λ s. if_allowed (leb s.0 1) s >>= λ status. digest_at status.1 >>= λ tag. if_ended (ask.Commit b.0.0 (eqb status.0 0) tag.0, tag.1)) m b.2 in
+    let d = bind_ok (if_allowed (leb c.0.0 1) c.0) (λ status. digest_at status.1 >>= λ tag. if_ended (ask.Commit b.0.0 (eqb status.0 0) tag.0, tag.1)) m c.2 in
+    let f = bind_ok (digest_at d.0.1) (λ tag. if_ended (ask.Commit b.0.0 (eqb d.0.0 0) tag.0, tag.1)) m d.2 in
     let made : ToServer = ask.Commit b.0.0 (eqb d.0.0 0) f.0.0 in
     let g = ended_ok (made, f.0.1) m f.2 in
     let position = positive_takes bytes a.0 b.0 fits a.1 b.1 in
@@ -130,10 +130,10 @@ commit_found bytes m fits e =
 seal_found : (bytes : List ℕ) (m : ToServer) → AreBytes bytes → seal_request_at bytes ≡ Ok m → SpellsRequest (0x25 ∷ bytes) m
 unfolding seal_request_at
 seal_found bytes m fits e =
-    let a = bind_ok (number_at w32 bytes) (λ p. allowed (ltb 0 p.0) p >>= λ position. digest_at position.1 >>= λ root. digest_at root.1 >>= λ tag. ended (ask.Seal position.0 root.0 tag.0, tag.1)) m e in
-    let b = bind_ok (allowed (ltb 0 a.0.0) a.0) (λ position. digest_at position.1 >>= λ root. digest_at root.1 >>= λ tag. ended (ask.Seal position.0 root.0 tag.0, tag.1)) m a.2 in
-    let c = bind_ok (digest_at b.0.1) (λ root. digest_at root.1 >>= λ tag. ended (ask.Seal b.0.0 root.0 tag.0, tag.1)) m b.2 in
-    let d = bind_ok (digest_at c.0.1) (λ tag. ended (ask.Seal b.0.0 c.0.0 tag.0, tag.1)) m c.2 in
+    let a = bind_ok (number_at w32 bytes) (λ p. if_allowed (ltb 0 p.0) p >>= λ position. digest_at position.1 >>= λ root. digest_at root.1 >>= λ tag. if_ended (ask.Seal position.0 root.0 tag.0, tag.1)) m e in
+    let b = bind_ok (if_allowed (ltb 0 a.0.0) a.0) (λ position. digest_at position.1 >>= λ root. digest_at root.1 >>= λ tag. if_ended (ask.Seal position.0 root.0 tag.0, tag.1)) m a.2 in
+    let c = bind_ok (digest_at b.0.1) (λ root. digest_at root.1 >>= λ tag. if_ended (ask.Seal b.0.0 root.0 tag.0, tag.1)) m b.2 in
+    let d = bind_ok (digest_at c.0.1) (λ tag. if_ended (ask.Seal b.0.0 c.0.0 tag.0, tag.1)) m c.2 in
     let made : ToServer = ask.Seal b.0.0 c.0.0 d.0.0 in
     let g = ended_ok (made, d.0.1) m d.2 in
     let position = positive_takes bytes a.0 b.0 fits a.1 b.1 in
@@ -147,14 +147,14 @@ seal_found bytes m fits e =
 sync_found : (bytes : List ℕ) (m : ToServer) → AreBytes bytes → sync_at bytes ≡ Ok m → SpellsRequest (0x26 ∷ bytes) m
 unfolding sync_at
 sync_found bytes m fits e =
-    let a = bind_ok (number_at w32 bytes) (λ known. ended (ask.Sync known.0, known.1)) m e in
+    let a = bind_ok (number_at w32 bytes) (λ known. if_ended (ask.Sync known.0, known.1)) m e in
     let made : ToServer = ask.Sync a.0.0 in
     let g = ended_ok (made, a.0.1) m a.2 in
     let known = w32_takes bytes a.0 fits a.1 in
     let whole = taken_all 0x26 bytes (to_be_bytes w32 a.0.0) a.0.1 known.0 g.0 in
     subst (λ (n : ToServer). SpellsRequest (0x26 ∷ bytes) n) {x = made} g.1 (known.1, whole, tt)
 
-keep_found : (bytes : List ℕ) (m : ToServer) → AreBytes bytes → allowed (leb (length bytes) 8388608) (ask.Keep bytes) ≡ Ok m → SpellsRequest (0x27 ∷ bytes) m
+keep_found : (bytes : List ℕ) (m : ToServer) → AreBytes bytes → if_allowed (leb (length bytes) 8388608) (ask.Keep bytes) ≡ Ok m → SpellsRequest (0x27 ∷ bytes) m
 keep_found bytes m fits e =
     let a = allowed_ok (leb (length bytes) 8388608) (ask.Keep bytes) m e in
     subst (λ (n : ToServer). SpellsRequest (0x27 ∷ bytes) n) a.1 (leb-true (length bytes) 8388608 a.0, refl, fits)
@@ -162,7 +162,7 @@ keep_found bytes m fits e =
 fetch_found : (bytes : List ℕ) (m : ToServer) → AreBytes bytes → fetch_at bytes ≡ Ok m → SpellsRequest (0x28 ∷ bytes) m
 unfolding fetch_at
 fetch_found bytes m fits e =
-    let a = bind_ok (digest_at bytes) (λ hash. ended (ask.Fetch hash.0, hash.1)) m e in
+    let a = bind_ok (digest_at bytes) (λ hash. if_ended (ask.Fetch hash.0, hash.1)) m e in
     let made : ToServer = ask.Fetch a.0.0 in
     let g = ended_ok (made, a.0.1) m a.2 in
     let hash = digest_takes bytes a.0 fits a.1 in
@@ -175,14 +175,14 @@ kind_found kind bytes m fits e =
     let P : ℕ → Type 0 = λ (n : ℕ). SpellsRequest (n ∷ bytes) m in
     let found : Result ToServer FieldFault = Ok m in
     let none : Result ToServer FieldFault = Err Value in
-    let bye : Result ToServer FieldFault = ended (ask.Bye, bytes) in
+    let bye : Result ToServer FieldFault = if_ended (ask.Bye, bytes) in
     let at29 = cond (eqb kind 0x29) bye none in
     let at28 = cond (eqb kind 0x28) (fetch_at bytes) at29 in
-    let keep : Result ToServer FieldFault = allowed (leb (length bytes) 8388608) (ask.Keep bytes) in
+    let keep : Result ToServer FieldFault = if_allowed (leb (length bytes) 8388608) (ask.Keep bytes) in
     let at27 = cond (eqb kind 0x27) keep at28 in
     let at26 = cond (eqb kind 0x26) (sync_at bytes) at27 in
     let at25 = cond (eqb kind 0x25) (seal_request_at bytes) at26 in
-    let poll : Result ToServer FieldFault = ended (ask.Poll, bytes) in
+    let poll : Result ToServer FieldFault = if_ended (ask.Poll, bytes) in
     let at24 = cond (eqb kind 0x24) poll at25 in
     let at23 = cond (eqb kind 0x23) (commit_at bytes) at24 in
     let at22 = cond (eqb kind 0x22) (invoke_at bytes) at23 in
@@ -243,7 +243,7 @@ seal_request_again position root tag fits =
 
 sync_again : (known : ℕ) → known < 2 ^ 32 → sync_at (to_be_bytes w32 known ++ []) ≡ Ok (ask.Sync known)
 unfolding sync_at
-sync_again known fits = ap (λ (r : Result (ℕ × List ℕ) FieldFault). r >>= λ n. ended (ask.Sync n.0, n.1)) (w32_again known [] fits)
+sync_again known fits = ap (λ (r : Result (ℕ × List ℕ) FieldFault). r >>= λ n. if_ended (ask.Sync n.0, n.1)) (w32_again known [] fits)
 
 keep_again : (content : List ℕ) → HasRequestSpelling (ask.Keep content) → request_of_kind 0x27 content ≡ Ok (ask.Keep content)
 unfolding request_of_kind

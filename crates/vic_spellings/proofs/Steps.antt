@@ -3,7 +3,7 @@ use Rattle.std.proofs.Common.{◌≡◌, ℕ, suc, ◌+◌, Bool, true, false, c
 use Rattle.std.proofs.lemmas.Bool.{cases_lt, eqb-true}
 use Rattle.std.proofs.lemmas.List.{nil_from_length, length-take, get_or-drop, get_or-take, get_or_past}
 use Rattle.vic_dict.specs.Lists.{AreBytes}
-use Rattle.vic_wire.specs.Reading.{FieldFault, ◌>>=◌, allowed, ended, some_read}
+use Rattle.vic_wire.specs.Reading.{FieldFault, ◌>>=◌, if_allowed, if_ended, some_read}
 
 -- ---- lists of bytes
 
@@ -36,7 +36,7 @@ guard_ok true d x y e = absurd cc
 guard_ok false d x y e = (refl, cc)
 
 -- a value that was allowed
-pub allowed_ok : {A : Type 0} (b : Bool) (x y : A) → allowed b x ≡ Ok y → (b ≡ true) × (x ≡ y)
+pub allowed_ok : {A : Type 0} (b : Bool) (x y : A) → if_allowed b x ≡ Ok y → (b ≡ true) × (x ≡ y)
 allowed_ok true x y e = (refl, cc)
 allowed_ok false x y e = absurd cc
 
@@ -66,7 +66,7 @@ pub err_is_none : {A : Type 0} (d : FieldFault) (x : A) → fails d ≡ done x �
 err_is_none d x e = absurd cc
 
 -- a value after which nothing followed
-pub ended_ok : {A : Type 0} (x : A × List ℕ) (y : A) → ended x ≡ Ok y → (x.1 ≡ []) × (x.0 ≡ y)
+pub ended_ok : {A : Type 0} (x : A × List ℕ) (y : A) → if_ended x ≡ Ok y → (x.1 ≡ []) × (x.0 ≡ y)
 ended_ok x y e = let a = allowed_ok (eqb (length x.1) 0) x.0 y e in (nil_from_length x.1 (eqb-true (length x.1) 0 a.0), a.1)
 
 pub some_ok : {A : Type 0} (r : Result A FieldFault) (x : A) → some_read r ≡ Some x → r ≡ Ok x

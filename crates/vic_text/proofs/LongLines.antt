@@ -2,7 +2,7 @@
 use Rattle.std.proofs.Common.{◌≡◌, ℕ, List, [], ◌∷◌, None, refl, if◌then◌else◌, nat_eq, true, false}
 use Rattle.vic_dict.specs.declared.op.Mode.{Mode}
 use Rattle.vic_text.specs.ClientLines.{plain_line}
-use Rattle.vic_script.specs.Lines.{words_of, put_first, header_of, next_header_of, op_of, object_of, called, event_of}
+use Rattle.vic_script.specs.Lines.{words_of, put_first, header_of, next_header_of, op_of, object_of, called_line, event_of}
 
 -- every text has a word, though it may be empty
 pub put_first_some : (b : ℕ) (pieces : List (List ℕ)) → (w : List ℕ) × (ws : List (List ℕ)) × (put_first b pieces ≡ w ∷ ws)
@@ -25,7 +25,7 @@ header_more name number text = let some = words_some text in rw some.2 refl
 pub next_header_long : (name number third text : List ℕ) → next_header_of (name ∷ number ∷ third ∷ words_of text) ≡ None
 next_header_long name number third text = let some = words_some text in rw some.2 refl
 
-pub event_long : (kind : Mode) (name number third text : List ℕ) → event_of kind (name ∷ number ∷ third ∷ words_of text) ≡ called kind name number (third ∷ words_of text)
+pub event_long : (kind : Mode) (name number third text : List ℕ) → event_of kind (name ∷ number ∷ third ∷ words_of text) ≡ called_line kind name number (third ∷ words_of text)
 event_long kind name number third text = let some = words_some text in rw some.2 refl
 
 pub op_of_four : (name a b text : List ℕ) → op_of (name ∷ a ∷ b ∷ words_of text) ≡ None

@@ -2,7 +2,7 @@
 
 ghost use Rattle.std.specs.Prelude.{◌≡◌, [], ◌∷◌, IfOk, Some, None};
 ghost use Rattle.vic_script.specs.Words.{word_bytes, word_number, word_capped};
-ghost use Rattle.vic_script.specs.Lines.{words_of, within as within_of, key_of, value_of, prefix_of, op_of, call_of, object_of, object_call_of, named, give_of, pair_of, copy_of, paired, called, group_line, header_of, key_line as key_by, kind_named as kind_by, hostile_line as hostile_by, next_header_of, or_line, is_skipped as skip_test, line_in, line_of as line_by};
+ghost use Rattle.vic_script.specs.Lines.{words_of, word_within, key_of, value_of, prefix_of, op_of, call_of, object_of, object_call_of, named_line, give_of, pair_of, copy_of, paired_line, called_line, group_line, header_of, key_line as key_by, kind_named as kind_by, hostile_line as hostile_by, next_header_of, or_line, is_skipped as skip_test, line_in, line_of as line_by};
 
 use crate::object::object_of_words;
 use crate::word::{are_key_digits, bytes_of, is_name, number_of, split_word};
@@ -96,7 +96,7 @@ fn two_words(
 
 /// A line of two words behind the first one of a header.
 fn later_line(alloc: Global, name: &[u8], word: &[u8]) -> Result<Option<Line>, NoMemory>
-    ensures { IfOk result (λ o. o ≡ or_line (next_header_of (name.now ∷ word.now ∷ [])) (named name.now word.now)) }
+    ensures { IfOk result (λ o. o ≡ or_line (next_header_of (name.now ∷ word.now ∷ [])) (named_line name.now word.now)) }
 {
     match next_header_line(alloc, name, word)? {
         Some(line) => Ok(Some(line)),
@@ -208,7 +208,7 @@ fn objects_line(number: &[u8]) -> Option<Line>
 }
 
 fn named_line(name: &[u8], number: &[u8]) -> Option<Line>
-    ensures { result ≡ named name.now number.now }
+    ensures { result ≡ named_line name.now number.now }
 {
     if is_name(name, b"poll") {
         number_of(number).map(Line::Poll)
@@ -256,7 +256,7 @@ fn three_words(
     first: &[u8],
     second: &[u8],
 ) -> Result<Option<Line>, NoMemory>
-    ensures { IfOk result (λ o. o ≡ or_line (next_header_of (name.now ∷ first.now ∷ second.now ∷ [])) (paired name.now first.now second.now)) }
+    ensures { IfOk result (λ o. o ≡ or_line (next_header_of (name.now ∷ first.now ∷ second.now ∷ [])) (paired_line name.now first.now second.now)) }
 {
     match last_header_line(alloc, name, first, second)? {
         Some(line) => Ok(Some(line)),
@@ -287,7 +287,7 @@ fn paired_line(
     first: &[u8],
     second: &[u8],
 ) -> Result<Option<Line>, NoMemory>
-    ensures { IfOk result (λ o. o ≡ paired name.now first.now second.now) }
+    ensures { IfOk result (λ o. o ≡ paired_line name.now first.now second.now) }
 {
     if is_name(name, b"give") {
         give_line(alloc, first, second)
@@ -354,7 +354,7 @@ fn called_line(
     call_name: &[u8],
     others: &[u8],
 ) -> Result<Option<Line>, NoMemory>
-    ensures { IfOk result (λ o. o ≡ called kind name.now client.now (call_name.now ∷ words_of others.now)) }
+    ensures { IfOk result (λ o. o ≡ called_line kind name.now client.now (call_name.now ∷ words_of others.now)) }
 {
     if !is_name(name, b"call") {
         return Ok(None);
@@ -453,7 +453,7 @@ fn put_of_words(
 
 /// Bytes of at least and at most so many.
 pub(crate) fn within(least: usize, most: usize, bytes: Option<Bytes>) -> Option<Bytes>
-    ensures { result ≡ within_of least most bytes }
+    ensures { result ≡ word_within least most bytes }
 {
     match bytes {
         Some(bytes) => {

@@ -14,7 +14,7 @@ use Rattle.vic_wire.specs.Bits.{key_bit}
 use Rattle.vic_wire.specs.Conflict.{looks_at}
 use Rattle.vic_wire.specs.Trees.{Tree, Empty, Leaf, Inner, Stub, Pair, pairs_of, tree_of}
 use Rattle.vic_wire.specs.Cuts.{IsCut}
-use Rattle.vic_wire.specs.Walks.{end_at, is_stub, below, least, is_whole, leaf_has_prefix, reaches, gathered, walked}
+use Rattle.vic_wire.specs.Walks.{end_at, is_stub, below, least, is_whole, leaf_has_prefix, reaches, dictionary_with_pairs, walked}
 use Rattle.vic_tree.specs.Grown.{HasKey, IsGrown, IsTree, HasByteEntries, HasShortEntries, HasByteWords, LeavesFit}
 use Rattle.vic_tree.specs.Shown.{names_below, names_in}
 use Rattle.vic_tree.proofs.Lists.{key_cmp, found, or_else, or_else-none, found-none, found-append, HasKey-left, HasKey-right}
@@ -76,7 +76,7 @@ kept_has p k (x ∷ ps) s (inr more) e = kept_has p k ps s more (kept_one p k x 
 -- ---- on a cut
 
 -- a leaf without the prefix hasn't a key with it
-lone_none : (p k : List ℕ) (l : Tree) → IsEnd l → leaf_has_prefix p l ≡ false → starts_with nat_eq k p ≡ true → finmap.get (gathered nothing (pairs_of l)) k ≡ None
+lone_none : (p k : List ℕ) (l : Tree) → IsEnd l → leaf_has_prefix p l ≡ false → starts_with nat_eq k p ≡ true → finmap.get (dictionary_with_pairs nothing (pairs_of l)) k ≡ None
 lone_none p k Empty e h s = get-empty key_cmp k
 lone_none p k (Leaf q w) e h s =
     get_laid ((q, w) ∷ []) nothing k tt ∙ ap (or_else (found k ((q, w) ∷ []))) (get-empty key_cmp k) ∙ or_else-none (found k ((q, w) ∷ []))
@@ -94,17 +94,17 @@ is_end (Inner i l r) n = is_end l n
 is_end (Stub root) n = absurd (true_not_false n)
 
 -- the leaves below the prefix's node have what the pairs have
-below_all : (p k : List ℕ) → starts_with nat_eq k p ≡ true → (t : Tree) → IsTree t → finmap.get (gathered nothing (pairs_of (below p t))) k ≡ found k (pairs_of t)
+below_all : (p k : List ℕ) → starts_with nat_eq k p ≡ true → (t : Tree) → IsTree t → finmap.get (dictionary_with_pairs nothing (pairs_of (below p t))) k ≡ found k (pairs_of t)
 below_all p k s Empty g = get-empty key_cmp k
 below_all p k s (Leaf q w) g = below_grown (Leaf q w) g
   where
-    below_grown : (t : Tree) → IsGrown t → finmap.get (gathered nothing (pairs_of (below p t))) k ≡ found k (pairs_of t)
+    below_grown : (t : Tree) → IsGrown t → finmap.get (dictionary_with_pairs nothing (pairs_of (below p t))) k ≡ found k (pairs_of t)
     below_grown t g =
         get_laid (pairs_of (below p t)) nothing k (grown_sorted (below p t) (below_is p t g).grown)
         ∙ ap (or_else (found k (pairs_of (below p t)))) (get-empty key_cmp k) ∙ or_else-none (found k (pairs_of (below p t))) ∙ sym (found-below p k s t g)
 below_all p k s (Inner i l r) g = below_grown (Inner i l r) g
   where
-    below_grown : (t : Tree) → IsGrown t → finmap.get (gathered nothing (pairs_of (below p t))) k ≡ found k (pairs_of t)
+    below_grown : (t : Tree) → IsGrown t → finmap.get (dictionary_with_pairs nothing (pairs_of (below p t))) k ≡ found k (pairs_of t)
     below_grown t g =
         get_laid (pairs_of (below p t)) nothing k (grown_sorted (below p t) (below_is p t g).grown)
         ∙ ap (or_else (found k (pairs_of (below p t)))) (get-empty key_cmp k) ∙ or_else-none (found k (pairs_of (below p t))) ∙ sym (found-below p k s t g)
@@ -124,8 +124,8 @@ module _ (d : Dictionary) (keys : HasByteKeys d) (c : Tree) (cut : IsCut c (tree
       let l = least-cut (below p c) (below p (tree_of d)) b n in
       let there : found k (pairs_of (tree_of d)) ≡ finmap.get d k = ap (found k) tree.pairs ∙ sym (get-entries d k) in
       elim (leaf_has_prefix p (least (below p c))) as (λ x. leaf_has_prefix p (least (below p c)) ≡ x → cond x (is_whole (below p c)) (not (is_stub (least (below p c)))) ≡ true
-      → finmap.get (gathered nothing (cond x (pairs_of (below p c)) (pairs_of (least (below p c))))) k ≡ finmap.get d k) [
-        | true ↦ λ h w. ap (λ x. finmap.get (gathered nothing (pairs_of x)) k) (whole-cut (below p c) (below p (tree_of d)) b w) ∙ below_all p k s (tree_of d) tree.tree ∙ there
+      → finmap.get (dictionary_with_pairs nothing (cond x (pairs_of (below p c)) (pairs_of (least (below p c))))) k ≡ finmap.get d k) [
+        | true ↦ λ h w. ap (λ x. finmap.get (dictionary_with_pairs nothing (pairs_of x)) k) (whole-cut (below p c) (below p (tree_of d)) b w) ∙ below_all p k s (tree_of d) tree.tree ∙ there
         | false ↦ λ h w.
             let none : names_in p (tree_of d) ≡ [] = ap (λ x. cond (leaf_has_prefix p x) (keys_of (pairs_of (below p (tree_of d)))) []) (sym l) ∙ ap (λ x. cond x (keys_of (pairs_of (below p (tree_of d)))) []) h in
             let kept_none : kept p (keys_of (pairs_of (tree_of d))) ≡ [] = sym (names_in-keys p (tree_of d) pb tree.tree) ∙ none in
@@ -133,8 +133,8 @@ module _ (d : Dictionary) (keys : HasByteKeys d) (c : Tree) (cut : IsCut c (tree
             ∙ sym (sym there ∙ found-none k (pairs_of (tree_of d)) (λ has. kept_has p k (pairs_of (tree_of d)) s has kept_none))
       ] refl e
 
-  at_key : (q k : List ℕ) → not (is_stub (end_at q c)) ≡ true → q ≡ k → finmap.get (gathered nothing (pairs_of (end_at q c))) k ≡ finmap.get d k
-  at_key q k e same = subst (λ x. finmap.get (gathered nothing (pairs_of (end_at q c))) x ≡ finmap.get d x) same (get_walked d bytes c cut q e)
+  at_key : (q k : List ℕ) → not (is_stub (end_at q c)) ≡ true → q ≡ k → finmap.get (dictionary_with_pairs nothing (pairs_of (end_at q c))) k ≡ finmap.get d k
+  at_key q k e same = subst (λ x. finmap.get (dictionary_with_pairs nothing (pairs_of (end_at q c))) x ≡ finmap.get d x) same (get_walked d bytes c cut q e)
 
   -- wherever the operation looks, the walk shows what is there
   pub alike : (o : Op) → AreBytesIn o → reaches c o ≡ true → (k : List ℕ) → looks_at o k ≡ true → finmap.get (walked c o) k ≡ finmap.get d k

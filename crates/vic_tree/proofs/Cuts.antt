@@ -2,12 +2,12 @@
 use Rattle.std.proofs.Common.{◌≡◌, ℕ, ◌*◌, true, false, cond, List, length, refl, sym, ap, subst, ◌∙◌, ltb}
 use Rattle.std.proofs.lemmas.Bool.{and_parts}
 use Rattle.std.specs.Str.{bytes_eq}
-use Rattle.vic_wire.specs.Bits.{key_bit, shared}
+use Rattle.vic_wire.specs.Bits.{key_bit, shared_bits}
 use Rattle.vic_wire.specs.Hashes.{hash}
 use Rattle.vic_wire.specs.Texts.{inner_text}
 use Rattle.vic_wire.specs.Trees.{Tree, Empty, Leaf, Inner, Stub, root_of}
 use Rattle.vic_wire.specs.Cuts.{IsCut}
-use Rattle.vic_wire.specs.Walks.{end_at, is_stub, below, least, is_whole, revalued, forked, planted, put_beside, put_in, is_gone, joined, del_in}
+use Rattle.vic_wire.specs.Walks.{end_at, is_stub, below, least, is_whole, tree_with_value, fork_of, tree_with_fork, put_beside, put_in, is_gone, tree_of_sides, del_in}
 use Rattle.vic_tree.specs.Grown.{IsGrown, IsTree}
 use Rattle.vic_tree.proofs.Found.{grown_left, grown_right}
 use Rattle.vic_tree.proofs.Deleted.{tree_of_grown}
@@ -56,52 +56,52 @@ end_at-cut k (Inner i l r) (Inner j m s) h n =
       | false ↦ λ e. end_at-cut k l m h.1 e
     ]) n ∙ ap (λ x. cond (key_bit k x) (end_at k s) (end_at k m)) h.0
 
-pub revalued-cut : (k v : List ℕ) (c t : Tree) → IsCut c t → is_stub (end_at k c) ≡ false → IsCut (revalued k v c) (revalued k v t)
+pub tree_with_value-cut : (k v : List ℕ) (c t : Tree) → IsCut c t → is_stub (end_at k c) ≡ false → IsCut (tree_with_value k v c) (tree_with_value k v t)
 unfolding IsCut
-revalued-cut k v Empty t h n = ap (revalued k v) h
-revalued-cut k v (Leaf q w) t h n = ap (revalued k v) h
-revalued-cut k v (Stub root) t h n = absurd (cross n)
-revalued-cut k v (Inner i l r) Empty h n = absurd h
-revalued-cut k v (Inner i l r) (Leaf q w) h n = absurd h
-revalued-cut k v (Inner i l r) (Stub root) h n = absurd h
-revalued-cut k v (Inner i l r) (Inner j m s) h n =
-    subst (λ x. IsCut (revalued k v (Inner i l r)) (cond (key_bit k x) (Inner x m (revalued k v s)) (Inner x (revalued k v m) s))) h.0
-    ((elim (key_bit k i) as (λ b. is_stub (cond b (end_at k r) (end_at k l)) ≡ false → IsCut (cond b (Inner i l (revalued k v r)) (Inner i (revalued k v l) r)) (cond b (Inner i m (revalued k v s)) (Inner i (revalued k v m) s))) [
-      | true ↦ λ e. (refl, h.1, revalued-cut k v r s h.2 e)
-      | false ↦ λ e. (refl, revalued-cut k v l m h.1 e, h.2)
+tree_with_value-cut k v Empty t h n = ap (tree_with_value k v) h
+tree_with_value-cut k v (Leaf q w) t h n = ap (tree_with_value k v) h
+tree_with_value-cut k v (Stub root) t h n = absurd (cross n)
+tree_with_value-cut k v (Inner i l r) Empty h n = absurd h
+tree_with_value-cut k v (Inner i l r) (Leaf q w) h n = absurd h
+tree_with_value-cut k v (Inner i l r) (Stub root) h n = absurd h
+tree_with_value-cut k v (Inner i l r) (Inner j m s) h n =
+    subst (λ x. IsCut (tree_with_value k v (Inner i l r)) (cond (key_bit k x) (Inner x m (tree_with_value k v s)) (Inner x (tree_with_value k v m) s))) h.0
+    ((elim (key_bit k i) as (λ b. is_stub (cond b (end_at k r) (end_at k l)) ≡ false → IsCut (cond b (Inner i l (tree_with_value k v r)) (Inner i (tree_with_value k v l) r)) (cond b (Inner i m (tree_with_value k v s)) (Inner i (tree_with_value k v m) s))) [
+      | true ↦ λ e. (refl, h.1, tree_with_value-cut k v r s h.2 e)
+      | false ↦ λ e. (refl, tree_with_value-cut k v l m h.1 e, h.2)
     ]) n)
 
-forked-cut : (i : ℕ) (k v : List ℕ) (c t : Tree) → IsCut c t → IsCut (forked i k v c) (forked i k v t)
+fork_of-cut : (i : ℕ) (k v : List ℕ) (c t : Tree) → IsCut c t → IsCut (fork_of i k v c) (fork_of i k v t)
 unfolding IsCut
-forked-cut i k v c t h = elim (key_bit k i) as (λ b. IsCut (cond b (Inner i c (Leaf k v)) (Inner i (Leaf k v) c)) (cond b (Inner i t (Leaf k v)) (Inner i (Leaf k v) t))) [ true ↦ (refl, h, refl) | false ↦ (refl, refl, h) ]
+fork_of-cut i k v c t h = elim (key_bit k i) as (λ b. IsCut (cond b (Inner i c (Leaf k v)) (Inner i (Leaf k v) c)) (cond b (Inner i t (Leaf k v)) (Inner i (Leaf k v) t))) [ true ↦ (refl, h, refl) | false ↦ (refl, refl, h) ]
 
-planted_here : (i : ℕ) (k v : List ℕ) (c t : Tree) → c ≡ t → IsCut (planted i k v c) (planted i k v t)
-planted_here i k v c t e = subst (λ x. IsCut (planted i k v c) (planted i k v x)) e (cut_itself (planted i k v c))
+planted_here : (i : ℕ) (k v : List ℕ) (c t : Tree) → c ≡ t → IsCut (tree_with_fork i k v c) (tree_with_fork i k v t)
+planted_here i k v c t e = subst (λ x. IsCut (tree_with_fork i k v c) (tree_with_fork i k v x)) e (cut_itself (tree_with_fork i k v c))
 
-pub planted-cut : (n : ℕ) (k v : List ℕ) (c t : Tree) → IsCut c t → is_stub (end_at k c) ≡ false → IsCut (planted n k v c) (planted n k v t)
+pub tree_with_fork-cut : (n : ℕ) (k v : List ℕ) (c t : Tree) → IsCut c t → is_stub (end_at k c) ≡ false → IsCut (tree_with_fork n k v c) (tree_with_fork n k v t)
 unfolding IsCut
-planted-cut n k v Empty t h e = planted_here n k v Empty t (sym h)
-planted-cut n k v (Leaf q w) t h e = planted_here n k v (Leaf q w) t (sym h)
-planted-cut n k v (Stub root) t h e = absurd (cross e)
-planted-cut n k v (Inner i l r) Empty h e = absurd h
-planted-cut n k v (Inner i l r) (Leaf q w) h e = absurd h
-planted-cut n k v (Inner i l r) (Stub root) h e = absurd h
-planted-cut n k v (Inner i l r) (Inner j m s) h e =
-    subst (λ x. IsCut (planted n k v (Inner i l r)) (planted n k v (Inner x m s))) h.0
-    (elim (ltb i n) as (λ b. IsCut (cond b (cond (key_bit k i) (Inner i l (planted n k v r)) (Inner i (planted n k v l) r)) (forked n k v (Inner i l r))) (cond b (cond (key_bit k i) (Inner i m (planted n k v s)) (Inner i (planted n k v m) s)) (forked n k v (Inner i m s)))) [
-      | true ↦ (elim (key_bit k i) as (λ b. is_stub (cond b (end_at k r) (end_at k l)) ≡ false → IsCut (cond b (Inner i l (planted n k v r)) (Inner i (planted n k v l) r)) (cond b (Inner i m (planted n k v s)) (Inner i (planted n k v m) s))) [
-        | true ↦ λ q. (refl, h.1, planted-cut n k v r s h.2 q)
-        | false ↦ λ q. (refl, planted-cut n k v l m h.1 q, h.2)
+tree_with_fork-cut n k v Empty t h e = planted_here n k v Empty t (sym h)
+tree_with_fork-cut n k v (Leaf q w) t h e = planted_here n k v (Leaf q w) t (sym h)
+tree_with_fork-cut n k v (Stub root) t h e = absurd (cross e)
+tree_with_fork-cut n k v (Inner i l r) Empty h e = absurd h
+tree_with_fork-cut n k v (Inner i l r) (Leaf q w) h e = absurd h
+tree_with_fork-cut n k v (Inner i l r) (Stub root) h e = absurd h
+tree_with_fork-cut n k v (Inner i l r) (Inner j m s) h e =
+    subst (λ x. IsCut (tree_with_fork n k v (Inner i l r)) (tree_with_fork n k v (Inner x m s))) h.0
+    (elim (ltb i n) as (λ b. IsCut (cond b (cond (key_bit k i) (Inner i l (tree_with_fork n k v r)) (Inner i (tree_with_fork n k v l) r)) (fork_of n k v (Inner i l r))) (cond b (cond (key_bit k i) (Inner i m (tree_with_fork n k v s)) (Inner i (tree_with_fork n k v m) s)) (fork_of n k v (Inner i m s)))) [
+      | true ↦ (elim (key_bit k i) as (λ b. is_stub (cond b (end_at k r) (end_at k l)) ≡ false → IsCut (cond b (Inner i l (tree_with_fork n k v r)) (Inner i (tree_with_fork n k v l) r)) (cond b (Inner i m (tree_with_fork n k v s)) (Inner i (tree_with_fork n k v m) s))) [
+        | true ↦ λ q. (refl, h.1, tree_with_fork-cut n k v r s h.2 q)
+        | false ↦ λ q. (refl, tree_with_fork-cut n k v l m h.1 q, h.2)
       ]) e
-      | false ↦ forked-cut n k v (Inner i l r) (Inner i m s) (refl, h.1, h.2)
+      | false ↦ fork_of-cut n k v (Inner i l r) (Inner i m s) (refl, h.1, h.2)
     ])
 
 put_beside-cut : (k v : List ℕ) (e c t : Tree) → IsCut c t → is_stub (end_at k c) ≡ false → IsCut (put_beside e k v c) (put_beside e k v t)
 put_beside-cut k v Empty c t h n = cut_itself (Leaf k v)
 put_beside-cut k v (Leaf q w) c t h n =
-    elim (bytes_eq q k) as (λ b. IsCut (cond b (revalued k v c) (planted (shared k q) k v c)) (cond b (revalued k v t) (planted (shared k q) k v t))) [
-      | true ↦ revalued-cut k v c t h n
-      | false ↦ planted-cut (shared k q) k v c t h n
+    elim (bytes_eq q k) as (λ b. IsCut (cond b (tree_with_value k v c) (tree_with_fork (shared_bits k q) k v c)) (cond b (tree_with_value k v t) (tree_with_fork (shared_bits k q) k v t))) [
+      | true ↦ tree_with_value-cut k v c t h n
+      | false ↦ tree_with_fork-cut (shared_bits k q) k v c t h n
     ]
 put_beside-cut k v (Inner i l r) c t h n = h
 put_beside-cut k v (Stub root) c t h n = h
@@ -126,22 +126,22 @@ grown_gone (Leaf k v) g = refl
 grown_gone (Inner i l r) g = refl
 grown_gone (Stub root) g = refl
 
-joined-cut : (i : ℕ) (l m r s : Tree) → IsCut l m → IsCut r s → is_gone l ≡ is_gone m → is_gone r ≡ is_gone s → IsCut (joined i l r) (joined i m s)
+tree_of_sides-cut : (i : ℕ) (l m r s : Tree) → IsCut l m → IsCut r s → is_gone l ≡ is_gone m → is_gone r ≡ is_gone s → IsCut (tree_of_sides i l r) (tree_of_sides i m s)
 unfolding IsCut
-joined-cut i l m r s a b e f =
-    subst (λ x. IsCut (joined i l r) (cond x s (cond (is_gone s) m (Inner i m s)))) e
-    (subst (λ y. IsCut (joined i l r) (cond (is_gone l) s (cond y m (Inner i m s)))) f
+tree_of_sides-cut i l m r s a b e f =
+    subst (λ x. IsCut (tree_of_sides i l r) (cond x s (cond (is_gone s) m (Inner i m s)))) e
+    (subst (λ y. IsCut (tree_of_sides i l r) (cond (is_gone l) s (cond y m (Inner i m s)))) f
     (elim (is_gone l) as (λ x. IsCut (cond x r (cond (is_gone r) l (Inner i l r))) (cond x s (cond (is_gone r) m (Inner i m s)))) [
       | true ↦ b
       | false ↦ elim (is_gone r) as (λ y. IsCut (cond y l (Inner i l r)) (cond y m (Inner i m s))) [ true ↦ a | false ↦ (refl, a, b) ]
     ]))
 
-joined_left_stays : (i : ℕ) (l r : Tree) → is_gone l ≡ false → is_gone (joined i l r) ≡ false
+joined_left_stays : (i : ℕ) (l r : Tree) → is_gone l ≡ false → is_gone (tree_of_sides i l r) ≡ false
 joined_left_stays i l r e =
     ap (λ x. is_gone (cond x r (cond (is_gone r) l (Inner i l r)))) e
     ∙ elim (is_gone r) as (λ y. is_gone (cond y l (Inner i l r)) ≡ false) [ true ↦ e | false ↦ refl ]
 
-joined_right_stays : (i : ℕ) (l r : Tree) → is_gone r ≡ false → is_gone (joined i l r) ≡ false
+joined_right_stays : (i : ℕ) (l r : Tree) → is_gone r ≡ false → is_gone (tree_of_sides i l r) ≡ false
 joined_right_stays i l r e =
     elim (is_gone l) as (λ x. is_gone (cond x r (cond (is_gone r) l (Inner i l r))) ≡ false) [ true ↦ e | false ↦ ap (λ y. is_gone (cond y l (Inner i l r))) e ]
 
@@ -151,15 +151,15 @@ AlikeGone c t = IsCut c t × (is_gone c ≡ is_gone t)
 alike_same : (c t : Tree) → c ≡ t → AlikeGone c t
 alike_same c t e = subst (AlikeGone c) e (cut_itself c, refl)
 
-del_right : (k : List ℕ) (i : ℕ) (l r m s : Tree) → IsCut l m → is_gone m ≡ false → AlikeGone (del_in k r) (del_in k s) → AlikeGone (joined i l (del_in k r)) (joined i m (del_in k s))
+del_right : (k : List ℕ) (i : ℕ) (l r m s : Tree) → IsCut l m → is_gone m ≡ false → AlikeGone (del_in k r) (del_in k s) → AlikeGone (tree_of_sides i l (del_in k r)) (tree_of_sides i m (del_in k s))
 del_right k i l r m s a n d =
     let gone_l = cut_gone l m a n in
-    (joined-cut i l m (del_in k r) (del_in k s) a d.0 (gone_l ∙ sym n) d.1, joined_left_stays i l (del_in k r) gone_l ∙ sym (joined_left_stays i m (del_in k s) n))
+    (tree_of_sides-cut i l m (del_in k r) (del_in k s) a d.0 (gone_l ∙ sym n) d.1, joined_left_stays i l (del_in k r) gone_l ∙ sym (joined_left_stays i m (del_in k s) n))
 
-del_left : (k : List ℕ) (i : ℕ) (l r m s : Tree) → IsCut r s → is_gone s ≡ false → AlikeGone (del_in k l) (del_in k m) → AlikeGone (joined i (del_in k l) r) (joined i (del_in k m) s)
+del_left : (k : List ℕ) (i : ℕ) (l r m s : Tree) → IsCut r s → is_gone s ≡ false → AlikeGone (del_in k l) (del_in k m) → AlikeGone (tree_of_sides i (del_in k l) r) (tree_of_sides i (del_in k m) s)
 del_left k i l r m s b n d =
     let gone_r = cut_gone r s b n in
-    (joined-cut i (del_in k l) (del_in k m) r s d.0 b d.1 (gone_r ∙ sym n), joined_right_stays i (del_in k l) r gone_r ∙ sym (joined_right_stays i (del_in k m) s n))
+    (tree_of_sides-cut i (del_in k l) (del_in k m) r s d.0 b d.1 (gone_r ∙ sym n), joined_right_stays i (del_in k l) r gone_r ∙ sym (joined_right_stays i (del_in k m) s n))
 
 del_both : (k : List ℕ) (c t : Tree) → IsCut c t → IsTree t → is_stub (end_at k c) ≡ false → AlikeGone (del_in k c) (del_in k t)
 unfolding IsCut
@@ -171,8 +171,8 @@ del_both k (Inner i l r) (Leaf q w) h g n = absurd h
 del_both k (Inner i l r) (Stub root) h g n = absurd h
 del_both k (Inner i l r) (Inner j m s) h g n =
     let gm = grown_left j m s g in let gs = grown_right j m s g in
-    subst (λ x. AlikeGone (del_in k (Inner i l r)) (cond (key_bit k x) (joined x m (del_in k s)) (joined x (del_in k m) s))) h.0
-    ((elim (key_bit k i) as (λ b. is_stub (cond b (end_at k r) (end_at k l)) ≡ false → AlikeGone (cond b (joined i l (del_in k r)) (joined i (del_in k l) r)) (cond b (joined i m (del_in k s)) (joined i (del_in k m) s))) [
+    subst (λ x. AlikeGone (del_in k (Inner i l r)) (cond (key_bit k x) (tree_of_sides x m (del_in k s)) (tree_of_sides x (del_in k m) s))) h.0
+    ((elim (key_bit k i) as (λ b. is_stub (cond b (end_at k r) (end_at k l)) ≡ false → AlikeGone (cond b (tree_of_sides i l (del_in k r)) (tree_of_sides i (del_in k l) r)) (cond b (tree_of_sides i m (del_in k s)) (tree_of_sides i (del_in k m) s))) [
       | true ↦ λ e. del_right k i l r m s h.1 (grown_gone m gm) (del_both k r s h.2 (tree_of_grown s gs) e)
       | false ↦ λ e. del_left k i l r m s h.2 (grown_gone s gs) (del_both k l m h.1 (tree_of_grown m gm) e)
     ]) n)

@@ -4,11 +4,11 @@ use Rattle.std.proofs.lemmas.Bool.{ltb-true, ltb-false}
 use Rattle.std.proofs.lemmas.Slice.Eq.{bytes_eq-Decides}
 use Rattle.std.specs.Str.{bytes_eq}
 use Rattle.std.specs.Ordering.{eq_by_cmp}
-use Rattle.vic_wire.specs.Bits.{key_bit, shared}
+use Rattle.vic_wire.specs.Bits.{key_bit, shared_bits}
 use Rattle.vic_dict.specs.Lists.{AreBytes}
 use Rattle.vic_tree.specs.Grown.{AgreeBelow, PartsAt, HasKey, IsGrown, IsTree}
 use Rattle.vic_wire.specs.Trees.{Tree, Empty, Leaf, Inner, Stub, Pair, pairs_of}
-use Rattle.vic_wire.specs.Walks.{end_at, revalued, forked, planted, put_beside, put_in}
+use Rattle.vic_wire.specs.Walks.{end_at, tree_with_value, fork_of, tree_with_fork, put_beside, put_in}
 use Rattle.vic_tree.specs.Shown.{value_at}
 use Rattle.vic_tree.proofs.KeyOrder.{parts}
 use Rattle.vic_tree.proofs.Lists.{key_cmp, found, or_else, or_else-none, found-append, found-none, same_key, key_same, key_other, HasKey-left, HasKey-right, HasKey-cases}
@@ -107,22 +107,22 @@ more_left z k v ls rs new e =
 
 -- ---- a fork with a new leaf
 
-pub found-forked : (n : ℕ) (k v : List ℕ) (t : Tree) → (HasKey (pairs_of t) k → ⊥) → (z : List ℕ) → found z (pairs_of (forked n k v t)) ≡ with_pair z k v (found z (pairs_of t))
-found-forked n k v t absent z =
+pub found-fork_of : (n : ℕ) (k v : List ℕ) (t : Tree) → (HasKey (pairs_of t) k → ⊥) → (z : List ℕ) → found z (pairs_of (fork_of n k v t)) ≡ with_pair z k v (found z (pairs_of t))
+found-fork_of n k v t absent z =
     elim (key_bit k n) as (λ b. found z (pairs_of (cond b (Inner n t (Leaf k v)) (Inner n (Leaf k v) t))) ≡ with_pair z k v (found z (pairs_of t))) [
       | true ↦ more_right z k v (pairs_of t) [] ((k, v) ∷ []) absent refl ∙ ap (λ ps. with_pair z k v (found z ps)) (append_nil (pairs_of t))
       | false ↦ refl
     ]
 
-pub HasKey-forked : (n : ℕ) (k v : List ℕ) (t : Tree) (a : List ℕ) → HasKey (pairs_of (forked n k v t)) a → (k ≡ a) ⊎ HasKey (pairs_of t) a
-HasKey-forked n k v t a =
+pub HasKey-fork_of : (n : ℕ) (k v : List ℕ) (t : Tree) (a : List ℕ) → HasKey (pairs_of (fork_of n k v t)) a → (k ≡ a) ⊎ HasKey (pairs_of t) a
+HasKey-fork_of n k v t a =
     elim (key_bit k n) as (λ b. HasKey (pairs_of (cond b (Inner n t (Leaf k v)) (Inner n (Leaf k v) t))) a → (k ≡ a) ⊎ HasKey (pairs_of t) a) [
       | true ↦ λ h. elim (HasKey-cases (pairs_of t) ((k, v) ∷ []) a h) [ inl x ↦ inr x | inr y ↦ elim y [ inl e ↦ inl e | inr z ↦ absurd z ] ]
       | false ↦ λ h. elim h [ inl e ↦ inl e | inr x ↦ inr x ]
     ]
 
 -- the key parts from every key of the tree at the index
-pub grown_forked : (n : ℕ) (k v : List ℕ) (t : Tree) → IsGrown t → AreBytes k → ((a : List ℕ) → HasKey (pairs_of t) a → PartsAt n k a ⊎ PartsAt n a k) → IsGrown (forked n k v t)
+pub grown_forked : (n : ℕ) (k v : List ℕ) (t : Tree) → IsGrown t → AreBytes k → ((a : List ℕ) → HasKey (pairs_of t) a → PartsAt n k a ⊎ PartsAt n a k) → IsGrown (fork_of n k v t)
 unfolding IsGrown
 grown_forked n k v t g bytes apart =
     elim (key_bit k n) as (λ b. key_bit k n ≡ b → IsGrown (cond b (Inner n t (Leaf k v)) (Inner n (Leaf k v) t))) [
@@ -140,36 +140,36 @@ grown_forked n k v t g bytes apart =
 
 -- ---- a leaf planted
 
-pub found-planted : (n : ℕ) (k v : List ℕ) (t : Tree) → IsGrown t → (HasKey (pairs_of t) k → ⊥) → (z : List ℕ) → found z (pairs_of (planted n k v t)) ≡ with_pair z k v (found z (pairs_of t))
-found-planted n k v Empty g absent z = found-forked n k v Empty absent z
-found-planted n k v (Leaf q w) g absent z = found-forked n k v (Leaf q w) absent z
-found-planted n k v (Stub root) g absent z = found-forked n k v (Stub root) absent z
-found-planted n k v (Inner j l r) g absent z =
-    elim (ltb j n) as (λ b. found z (pairs_of (cond b (cond (key_bit k j) (Inner j l (planted n k v r)) (Inner j (planted n k v l) r)) (forked n k v (Inner j l r)))) ≡ with_pair z k v (found z (pairs_of l ++ pairs_of r))) [
-      | true ↦ elim (key_bit k j) as (λ b. found z (pairs_of (cond b (Inner j l (planted n k v r)) (Inner j (planted n k v l) r))) ≡ with_pair z k v (found z (pairs_of l ++ pairs_of r))) [
-        | true ↦ more_right z k v (pairs_of l) (pairs_of r) (pairs_of (planted n k v r)) (λ h. absent (HasKey-left (pairs_of l) (pairs_of r) k h)) (found-planted n k v r (grown_right j l r g) (λ h. absent (HasKey-right (pairs_of l) (pairs_of r) k h)) z)
-        | false ↦ more_left z k v (pairs_of l) (pairs_of r) (pairs_of (planted n k v l)) (found-planted n k v l (grown_left j l r g) (λ h. absent (HasKey-left (pairs_of l) (pairs_of r) k h)) z)
+pub found-tree_with_fork : (n : ℕ) (k v : List ℕ) (t : Tree) → IsGrown t → (HasKey (pairs_of t) k → ⊥) → (z : List ℕ) → found z (pairs_of (tree_with_fork n k v t)) ≡ with_pair z k v (found z (pairs_of t))
+found-tree_with_fork n k v Empty g absent z = found-fork_of n k v Empty absent z
+found-tree_with_fork n k v (Leaf q w) g absent z = found-fork_of n k v (Leaf q w) absent z
+found-tree_with_fork n k v (Stub root) g absent z = found-fork_of n k v (Stub root) absent z
+found-tree_with_fork n k v (Inner j l r) g absent z =
+    elim (ltb j n) as (λ b. found z (pairs_of (cond b (cond (key_bit k j) (Inner j l (tree_with_fork n k v r)) (Inner j (tree_with_fork n k v l) r)) (fork_of n k v (Inner j l r)))) ≡ with_pair z k v (found z (pairs_of l ++ pairs_of r))) [
+      | true ↦ elim (key_bit k j) as (λ b. found z (pairs_of (cond b (Inner j l (tree_with_fork n k v r)) (Inner j (tree_with_fork n k v l) r))) ≡ with_pair z k v (found z (pairs_of l ++ pairs_of r))) [
+        | true ↦ more_right z k v (pairs_of l) (pairs_of r) (pairs_of (tree_with_fork n k v r)) (λ h. absent (HasKey-left (pairs_of l) (pairs_of r) k h)) (found-tree_with_fork n k v r (grown_right j l r g) (λ h. absent (HasKey-right (pairs_of l) (pairs_of r) k h)) z)
+        | false ↦ more_left z k v (pairs_of l) (pairs_of r) (pairs_of (tree_with_fork n k v l)) (found-tree_with_fork n k v l (grown_left j l r g) (λ h. absent (HasKey-left (pairs_of l) (pairs_of r) k h)) z)
       ]
-      | false ↦ found-forked n k v (Inner j l r) absent z
+      | false ↦ found-fork_of n k v (Inner j l r) absent z
     ]
 
-pub HasKey-planted : (n : ℕ) (k v : List ℕ) (t : Tree) (a : List ℕ) → HasKey (pairs_of (planted n k v t)) a → (k ≡ a) ⊎ HasKey (pairs_of t) a
-HasKey-planted n k v Empty a = HasKey-forked n k v Empty a
-HasKey-planted n k v (Leaf q w) a = HasKey-forked n k v (Leaf q w) a
-HasKey-planted n k v (Stub root) a = HasKey-forked n k v (Stub root) a
-HasKey-planted n k v (Inner j l r) a =
-    elim (ltb j n) as (λ b. HasKey (pairs_of (cond b (cond (key_bit k j) (Inner j l (planted n k v r)) (Inner j (planted n k v l) r)) (forked n k v (Inner j l r)))) a → (k ≡ a) ⊎ HasKey (pairs_of l ++ pairs_of r) a) [
-      | true ↦ elim (key_bit k j) as (λ b. HasKey (pairs_of (cond b (Inner j l (planted n k v r)) (Inner j (planted n k v l) r))) a → (k ≡ a) ⊎ HasKey (pairs_of l ++ pairs_of r) a) [
-        | true ↦ λ h. elim (HasKey-cases (pairs_of l) (pairs_of (planted n k v r)) a h) [
+pub HasKey-tree_with_fork : (n : ℕ) (k v : List ℕ) (t : Tree) (a : List ℕ) → HasKey (pairs_of (tree_with_fork n k v t)) a → (k ≡ a) ⊎ HasKey (pairs_of t) a
+HasKey-tree_with_fork n k v Empty a = HasKey-fork_of n k v Empty a
+HasKey-tree_with_fork n k v (Leaf q w) a = HasKey-fork_of n k v (Leaf q w) a
+HasKey-tree_with_fork n k v (Stub root) a = HasKey-fork_of n k v (Stub root) a
+HasKey-tree_with_fork n k v (Inner j l r) a =
+    elim (ltb j n) as (λ b. HasKey (pairs_of (cond b (cond (key_bit k j) (Inner j l (tree_with_fork n k v r)) (Inner j (tree_with_fork n k v l) r)) (fork_of n k v (Inner j l r)))) a → (k ≡ a) ⊎ HasKey (pairs_of l ++ pairs_of r) a) [
+      | true ↦ elim (key_bit k j) as (λ b. HasKey (pairs_of (cond b (Inner j l (tree_with_fork n k v r)) (Inner j (tree_with_fork n k v l) r))) a → (k ≡ a) ⊎ HasKey (pairs_of l ++ pairs_of r) a) [
+        | true ↦ λ h. elim (HasKey-cases (pairs_of l) (pairs_of (tree_with_fork n k v r)) a h) [
           | inl x ↦ inr (HasKey-left (pairs_of l) (pairs_of r) a x)
-          | inr y ↦ elim (HasKey-planted n k v r a y) [ inl e ↦ inl e | inr x ↦ inr (HasKey-right (pairs_of l) (pairs_of r) a x) ]
+          | inr y ↦ elim (HasKey-tree_with_fork n k v r a y) [ inl e ↦ inl e | inr x ↦ inr (HasKey-right (pairs_of l) (pairs_of r) a x) ]
         ]
-        | false ↦ λ h. elim (HasKey-cases (pairs_of (planted n k v l)) (pairs_of r) a h) [
+        | false ↦ λ h. elim (HasKey-cases (pairs_of (tree_with_fork n k v l)) (pairs_of r) a h) [
           | inr x ↦ inr (HasKey-right (pairs_of l) (pairs_of r) a x)
-          | inl y ↦ elim (HasKey-planted n k v l a y) [ inl e ↦ inl e | inr x ↦ inr (HasKey-left (pairs_of l) (pairs_of r) a x) ]
+          | inl y ↦ elim (HasKey-tree_with_fork n k v l a y) [ inl e ↦ inl e | inr x ↦ inr (HasKey-left (pairs_of l) (pairs_of r) a x) ]
         ]
       ]
-      | false ↦ HasKey-forked n k v (Inner j l r) a
+      | false ↦ HasKey-fork_of n k v (Inner j l r) a
     ]
 
 -- k and q part at n, on one side or the other
@@ -205,32 +205,32 @@ lone_key x w a (inr h) = absurd h
 
 module _ (n : ℕ) (k v q : List ℕ) (bytes : AreBytes k) (apart : Apart n k q) where
   -- k parts at n from every key below an Inner of a higher index
-  fork_inner : (j : ℕ) (l r : Tree) → IsGrown (Inner j l r) → HasKey (pairs_of (Inner j l r)) q → key_bit k j ≡ key_bit q j → n ≤ j → IsGrown (forked n k v (Inner j l r))
+  fork_inner : (j : ℕ) (l r : Tree) → IsGrown (Inner j l r) → HasKey (pairs_of (Inner j l r)) q → key_bit k j ≡ key_bit q j → n ≤ j → IsGrown (fork_of n k v (Inner j l r))
   fork_inner j l r g has same h =
       let above : n < j = lt_or j n h (λ e. no_apart n k q (subst (λ m. key_bit k m ≡ key_bit q m) e same) apart) in
       grown_forked n k v (Inner j l r) g bytes (λ a ha. apart_like n k q a (agree-less (suc n) j q a (omega arith) (grown_agree j l r g q a has ha)) apart)
 
-  pub grown_planted : (t : Tree) → IsGrown t → HasKey (pairs_of t) q → (w : List ℕ) → end_at k t ≡ Leaf q w → IsGrown (planted n k v t)
+  pub grown_planted : (t : Tree) → IsGrown t → HasKey (pairs_of t) q → (w : List ℕ) → end_at k t ≡ Leaf q w → IsGrown (tree_with_fork n k v t)
   grown_planted Empty g has w e = absurd cc
   grown_planted (Stub root) g has w e = absurd cc
   grown_planted (Leaf x w') g has w e =
       let t : x ≡ q = cc in grown_forked n k v (Leaf x w') g bytes (λ a ha. subst (Apart n k) (sym t ∙ lone_key x w' a ha) apart)
   grown_planted (Inner j l r) g has w e =
-      elim (ltb j n) as (λ b. ltb j n ≡ b → IsGrown (cond b (cond (key_bit k j) (Inner j l (planted n k v r)) (Inner j (planted n k v l) r)) (forked n k v (Inner j l r)))) [
-        | true ↦ λ lt. elim (key_bit k j) as (λ b. key_bit k j ≡ b → IsGrown (cond b (Inner j l (planted n k v r)) (Inner j (planted n k v l) r))) [
+      elim (ltb j n) as (λ b. ltb j n ≡ b → IsGrown (cond b (cond (key_bit k j) (Inner j l (tree_with_fork n k v r)) (Inner j (tree_with_fork n k v l) r)) (fork_of n k v (Inner j l r)))) [
+        | true ↦ λ lt. elim (key_bit k j) as (λ b. key_bit k j ≡ b → IsGrown (cond b (Inner j l (tree_with_fork n k v r)) (Inner j (tree_with_fork n k v l) r))) [
           | true ↦ λ t.
               let end : end_at k r ≡ Leaf q w = sym (ap (λ b. cond b (end_at k r) (end_at k l)) t) ∙ e in
               let in_r = has_right end in
-              make_grown j l (planted n k v r) (grown_left j l r g) (grown_planted r (grown_right j l r g) in_r w end)
-              (λ a b ha hb. elim (HasKey-planted n k v r b hb) [
+              make_grown j l (tree_with_fork n k v r) (grown_left j l r g) (grown_planted r (grown_right j l r g) in_r w end)
+              (λ a b ha hb. elim (HasKey-tree_with_fork n k v r b hb) [
                 | inl s ↦ subst (PartsAt j a) s (side_parts_right n j k q a (ltb-true j n lt) (apart_agree n k q apart) (grown_parts j l r g a q ha in_r))
                 | inr x ↦ grown_parts j l r g a b ha x
               ])
           | false ↦ λ t.
               let end : end_at k l ≡ Leaf q w = sym (ap (λ b. cond b (end_at k r) (end_at k l)) t) ∙ e in
               let in_l = has_left end in
-              make_grown j (planted n k v l) r (grown_planted l (grown_left j l r g) in_l w end) (grown_right j l r g)
-              (λ a b ha hb. elim (HasKey-planted n k v l a ha) [
+              make_grown j (tree_with_fork n k v l) r (grown_planted l (grown_left j l r g) in_l w end) (grown_right j l r g)
+              (λ a b ha hb. elim (HasKey-tree_with_fork n k v l a ha) [
                 | inl s ↦ subst (λ x. PartsAt j x b) s (side_parts_left n j k q b (ltb-true j n lt) (apart_agree n k q apart) (grown_parts j l r g q b in_l hb))
                 | inr x ↦ grown_parts j l r g a b x hb
               ])
@@ -256,35 +256,35 @@ module _ (n : ℕ) (k v q : List ℕ) (bytes : AreBytes k) (apart : Apart n k q)
 
 -- ---- a new value at the key
 
-pub found-revalued : (k v w : List ℕ) (t : Tree) → IsGrown t → end_at k t ≡ Leaf k w → (z : List ℕ) → found z (pairs_of (revalued k v t)) ≡ with_pair z k v (found z (pairs_of t))
-found-revalued k v w Empty g e z = absurd cc
-found-revalued k v w (Stub root) g e z = absurd cc
-found-revalued k v w (Leaf q u) g e z =
+pub found-tree_with_value : (k v w : List ℕ) (t : Tree) → IsGrown t → end_at k t ≡ Leaf k w → (z : List ℕ) → found z (pairs_of (tree_with_value k v t)) ≡ with_pair z k v (found z (pairs_of t))
+found-tree_with_value k v w Empty g e z = absurd cc
+found-tree_with_value k v w (Stub root) g e z = absurd cc
+found-tree_with_value k v w (Leaf q u) g e z =
     let same : q ≡ k = cc in
     elim (eq_by_cmp key_cmp z k) as (λ b. eq_by_cmp key_cmp z k ≡ b → cond b (Some v) None ≡ cond b (Some v) (cond (eq_by_cmp key_cmp z q) (Some u) None)) [
       | true ↦ λ t. refl
       | false ↦ λ t. sym (ap (λ b. cond b (Some u) None) (ap (eq_by_cmp key_cmp z) same ∙ t))
     ] refl
-found-revalued k v w (Inner j l r) g e z =
-    elim (key_bit k j) as (λ b. key_bit k j ≡ b → found z (pairs_of (cond b (Inner j l (revalued k v r)) (Inner j (revalued k v l) r))) ≡ with_pair z k v (found z (pairs_of l ++ pairs_of r))) [
-      | true ↦ λ t. more_right z k v (pairs_of l) (pairs_of r) (pairs_of (revalued k v r)) (not_left j l r k g t) (found-revalued k v w r (grown_right j l r g) (sym (ap (λ b. cond b (end_at k r) (end_at k l)) t) ∙ e) z)
-      | false ↦ λ t. more_left z k v (pairs_of l) (pairs_of r) (pairs_of (revalued k v l)) (found-revalued k v w l (grown_left j l r g) (sym (ap (λ b. cond b (end_at k r) (end_at k l)) t) ∙ e) z)
+found-tree_with_value k v w (Inner j l r) g e z =
+    elim (key_bit k j) as (λ b. key_bit k j ≡ b → found z (pairs_of (cond b (Inner j l (tree_with_value k v r)) (Inner j (tree_with_value k v l) r))) ≡ with_pair z k v (found z (pairs_of l ++ pairs_of r))) [
+      | true ↦ λ t. more_right z k v (pairs_of l) (pairs_of r) (pairs_of (tree_with_value k v r)) (not_left j l r k g t) (found-tree_with_value k v w r (grown_right j l r g) (sym (ap (λ b. cond b (end_at k r) (end_at k l)) t) ∙ e) z)
+      | false ↦ λ t. more_left z k v (pairs_of l) (pairs_of r) (pairs_of (tree_with_value k v l)) (found-tree_with_value k v w l (grown_left j l r g) (sym (ap (λ b. cond b (end_at k r) (end_at k l)) t) ∙ e) z)
     ] refl
 
-pub HasKey-revalued : (k v w : List ℕ) (t : Tree) → end_at k t ≡ Leaf k w → (a : List ℕ) → HasKey (pairs_of (revalued k v t)) a → HasKey (pairs_of t) a
-HasKey-revalued k v w Empty e a h = h
-HasKey-revalued k v w (Stub root) e a h = h
-HasKey-revalued k v w (Leaf q u) e a (inl s) = let same : q ≡ k = cc in inl (same ∙ s)
-HasKey-revalued k v w (Leaf q u) e a (inr h) = absurd h
-HasKey-revalued k v w (Inner j l r) e a h =
-    (elim (key_bit k j) as (λ b. key_bit k j ≡ b → HasKey (pairs_of (cond b (Inner j l (revalued k v r)) (Inner j (revalued k v l) r))) a → HasKey (pairs_of l ++ pairs_of r) a) [
-      | true ↦ λ t h. elim (HasKey-cases (pairs_of l) (pairs_of (revalued k v r)) a h) [
+pub HasKey-tree_with_value : (k v w : List ℕ) (t : Tree) → end_at k t ≡ Leaf k w → (a : List ℕ) → HasKey (pairs_of (tree_with_value k v t)) a → HasKey (pairs_of t) a
+HasKey-tree_with_value k v w Empty e a h = h
+HasKey-tree_with_value k v w (Stub root) e a h = h
+HasKey-tree_with_value k v w (Leaf q u) e a (inl s) = let same : q ≡ k = cc in inl (same ∙ s)
+HasKey-tree_with_value k v w (Leaf q u) e a (inr h) = absurd h
+HasKey-tree_with_value k v w (Inner j l r) e a h =
+    (elim (key_bit k j) as (λ b. key_bit k j ≡ b → HasKey (pairs_of (cond b (Inner j l (tree_with_value k v r)) (Inner j (tree_with_value k v l) r))) a → HasKey (pairs_of l ++ pairs_of r) a) [
+      | true ↦ λ t h. elim (HasKey-cases (pairs_of l) (pairs_of (tree_with_value k v r)) a h) [
         | inl x ↦ HasKey-left (pairs_of l) (pairs_of r) a x
-        | inr y ↦ HasKey-right (pairs_of l) (pairs_of r) a (HasKey-revalued k v w r (sym (ap (λ b. cond b (end_at k r) (end_at k l)) t) ∙ e) a y)
+        | inr y ↦ HasKey-right (pairs_of l) (pairs_of r) a (HasKey-tree_with_value k v w r (sym (ap (λ b. cond b (end_at k r) (end_at k l)) t) ∙ e) a y)
       ]
-      | false ↦ λ t h. elim (HasKey-cases (pairs_of (revalued k v l)) (pairs_of r) a h) [
+      | false ↦ λ t h. elim (HasKey-cases (pairs_of (tree_with_value k v l)) (pairs_of r) a h) [
         | inr x ↦ HasKey-right (pairs_of l) (pairs_of r) a x
-        | inl y ↦ HasKey-left (pairs_of l) (pairs_of r) a (HasKey-revalued k v w l (sym (ap (λ b. cond b (end_at k r) (end_at k l)) t) ∙ e) a y)
+        | inl y ↦ HasKey-left (pairs_of l) (pairs_of r) a (HasKey-tree_with_value k v w l (sym (ap (λ b. cond b (end_at k r) (end_at k l)) t) ∙ e) a y)
       ]
     ]) refl h
 
@@ -292,16 +292,16 @@ leaf_bytes : (k v q u : List ℕ) → IsGrown (Leaf q u) → q ≡ k → IsGrown
 unfolding IsGrown
 leaf_bytes k v q u g s = subst AreBytes s g
 
-pub grown_revalued : (k v w : List ℕ) (t : Tree) → IsGrown t → end_at k t ≡ Leaf k w → IsGrown (revalued k v t)
+pub grown_revalued : (k v w : List ℕ) (t : Tree) → IsGrown t → end_at k t ≡ Leaf k w → IsGrown (tree_with_value k v t)
 grown_revalued k v w Empty g e = absurd cc
 grown_revalued k v w (Stub root) g e = absurd cc
 grown_revalued k v w (Leaf q u) g e = leaf_bytes k v q u g cc
 grown_revalued k v w (Inner j l r) g e =
-    elim (key_bit k j) as (λ b. key_bit k j ≡ b → IsGrown (cond b (Inner j l (revalued k v r)) (Inner j (revalued k v l) r))) [
+    elim (key_bit k j) as (λ b. key_bit k j ≡ b → IsGrown (cond b (Inner j l (tree_with_value k v r)) (Inner j (tree_with_value k v l) r))) [
       | true ↦ λ t. let end = sym (ap (λ b. cond b (end_at k r) (end_at k l)) t) ∙ e in
-          make_grown j l (revalued k v r) (grown_left j l r g) (grown_revalued k v w r (grown_right j l r g) end) (λ a b ha hb. grown_parts j l r g a b ha (HasKey-revalued k v w r end b hb))
+          make_grown j l (tree_with_value k v r) (grown_left j l r g) (grown_revalued k v w r (grown_right j l r g) end) (λ a b ha hb. grown_parts j l r g a b ha (HasKey-tree_with_value k v w r end b hb))
       | false ↦ λ t. let end = sym (ap (λ b. cond b (end_at k r) (end_at k l)) t) ∙ e in
-          make_grown j (revalued k v l) r (grown_revalued k v w l (grown_left j l r g) end) (grown_right j l r g) (λ a b ha hb. grown_parts j l r g a b (HasKey-revalued k v w l end a ha) hb)
+          make_grown j (tree_with_value k v l) r (grown_revalued k v w l (grown_left j l r g) end) (grown_right j l r g) (λ a b ha hb. grown_parts j l r g a b (HasKey-tree_with_value k v w l end a ha) hb)
     ] refl
 
 -- ---- a put
@@ -325,20 +325,20 @@ put_grown k v t g bytes =
     let s = ends_at k t g in
     subst (λ x. IsPut k v t (put_beside x k v t)) (sym s.is) (by (bytes_eq s.key k) refl)
   where
-    by : (b : Bool) → bytes_eq (ends_at k t g).key k ≡ b → IsPut k v t (cond b (revalued k v t) (planted (shared k (ends_at k t g).key) k v t))
+    by : (b : Bool) → bytes_eq (ends_at k t g).key k ≡ b → IsPut k v t (cond b (tree_with_value k v t) (tree_with_fork (shared_bits k (ends_at k t g).key) k v t))
     by true e =
         let s = ends_at k t g in
         let same = (bytes_eq-Decides s.key k).0 e in
         let end = subst (λ q. end_at k t ≡ Leaf q s.value) same s.is in
-        record { grown = grown_revalued k v s.value t g end; finds = found-revalued k v s.value t g end }
+        record { grown = grown_revalued k v s.value t g end; finds = found-tree_with_value k v s.value t g end }
     by false e =
         let s = ends_at k t g in
         let ne : s.key ≡ k → ⊥ = λ q. cross (sym ((bytes_eq-Decides s.key k).1 q) ∙ e) in
         elim (parts k s.key bytes (grown_bytes t g s.key s.has)) [
           | inl q ↦ absurd (ne (sym q))
           | inr a ↦ record {
-            grown = grown_planted (shared k s.key) k v s.key bytes a t g s.has s.value s.is;
-            finds = found-planted (shared k s.key) k v t g (λ h. absent h);
+            grown = grown_planted (shared_bits k s.key) k v s.key bytes a t g s.has s.value s.is;
+            finds = found-tree_with_fork (shared_bits k s.key) k v t g (λ h. absent h);
           }
         ]
       where

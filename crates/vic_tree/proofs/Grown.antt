@@ -2,7 +2,7 @@
 use Rattle.std.proofs.Common.{◌≡◌, ℕ, zero, suc, ◌+◌, ◌-◌, ◌<◌, ◌≤◌, Bool, true, false, cond, List, [], ◌∷◌, ◌++◌, length, refl, sym, ap, subst, ◌∙◌, arith, inl, inr, ◌⊎◌, ltb}
 use Rattle.std.proofs.lemmas.List.{length-append}
 use Rattle.std.proofs.lemmas.Bool.{ltb-true, ltb-false}
-use Rattle.vic_wire.specs.Bits.{key_bits, key_bit, bit_of, same_bit, common}
+use Rattle.vic_wire.specs.Bits.{key_bits, key_bit, bit_of, same_bit, shared_front}
 use Rattle.vic_dict.specs.Lists.{AreBytes}
 use Rattle.vic_tree.specs.Grown.{AgreeBelow, PartsAt, HasKey, IsGrown}
 use Rattle.vic_wire.specs.Trees.{Tree, Empty, Leaf, Inner, Stub, Pair, common_bits, side, tree_by, pairs_of}
@@ -90,10 +90,10 @@ starts_itself : (bs : List Bool) → Starts bs bs
 starts_itself [] = tt
 starts_itself (b ∷ bs) = (refl, starts_itself bs)
 
-starts_common_left : (bs cs : List Bool) → Starts (common bs cs) bs
+starts_common_left : (bs cs : List Bool) → Starts (shared_front bs cs) bs
 starts_common_left [] cs = tt
 starts_common_left (b ∷ bs) [] = tt
-starts_common_left (b ∷ bs) (c ∷ cs) = elim (same_bit b c) as (λ t. Starts (cond t (b ∷ common bs cs) []) (b ∷ bs)) [ true ↦ (refl, starts_common_left bs cs) | false ↦ tt ]
+starts_common_left (b ∷ bs) (c ∷ cs) = elim (same_bit b c) as (λ t. Starts (cond t (b ∷ shared_front bs cs) []) (b ∷ bs)) [ true ↦ (refl, starts_common_left bs cs) | false ↦ tt ]
 
 same_bit-true : (b c : Bool) → same_bit b c ≡ true → b ≡ c
 same_bit-true true true e = refl
@@ -105,10 +105,10 @@ same_bit-same : (b : Bool) → same_bit b b ≡ true
 same_bit-same true = refl
 same_bit-same false = refl
 
-starts_common_right : (bs cs : List Bool) → Starts (common bs cs) cs
+starts_common_right : (bs cs : List Bool) → Starts (shared_front bs cs) cs
 starts_common_right [] cs = tt
 starts_common_right (b ∷ bs) [] = tt
-starts_common_right (b ∷ bs) (c ∷ cs) = elim (same_bit b c) as (λ t. same_bit b c ≡ t → Starts (cond t (b ∷ common bs cs) []) (c ∷ cs)) [ true ↦ λ e. (same_bit-true b c e, starts_common_right bs cs) | false ↦ λ e. tt ] refl
+starts_common_right (b ∷ bs) (c ∷ cs) = elim (same_bit b c) as (λ t. same_bit b c ≡ t → Starts (cond t (b ∷ shared_front bs cs) []) (c ∷ cs)) [ true ↦ λ e. (same_bit-true b c e, starts_common_right bs cs) | false ↦ λ e. tt ] refl
 
 starts_trans : (us vs ws : List Bool) → Starts us vs → Starts vs ws → Starts us ws
 starts_trans [] vs ws h g = tt
@@ -116,13 +116,13 @@ starts_trans (u ∷ us) [] ws h g = absurd h
 starts_trans (u ∷ us) (v ∷ vs) [] h g = absurd g
 starts_trans (u ∷ us) (v ∷ vs) (w ∷ ws) h g = (h.0 ∙ g.0, starts_trans us vs ws h.1 g.1)
 
-starts_common : (ws bs cs : List Bool) → Starts ws bs → Starts ws cs → Starts ws (common bs cs)
+starts_common : (ws bs cs : List Bool) → Starts ws bs → Starts ws cs → Starts ws (shared_front bs cs)
 starts_common [] bs cs h g = tt
 starts_common (w ∷ ws) [] cs h g = absurd h
 starts_common (w ∷ ws) (b ∷ bs) [] h g = absurd g
 starts_common (w ∷ ws) (b ∷ bs) (c ∷ cs) h g =
     let e : same_bit b c ≡ true = ap (same_bit b) (sym g.0 ∙ h.0) ∙ same_bit-same b in
-    subst (λ t. Starts (w ∷ ws) (cond t (b ∷ common bs cs) [])) (sym e) (h.0, starts_common ws bs cs h.1 g.1)
+    subst (λ t. Starts (w ∷ ws) (cond t (b ∷ shared_front bs cs) [])) (sym e) (h.0, starts_common ws bs cs h.1 g.1)
 
 starts_length : (ws bs : List Bool) → Starts ws bs → length ws ≤ length bs
 starts_length [] bs h = omega arith

@@ -1,7 +1,7 @@
 -- Bits of lists and of keys.
 use Rattle.std.proofs.Common.{◌≡◌, ℕ, zero, suc, ◌+◌, ◌-◌, ◌*◌, ◌/◌, ◌%◌, ◌^◌, ◌<◌, ◌≤◌, Bool, true, false, List, [], ◌∷◌, ◌++◌, length, drop, get_or, refl, ap, ◌∙◌, arith, add-one, eqb}
 use Rattle.std.proofs.Math.Nat.{mod-lt}
-use Rattle.vic_wire.specs.Bits.{is_odd, bits_of_byte, key_bits, bit_of, key_bit, common}
+use Rattle.vic_wire.specs.Bits.{is_odd, bits_of_byte, key_bits, bit_of, key_bit, shared_front}
 
 -- ---- a bit by its byte
 
@@ -71,27 +71,27 @@ drop-bits b (suc (suc (suc (suc (suc (suc zero)))))) h = refl
 drop-bits b (suc (suc (suc (suc (suc (suc (suc zero))))))) h = refl
 drop-bits b (suc (suc (suc (suc (suc (suc (suc (suc n)))))))) h = absurd (omega arith)
 
-common-same : (b c : Bool) (bs cs : List Bool) → b ≡ c → length (common (b ∷ bs) (c ∷ cs)) ≡ suc (length (common bs cs))
-common-same true true bs cs e = refl
-common-same false false bs cs e = refl
-common-same true false bs cs e = cc
-common-same false true bs cs e = cc
+shared_front-same : (b c : Bool) (bs cs : List Bool) → b ≡ c → length (shared_front (b ∷ bs) (c ∷ cs)) ≡ suc (length (shared_front bs cs))
+shared_front-same true true bs cs e = refl
+shared_front-same false false bs cs e = refl
+shared_front-same true false bs cs e = cc
+shared_front-same false true bs cs e = cc
 
-common-differ : (g h : ℕ) (bs cs : List Bool) → g < 2 → h < 2 → (g ≡ h → ⊥) → length (common (eqb g 1 ∷ bs) (eqb h 1 ∷ cs)) ≡ 0
-common-differ zero zero bs cs p q e = absurd (e refl)
-common-differ zero (suc zero) bs cs p q e = refl
-common-differ (suc zero) zero bs cs p q e = refl
-common-differ (suc zero) (suc zero) bs cs p q e = absurd (e refl)
-common-differ zero (suc (suc h)) bs cs p q e = absurd (omega arith)
-common-differ (suc zero) (suc (suc h)) bs cs p q e = absurd (omega arith)
-common-differ (suc (suc g)) h bs cs p q e = absurd (omega arith)
+shared_front-differ : (g h : ℕ) (bs cs : List Bool) → g < 2 → h < 2 → (g ≡ h → ⊥) → length (shared_front (eqb g 1 ∷ bs) (eqb h 1 ∷ cs)) ≡ 0
+shared_front-differ zero zero bs cs p q e = absurd (e refl)
+shared_front-differ zero (suc zero) bs cs p q e = refl
+shared_front-differ (suc zero) zero bs cs p q e = refl
+shared_front-differ (suc zero) (suc zero) bs cs p q e = absurd (e refl)
+shared_front-differ zero (suc (suc h)) bs cs p q e = absurd (omega arith)
+shared_front-differ (suc zero) (suc (suc h)) bs cs p q e = absurd (omega arith)
+shared_front-differ (suc (suc g)) h bs cs p q e = absurd (omega arith)
 
-pub alike_more : (n x y : ℕ) → n < 8 → x / 2 ^ (7 - n) % 2 ≡ y / 2 ^ (7 - n) % 2 → length (common (drop n (bits_of_byte x)) (drop n (bits_of_byte y))) ≡ suc (length (common (drop (n + 1) (bits_of_byte x)) (drop (n + 1) (bits_of_byte y))))
-alike_more n x y h e = rw add-one ((λ i. length (common (drop-bits x n h i) (drop-bits y n h i))) ∙ common-same _ _ _ _ (ap (λ m. eqb m 1) e))
+pub alike_more : (n x y : ℕ) → n < 8 → x / 2 ^ (7 - n) % 2 ≡ y / 2 ^ (7 - n) % 2 → length (shared_front (drop n (bits_of_byte x)) (drop n (bits_of_byte y))) ≡ suc (length (shared_front (drop (n + 1) (bits_of_byte x)) (drop (n + 1) (bits_of_byte y))))
+alike_more n x y h e = rw add-one ((λ i. length (shared_front (drop-bits x n h i) (drop-bits y n h i))) ∙ shared_front-same _ _ _ _ (ap (λ m. eqb m 1) e))
 
-pub alike_none : (n x y : ℕ) → n < 8 → (x / 2 ^ (7 - n) % 2 ≡ y / 2 ^ (7 - n) % 2 → ⊥) → length (common (drop n (bits_of_byte x)) (drop n (bits_of_byte y))) ≡ 0
-alike_none n x y h e = (λ i. length (common (drop-bits x n h i) (drop-bits y n h i))) ∙ common-differ _ _ _ _ (mod-lt (x / 2 ^ (7 - n)) (omega arith)) (mod-lt (y / 2 ^ (7 - n)) (omega arith)) e
+pub alike_none : (n x y : ℕ) → n < 8 → (x / 2 ^ (7 - n) % 2 ≡ y / 2 ^ (7 - n) % 2 → ⊥) → length (shared_front (drop n (bits_of_byte x)) (drop n (bits_of_byte y))) ≡ 0
+alike_none n x y h e = (λ i. length (shared_front (drop-bits x n h i) (drop-bits y n h i))) ∙ shared_front-differ _ _ _ _ (mod-lt (x / 2 ^ (7 - n)) (omega arith)) (mod-lt (y / 2 ^ (7 - n)) (omega arith)) e
 
-pub alike_end : (n x y : ℕ) → n ≡ 8 → length (common (drop n (bits_of_byte x)) (drop n (bits_of_byte y))) ≡ 0
+pub alike_end : (n x y : ℕ) → n ≡ 8 → length (shared_front (drop n (bits_of_byte x)) (drop n (bits_of_byte y))) ≡ 0
 unfolding bits_of_byte
-alike_end n x y e = ap (λ m. length (common (drop m (bits_of_byte x)) (drop m (bits_of_byte y)))) e
+alike_end n x y e = ap (λ m. length (shared_front (drop m (bits_of_byte x)) (drop m (bits_of_byte y)))) e

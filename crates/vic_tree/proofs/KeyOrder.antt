@@ -11,7 +11,7 @@ use Rattle.std.specs.Ordering.{nat_cmp, ordering_then, MatchOrdering}
 use Rattle.std.specs.Cmp.{nat_cmp_is, ranks}
 use Rattle.std.specs.Cmp.Lexicographic.{slice_cmp}
 use Rattle.std.specs.FinMap.{nat_cmp-IsAntisymmetric}
-use Rattle.vic_wire.specs.Bits.{is_odd, bits_of_byte, key_bits, bit_of, key_bit, common, shared}
+use Rattle.vic_wire.specs.Bits.{is_odd, bits_of_byte, key_bits, bit_of, key_bit, shared_front, shared_bits}
 use Rattle.vic_tree.specs.Grown.{bit_cmp, PartsAt}
 use Rattle.vic_dict.specs.Lists.{AreBytes}
 use Rattle.vic_tree.proofs.KeyBits.{bit_of-left, bit_of-right}
@@ -114,22 +114,22 @@ same_byte x y h g e = nat_cmp-IsAntisymmetric x y (sym (byte_order x y h g) ∙ 
 abbrev pub Differ : ℕ → List Bool → List Bool → Type 0
 Differ i bs cs = ((bit_of bs i ≡ false) × (bit_of cs i ≡ true)) ⊎ ((bit_of bs i ≡ true) × (bit_of cs i ≡ false))
 
-common-below : (bs cs : List Bool) (j : ℕ) → j < length (common bs cs) → bit_of bs j ≡ bit_of cs j
-common-below [] cs j h = absurd (omega arith)
-common-below (b ∷ bs) [] j h = absurd (omega arith)
-common-below (true ∷ bs) (true ∷ cs) zero h = refl
-common-below (true ∷ bs) (true ∷ cs) (suc j) h = common-below bs cs j (omega arith)
-common-below (false ∷ bs) (false ∷ cs) zero h = refl
-common-below (false ∷ bs) (false ∷ cs) (suc j) h = common-below bs cs j (omega arith)
-common-below (true ∷ bs) (false ∷ cs) j h = absurd (omega arith)
-common-below (false ∷ bs) (true ∷ cs) j h = absurd (omega arith)
+shared_front-below : (bs cs : List Bool) (j : ℕ) → j < length (shared_front bs cs) → bit_of bs j ≡ bit_of cs j
+shared_front-below [] cs j h = absurd (omega arith)
+shared_front-below (b ∷ bs) [] j h = absurd (omega arith)
+shared_front-below (true ∷ bs) (true ∷ cs) zero h = refl
+shared_front-below (true ∷ bs) (true ∷ cs) (suc j) h = shared_front-below bs cs j (omega arith)
+shared_front-below (false ∷ bs) (false ∷ cs) zero h = refl
+shared_front-below (false ∷ bs) (false ∷ cs) (suc j) h = shared_front-below bs cs j (omega arith)
+shared_front-below (true ∷ bs) (false ∷ cs) j h = absurd (omega arith)
+shared_front-below (false ∷ bs) (true ∷ cs) j h = absurd (omega arith)
 
-pub length-common-front : (bs ks ls : List Bool) → length (common (bs ++ ks) (bs ++ ls)) ≡ length bs + length (common ks ls)
-length-common-front [] ks ls = omega arith
-length-common-front (true ∷ bs) ks ls = omega (arith, length-common-front bs ks ls)
-length-common-front (false ∷ bs) ks ls = omega (arith, length-common-front bs ks ls)
+pub length-shared_front-front : (bs ks ls : List Bool) → length (shared_front (bs ++ ks) (bs ++ ls)) ≡ length bs + length (shared_front ks ls)
+length-shared_front-front [] ks ls = omega arith
+length-shared_front-front (true ∷ bs) ks ls = omega (arith, length-shared_front-front bs ks ls)
+length-shared_front-front (false ∷ bs) ks ls = omega (arith, length-shared_front-front bs ks ls)
 
-pub same_or_differ : (bs cs ks ls : List Bool) → length bs ≡ length cs → (bs ≡ cs) ⊎ ((length (common (bs ++ ks) (cs ++ ls)) ≡ length (common bs cs)) × (length (common bs cs) < length bs) × Differ (length (common bs cs)) bs cs)
+pub same_or_differ : (bs cs ks ls : List Bool) → length bs ≡ length cs → (bs ≡ cs) ⊎ ((length (shared_front (bs ++ ks) (cs ++ ls)) ≡ length (shared_front bs cs)) × (length (shared_front bs cs) < length bs) × Differ (length (shared_front bs cs)) bs cs)
 same_or_differ [] [] ks ls e = inl refl
 same_or_differ [] (c ∷ cs) ks ls e = absurd (omega arith)
 same_or_differ (b ∷ bs) [] ks ls e = absurd (omega arith)
@@ -146,19 +146,19 @@ Differ-right : (i : ℕ) (bs ks ls : List Bool) → Differ i ks ls → Differ (l
 Differ-right i bs ks ls (inl d) = inl (bit_of-right bs ks i ∙ d.0, bit_of-right bs ls i ∙ d.1)
 Differ-right i bs ks ls (inr d) = inr (bit_of-right bs ks i ∙ d.0, bit_of-right bs ls i ∙ d.1)
 
-pub shared-first : (x : ℕ) (xs ys : List ℕ) → shared (x ∷ xs) (x ∷ ys) ≡ 9 + shared xs ys
+pub shared_bits-first : (x : ℕ) (xs ys : List ℕ) → shared_bits (x ∷ xs) (x ∷ ys) ≡ 9 + shared_bits xs ys
 unfolding key_bits bits_of_byte
-shared-first x xs ys = length-common-front (true ∷ bits_of_byte x) (key_bits xs) (key_bits ys)
+shared_bits-first x xs ys = length-shared_front-front (true ∷ bits_of_byte x) (key_bits xs) (key_bits ys)
 
 -- at bytes that differ the first keys part within the byte
-pub shared-differ : (x y : ℕ) (xs ys : List ℕ) → x < 256 → y < 256 → (x ≡ y → ⊥) → shared (x ∷ xs) (y ∷ ys) ≡ 1 + length (common (bits_of_byte x) (bits_of_byte y))
+pub shared_bits-differ : (x y : ℕ) (xs ys : List ℕ) → x < 256 → y < 256 → (x ≡ y → ⊥) → shared_bits (x ∷ xs) (y ∷ ys) ≡ 1 + length (shared_front (bits_of_byte x) (bits_of_byte y))
 unfolding key_bits bits_of_byte
-shared-differ x y xs ys h g ne = elim (same_or_differ (bits_of_byte x) (bits_of_byte y) (key_bits xs) (key_bits ys) refl) [
+shared_bits-differ x y xs ys h g ne = elim (same_or_differ (bits_of_byte x) (bits_of_byte y) (key_bits xs) (key_bits ys) refl) [
   | inl q ↦ absurd (ne (same_byte x y h g q))
   | inr d ↦ omega (arith, d.0)
 ]
 
-same_or_part : (a b : List ℕ) → AreBytes a → AreBytes b → (a ≡ b) ⊎ Differ (shared a b) (key_bits a) (key_bits b)
+same_or_part : (a b : List ℕ) → AreBytes a → AreBytes b → (a ≡ b) ⊎ Differ (shared_bits a b) (key_bits a) (key_bits b)
 unfolding key_bits bits_of_byte
 same_or_part [] [] h g = inl refl
 same_or_part [] (y ∷ ys) h g = inr (inl (refl, refl))
@@ -170,9 +170,9 @@ same_or_part (x ∷ xs) (y ∷ ys) h g =
           elim (same_or_part xs ys (AreBytes-rest x xs h) (AreBytes-rest y ys g)) [
             | inl r ↦ inl (λ i. e i ∷ r i)
             | inr d ↦
-                let n = sym (length-common-front (true ∷ bits_of_byte x) (key_bits xs) (key_bits ys)) in
-                let at : Differ (shared (x ∷ xs) (x ∷ ys)) (key_bits (x ∷ xs)) (key_bits (x ∷ ys)) = subst (λ (n : ℕ). Differ n (key_bits (x ∷ xs)) (key_bits (x ∷ ys))) n (Differ-right (shared xs ys) (true ∷ bits_of_byte x) (key_bits xs) (key_bits ys) d) in
-                inr (subst (λ (z : ℕ). Differ (shared (x ∷ xs) (z ∷ ys)) (key_bits (x ∷ xs)) (key_bits (z ∷ ys))) e at)
+                let n = sym (length-shared_front-front (true ∷ bits_of_byte x) (key_bits xs) (key_bits ys)) in
+                let at : Differ (shared_bits (x ∷ xs) (x ∷ ys)) (key_bits (x ∷ xs)) (key_bits (x ∷ ys)) = subst (λ (n : ℕ). Differ n (key_bits (x ∷ xs)) (key_bits (x ∷ ys))) n (Differ-right (shared_bits xs ys) (true ∷ bits_of_byte x) (key_bits xs) (key_bits ys) d) in
+                inr (subst (λ (z : ℕ). Differ (shared_bits (x ∷ xs) (z ∷ ys)) (key_bits (x ∷ xs)) (key_bits (z ∷ ys))) e at)
           ]
       | inr d ↦ inr (subst (λ (n : ℕ). Differ n (key_bits (x ∷ xs)) (key_bits (y ∷ ys))) (sym d.0) (Differ-left _ (true ∷ bits_of_byte x) (true ∷ bits_of_byte y) (key_bits xs) (key_bits ys) d.1 d.1 d.2))
     ]
@@ -182,13 +182,13 @@ same_or_part (x ∷ xs) (y ∷ ys) h g =
     rest (b ∷ bs) = bs
 
 -- two keys are one, or they part where their longest common prefix of bits ends
-pub parts : (a b : List ℕ) → AreBytes a → AreBytes b → (a ≡ b) ⊎ (PartsAt (shared a b) a b ⊎ PartsAt (shared a b) b a)
+pub parts : (a b : List ℕ) → AreBytes a → AreBytes b → (a ≡ b) ⊎ (PartsAt (shared_bits a b) a b ⊎ PartsAt (shared_bits a b) b a)
 unfolding key_bit
 parts a b h g = elim (same_or_part a b h g) [
   | inl e ↦ inl e
   | inr d ↦ elim d [
-    | inl p ↦ inr (inl (record { same = λ j k. common-below (key_bits a) (key_bits b) j k; left = p.0; right = p.1 }))
-    | inr p ↦ inr (inr (record { same = λ j k. sym (common-below (key_bits a) (key_bits b) j k); left = p.1; right = p.0 }))
+    | inl p ↦ inr (inl (record { same = λ j k. shared_front-below (key_bits a) (key_bits b) j k; left = p.0; right = p.1 }))
+    | inr p ↦ inr (inr (record { same = λ j k. sym (shared_front-below (key_bits a) (key_bits b) j k); left = p.1; right = p.0 }))
   ]
 ]
 
@@ -211,16 +211,16 @@ PartsAt-less i a b h g p = sym (bit_order a b h g) ∙ below-bits i (key_bits a)
 -- ---- where a step over the bytes of two keys leaves them
 
 pub shared_at : (a b : List ℕ) (n : ℕ) → n < length a → n < length b → get_or a n 0 ≡ get_or b n 0
-    → (shared (drop n a) (drop n b) ≡ 9 + shared (drop (n + 1) a) (drop (n + 1) b)) × (drop (n + 1) a ≡ drop (n + 1) b → drop n a ≡ drop n b)
+    → (shared_bits (drop n a) (drop n b) ≡ 9 + shared_bits (drop (n + 1) a) (drop (n + 1) b)) × (drop (n + 1) a ≡ drop (n + 1) b → drop n a ≡ drop n b)
 shared_at a b n h g e = rw add-one (
     let p = drop-cons a n 0 h in let q = drop-cons b n 0 g ∙ ap (λ x. x ∷ drop (suc n) b) (sym e) in
-    ((λ i. shared (p i) (q i)) ∙ shared-first (get_or a n 0) (drop (suc n) a) (drop (suc n) b), λ r. p ∙ ap (λ xs. get_or a n 0 ∷ xs) r ∙ sym q))
+    ((λ i. shared_bits (p i) (q i)) ∙ shared_bits-first (get_or a n 0) (drop (suc n) a) (drop (suc n) b), λ r. p ∙ ap (λ xs. get_or a n 0 ∷ xs) r ∙ sym q))
 
 pub shared_apart : (a b : List ℕ) (n : ℕ) → n < length a → n < length b → AreBytes a → AreBytes b → (get_or a n 0 ≡ get_or b n 0 → ⊥)
-    → shared (drop n a) (drop n b) ≡ 1 + length (common (bits_of_byte (get_or a n 0)) (bits_of_byte (get_or b n 0)))
-shared_apart a b n h g fa fb e = (λ i. shared (drop-cons a n 0 h i) (drop-cons b n 0 g i)) ∙ shared-differ _ _ _ _ (fa n) (fb n) e
+    → shared_bits (drop n a) (drop n b) ≡ 1 + length (shared_front (bits_of_byte (get_or a n 0)) (bits_of_byte (get_or b n 0)))
+shared_apart a b n h g fa fb e = (λ i. shared_bits (drop-cons a n 0 h i) (drop-cons b n 0 g i)) ∙ shared_bits-differ _ _ _ _ (fa n) (fb n) e
 
-shared_ended : (a b : List ℕ) → length a ≢ length b → (length a ≡ 0) ⊎ (length b ≡ 0) → shared a b ≡ 0
+shared_ended : (a b : List ℕ) → length a ≢ length b → (length a ≡ 0) ⊎ (length b ≡ 0) → shared_bits a b ≡ 0
 unfolding key_bits
 shared_ended [] [] ne e = absurd (ne refl)
 shared_ended [] (y ∷ ys) ne e = refl
@@ -228,6 +228,6 @@ shared_ended (x ∷ xs) [] ne e = refl
 shared_ended (x ∷ xs) (y ∷ ys) ne (inl e) = absurd (omega arith)
 shared_ended (x ∷ xs) (y ∷ ys) ne (inr e) = absurd (omega arith)
 
-pub shared_end : (a b : List ℕ) (n : ℕ) → length a ≢ length b → (n ≡ length a) ⊎ (n ≡ length b) → n ≤ length a → n ≤ length b → shared (drop n a) (drop n b) ≡ 0
+pub shared_end : (a b : List ℕ) (n : ℕ) → length a ≢ length b → (n ≡ length a) ⊎ (n ≡ length b) → n ≤ length a → n ≤ length b → shared_bits (drop n a) (drop n b) ≡ 0
 shared_end a b n ne (inl e) p q = shared_ended (drop n a) (drop n b) (λ r. ne (omega (arith, length-drop n a, length-drop n b, r))) (inl (omega (arith, length-drop n a)))
 shared_end a b n ne (inr e) p q = shared_ended (drop n a) (drop n b) (λ r. ne (omega (arith, length-drop n a, length-drop n b, r))) (inr (omega (arith, length-drop n b)))

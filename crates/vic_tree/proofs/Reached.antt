@@ -7,7 +7,7 @@ use Rattle.std.specs.Cmp.{tied_itself}
 use Rattle.std.specs.Cmp.Lexicographic.{nat_list_cmp_total}
 use Rattle.std.specs.FinMap.{get-insert, get-empty, get-from_sorted, entries-from_sorted}
 use Rattle.std.specs.FinMap as finmap
-use Rattle.vic_dict.specs.Dictionary.{Dictionary, reply, after, found as found_answer, gone as gone_answer}
+use Rattle.vic_dict.specs.Dictionary.{Dictionary, reply, after, answer_of_get, answer_of_del}
 use Rattle.vic_dict.specs.declared.op.Op.{Op}
 use Rattle.vic_dict.specs.declared.op.Op.TheVariants as op
 use Rattle.vic_dict.specs.declared.op.Answer.TheVariants as answer
@@ -15,8 +15,8 @@ use Rattle.vic_wire.specs.Bits.{key_bit}
 use Rattle.vic_dict.specs.Lists.{AreBytes}
 use Rattle.vic_wire.specs.Trees.{Tree, Empty, Leaf, Inner, Stub, Pair, pairs_of, root_of, tree_of, dictionary_root}
 use Rattle.vic_wire.specs.Cuts.{IsCut}
-use Rattle.vic_wire.specs.Walks.{end_at, is_stub, below, least, is_whole, leaf_has_prefix, reaches, gathered, walked, put_in, del_in, tree_after}
-use Rattle.vic_tree.specs.Shown.{value_at, names_below, names_in, shown}
+use Rattle.vic_wire.specs.Walks.{end_at, is_stub, below, least, is_whole, leaf_has_prefix, reaches, dictionary_with_pairs, walked, put_in, del_in, tree_after}
+use Rattle.vic_tree.specs.Shown.{value_at, names_below, names_in, answer_shown}
 use Rattle.vic_tree.specs.Grown.{HasKey, IsGrown, IsTree, HasByteEntries, HasByteWords, IsKeyed}
 use Rattle.vic_tree.proofs.Lists.{key_cmp, found, or_else, or_else-none, found-none, same_key, IsSorted, IsBelowAll}
 use Rattle.vic_tree.proofs.Grown.{grown_sorted}
@@ -59,7 +59,7 @@ not_itself a ps b h = differ (sym (below_has a a ps b h) ∙ tied_itself nat_lis
     differ : ◌≡◌ {A = Ordering} Less Equal → ⊥
     differ e = cc
 
-pub get_laid : (ps : List Pair) (d : Dictionary) (k : List ℕ) → IsSorted ps → finmap.get (gathered d ps) k ≡ or_else (found k ps) (finmap.get d k)
+pub get_laid : (ps : List Pair) (d : Dictionary) (k : List ℕ) → IsSorted ps → finmap.get (dictionary_with_pairs d ps) k ≡ or_else (found k ps) (finmap.get d k)
 get_laid [] d k s = refl
 get_laid (p ∷ ps) d k s =
     get_laid ps (finmap.insert d p.0 p.1) k (second _ _ s)
@@ -69,10 +69,10 @@ get_laid (p ∷ ps) d k s =
       | false ↦ λ e. refl
     ] refl
 
-pub laid_is : (ps : List Pair) → IsSorted ps → gathered finmap.empty ps ≡ finmap.from_sorted ps
+pub laid_is : (ps : List Pair) → IsSorted ps → dictionary_with_pairs finmap.empty ps ≡ finmap.from_sorted ps
 laid_is ps s = same_dictionary _ _ (λ k. get_laid ps finmap.empty k s ∙ ap (or_else (found k ps)) (get-empty key_cmp k) ∙ or_else-none (found k ps) ∙ sym (get-from_sorted key_cmp ps k s))
 
-pub keys_laid : (ps : List Pair) → IsSorted ps → finmap.keys (gathered finmap.empty ps) ≡ keys_of ps
+pub keys_laid : (ps : List Pair) → IsSorted ps → finmap.keys (dictionary_with_pairs finmap.empty ps) ≡ keys_of ps
 keys_laid ps s = ap (finmap.keys {R = key_cmp}) (laid_is ps s) ∙ ap (map (λ (e : Pair). e.0)) (entries-from_sorted key_cmp ps s)
 
 -- ---- the walk of a key
@@ -96,7 +96,7 @@ end_no_stub (Leaf k v) h = refl
 end_no_stub (Inner i l r) h = refl
 end_no_stub (Stub root) h = absurd h
 
-pub get_end : (k : List ℕ) (e : Tree) → IsEnd e → finmap.get (gathered finmap.empty (pairs_of e)) k ≡ value_at k e
+pub get_end : (k : List ℕ) (e : Tree) → IsEnd e → finmap.get (dictionary_with_pairs finmap.empty (pairs_of e)) k ≡ value_at k e
 get_end k Empty h = get-empty key_cmp k
 get_end k (Leaf q w) h =
     get-insert nat_list_cmp_total finmap.empty q w k ∙ ap (cond (eq_by_cmp key_cmp k q) (Some w)) (get-empty key_cmp k)
@@ -104,7 +104,7 @@ get_end k (Leaf q w) h =
 get_end k (Inner i l r) h = absurd h
 get_end k (Stub root) h = absurd h
 
-grown_below : (p : List ℕ) → AreBytes p → (t : Tree) → IsGrown t → kept p (finmap.keys (gathered finmap.empty (pairs_of (below p t)))) ≡ names_below p (below p t)
+grown_below : (p : List ℕ) → AreBytes p → (t : Tree) → IsGrown t → kept p (finmap.keys (dictionary_with_pairs finmap.empty (pairs_of (below p t)))) ≡ names_below p (below p t)
 grown_below p pb t g =
     let b = below_is p t g in
     ap (kept p) (keys_laid (pairs_of (below p t)) (grown_sorted (below p t) b.grown)) ∙ sym (names_of_below p (below p t) pb b.grown b.alike)
@@ -126,21 +126,21 @@ end_or_stub k (Inner i l r) n =
 end_or_stub k (Stub root) n = absurd (cross n)
 
 -- where it reaches an operation on a key, the nodes of the walk answer as the dictionary of its leaves
-pub shown-walked : (c : Tree) (o : Op) → IsKeyed o → reaches c o ≡ true → shown c o ≡ reply (walked c o) o
-shown-walked c (op.Put k v) w e = refl
-shown-walked c (op.Get k) w e = ap found_answer (sym (get_end k (end_at k c) (end_or_stub k c (not_true _ e))))
-shown-walked c (op.Del k) w e = ap gone_answer (sym (get_end k (end_at k c) (end_or_stub k c (not_true _ e))))
-shown-walked c (op.List p) w e = absurd w
+pub answer_shown-walked : (c : Tree) (o : Op) → IsKeyed o → reaches c o ≡ true → answer_shown c o ≡ reply (walked c o) o
+answer_shown-walked c (op.Put k v) w e = refl
+answer_shown-walked c (op.Get k) w e = ap answer_of_get (sym (get_end k (end_at k c) (end_or_stub k c (not_true _ e))))
+answer_shown-walked c (op.Del k) w e = ap answer_of_del (sym (get_end k (end_at k c) (end_or_stub k c (not_true _ e))))
+answer_shown-walked c (op.List p) w e = absurd w
 
 -- the keys below the prefix's node, gathered out
-all_below : (p : List ℕ) → AreBytes p → (t : Tree) → IsTree t → kept p (finmap.keys (gathered finmap.empty (pairs_of (below p t)))) ≡ names_below p (below p t)
+all_below : (p : List ℕ) → AreBytes p → (t : Tree) → IsTree t → kept p (finmap.keys (dictionary_with_pairs finmap.empty (pairs_of (below p t)))) ≡ names_below p (below p t)
 all_below p pb Empty g = ap (kept p) (keys_laid [] tt)
 all_below p pb (Leaf k v) g = grown_below p pb (Leaf k v) g
 all_below p pb (Inner i l r) g = grown_below p pb (Inner i l r) g
 all_below p pb (Stub root) g = absurd g
 
 -- a leaf without the prefix, gathered out
-one_leaf : (p : List ℕ) (l : Tree) → IsEnd l → leaf_has_prefix p l ≡ false → kept p (finmap.keys (gathered finmap.empty (pairs_of l))) ≡ []
+one_leaf : (p : List ℕ) (l : Tree) → IsEnd l → leaf_has_prefix p l ≡ false → kept p (finmap.keys (dictionary_with_pairs finmap.empty (pairs_of l))) ≡ []
 one_leaf p Empty e h = ap (kept p) (keys_laid [] tt)
 one_leaf p (Leaf k v) e h = ap (kept p) (keys_laid ((k, v) ∷ []) tt) ∙ ap (λ b. cond b (k ∷ []) []) h
 one_leaf p (Inner i l r) e h = absurd e
@@ -152,10 +152,10 @@ module _ (d : Dictionary) (bytes : HasByteEntries d) (c : Tree) (cut : IsCut c (
   pub whole : HasTree d (tree_of d)
   whole = has_tree d bytes
 
-  pub get_walked : (k : List ℕ) → not (is_stub (end_at k c)) ≡ true → finmap.get (gathered finmap.empty (pairs_of (end_at k c))) k ≡ finmap.get d k
+  pub get_walked : (k : List ℕ) → not (is_stub (end_at k c)) ≡ true → finmap.get (dictionary_with_pairs finmap.empty (pairs_of (end_at k c))) k ≡ finmap.get d k
   get_walked k n =
       let e = end_at-cut k c (tree_of d) cut (not_true _ n) in
-      ap (λ x. finmap.get (gathered finmap.empty (pairs_of x)) k) e
+      ap (λ x. finmap.get (dictionary_with_pairs finmap.empty (pairs_of x)) k) e
       ∙ get_end k (end_at k (tree_of d)) (end_is k (tree_of d) whole.tree)
       ∙ sym (get-end_at k (tree_of d) whole.tree)
       ∙ ap (λ x. finmap.get x k) whole.stands
@@ -183,17 +183,17 @@ module _ (d : Dictionary) (bytes : HasByteEntries d) (c : Tree) (cut : IsCut c (
       let b = below-cut p c (tree_of d) cut n in
       let l = least-cut (below p c) (node p) b n in
       elim (leaf_has_prefix p (least (below p c))) as (λ x. leaf_has_prefix p (least (below p c)) ≡ x → cond x (is_whole (below p c)) (not (is_stub (least (below p c)))) ≡ true
-      → kept p (finmap.keys (gathered finmap.empty (cond x (pairs_of (below p c)) (pairs_of (least (below p c)))))) ≡ names_below p (node p)) [
+      → kept p (finmap.keys (dictionary_with_pairs finmap.empty (cond x (pairs_of (below p c)) (pairs_of (least (below p c)))))) ≡ names_below p (node p)) [
         | true ↦ λ h w. let same = whole-cut (below p c) (node p) b w in
-            ap (λ x. kept p (finmap.keys (gathered finmap.empty (pairs_of x)))) same ∙ all_below p pb (tree_of d) whole.tree
+            ap (λ x. kept p (finmap.keys (dictionary_with_pairs finmap.empty (pairs_of x)))) same ∙ all_below p pb (tree_of d) whole.tree
         | false ↦ λ h w. one_leaf p (least (below p c)) (least_is (below p c) n) h ∙ sym (ap (λ x. cond (leaf_has_prefix p x) (keys_of (pairs_of (node p))) []) (sym l) ∙ ap (λ x. cond x (keys_of (pairs_of (node p))) []) h)
       ] refl e
 
   -- the answer at what the walk shows is that of the dictionary
   pub reply-walked : (o : Op) → HasByteWords o → reaches c o ≡ true → reply (walked c o) o ≡ reply d o
   reply-walked (op.Put k v) w e = refl
-  reply-walked (op.Get k) w e = ap found_answer (get_walked k e)
-  reply-walked (op.Del k) w e = ap gone_answer (get_walked k e)
+  reply-walked (op.Get k) w e = ap answer_of_get (get_walked k e)
+  reply-walked (op.Del k) w e = ap answer_of_del (get_walked k e)
   reply-walked (op.List p) w e = ap (λ names. answer.Names names) (lists p w e ∙ names_in-keys p (tree_of d) w whole.tree ∙ ap (kept p) keys_whole)
 
   names-cut : (p : List ℕ) → reaches c (op.List p) ≡ true → names_in p c ≡ names_in p (tree_of d)
@@ -211,11 +211,11 @@ module _ (d : Dictionary) (bytes : HasByteEntries d) (c : Tree) (cut : IsCut c (
   value-cut k n = ap (value_at k) (end_at-cut k c (tree_of d) cut (not_true _ n)) ∙ sym (get-end_at k (tree_of d) whole.tree) ∙ ap (λ x. finmap.get x k) whole.stands
 
   -- what the nodes answer is the dictionary's answer
-  pub shown-reply : (o : Op) → HasByteWords o → reaches c o ≡ true → shown c o ≡ reply d o
-  shown-reply (op.Put k v) w e = refl
-  shown-reply (op.Get k) w e = ap found_answer (value-cut k e)
-  shown-reply (op.Del k) w e = ap gone_answer (value-cut k e)
-  shown-reply (op.List p) w e = ap (λ names. answer.Names names) (names-cut p e ∙ names_in-keys p (tree_of d) w whole.tree ∙ ap (kept p) keys_whole)
+  pub answer_shown-reply : (o : Op) → HasByteWords o → reaches c o ≡ true → answer_shown c o ≡ reply d o
+  answer_shown-reply (op.Put k v) w e = refl
+  answer_shown-reply (op.Get k) w e = ap answer_of_get (value-cut k e)
+  answer_shown-reply (op.Del k) w e = ap answer_of_del (value-cut k e)
+  answer_shown-reply (op.List p) w e = ap (λ names. answer.Names names) (names-cut p e ∙ names_in-keys p (tree_of d) w whole.tree ∙ ap (kept p) keys_whole)
 
   -- the tree after the operation is a cut of the new dictionary's
   pub cut-after : (o : Op) → HasByteWords o → reaches c o ≡ true → IsCut (tree_after c o) (tree_of (after d o))

@@ -1,7 +1,7 @@
 -- What the nodes of a walk answer as they stand.
 use Rattle.std.specs.Prelude.{ℕ, Bool, List, [], map, Option, Some, None, if◌then◌else◌}
 use Rattle.std.specs.Str.{bytes_eq}
-use Rattle.vic_dict.specs.Dictionary.{found, gone}
+use Rattle.vic_dict.specs.Dictionary.{answer_of_get, answer_of_del}
 use Rattle.vic_dict.specs.declared.op.Answer.{Answer}
 use Rattle.vic_dict.specs.declared.op.Answer.TheVariants as answer
 use Rattle.vic_dict.specs.declared.op.Op.{Op}
@@ -24,11 +24,11 @@ abbrev pub names_in : List ℕ → Tree → List (List ℕ)
 names_in p t = names_below p (below p t)
 
 -- what the nodes of the walk answer, the names of a list as they stand
-abbrev pub shown : Tree → Op → Answer
-shown t (op.Put k v) = answer.Stored
-shown t (op.Get k) = found (value_at k (end_at k t))
-shown t (op.Del k) = gone (value_at k (end_at k t))
-shown t (op.List p) = answer.Names (names_in p t)
+abbrev pub answer_shown : Tree → Op → Answer
+answer_shown t (op.Put k v) = answer.Stored
+answer_shown t (op.Get k) = answer_of_get (value_at k (end_at k t))
+answer_shown t (op.Del k) = answer_of_del (value_at k (end_at k t))
+answer_shown t (op.List p) = answer.Names (names_in p t)
 
 -- one side of an Inner
 abbrev pub side_of : Bool → Tree → Tree

@@ -8,7 +8,7 @@ use Rattle.std.proofs.lemmas.List.{length-take}
 use Rattle.vic_dict.specs.Dictionary.{Dictionary, IsKey}
 use Rattle.vic_dict.specs.Lists.{AreBytes}
 use Rattle.vic_wire.specs.Trees.{Tree, Empty, Leaf, Inner, Pair, pairs_of, root_of, tree_of, dictionary_root}
-use Rattle.vic_wire.specs.Walks.{end_at, revalued, planted, put_in, del_in, below, least, leaf_has_prefix}
+use Rattle.vic_wire.specs.Walks.{end_at, tree_with_value, tree_with_fork, put_in, del_in, below, least, leaf_has_prefix}
 use Rattle.vic_tree.specs.Shown.{value_at, names_in, names_below}
 use Rattle.vic_tree.specs.Grown.{HasKey, IsTree, IsGrown, dictionary_of}
 use Rattle.vic_tree.proofs.Lists.{key_cmp, same_key, found-none, HasKey-left, HasKey-right, HasKey-cases}
@@ -16,7 +16,7 @@ use Rattle.vic_tree.proofs.Stands.{get-end_at, get_of, entries_of, tree_of-dicti
 use Rattle.vic_tree.proofs.Deleted.{is_del, tree_of_grown}
 use Rattle.vic_tree.proofs.Found.{is_put}
 use Rattle.vic_tree.proofs.Names.{kept, keys_of, names_in-keys}
-use Rattle.vic_tree.proofs.Sums.{length_by_sum, total-planted, total-revalued, total-del_in, total_least}
+use Rattle.vic_tree.proofs.Sums.{length_by_sum, total-tree_with_fork, total-tree_with_value, total-del_in, total_least}
 use Rattle.std.specs.FinMap.{len-entries, get-empty, get-remove}
 use Rattle.std.specs.Ordering.{eq_by_cmp}
 use Rattle.std.specs.Cmp.Lexicographic.{nat_list_cmp_total}
@@ -28,16 +28,16 @@ use Rattle.vic_trie.specs.Tries.{top_tree, IsTopSound, IsKept, Grows, Keeps, Shr
 
 -- ---- weight and count
 
-pub grows_planted : (n : ℕ) (k v : List ℕ) (t : Tree) → Grows t (planted n k v t) k v
+pub grows_planted : (n : ℕ) (k v : List ℕ) (t : Tree) → Grows t (tree_with_fork n k v t) k v
 grows_planted n k v t = record {
-  longer = omega (arith, length_by_sum (pairs_of t), length_by_sum (pairs_of (planted n k v t)), total-planted (λ p. 1) n k v t);
-  heavier = total-planted pair_weight n k v t;
+  longer = omega (arith, length_by_sum (pairs_of t), length_by_sum (pairs_of (tree_with_fork n k v t)), total-tree_with_fork (λ p. 1) n k v t);
+  heavier = total-tree_with_fork pair_weight n k v t;
 }
 
-pub keeps_revalued : (k v w : List ℕ) (t : Tree) → end_at k t ≡ Leaf k w → Keeps t (revalued k v t) v (length w)
+pub keeps_revalued : (k v w : List ℕ) (t : Tree) → end_at k t ≡ Leaf k w → Keeps t (tree_with_value k v t) v (length w)
 keeps_revalued k v w t e = record {
-  as_long = omega (arith, length_by_sum (pairs_of t), length_by_sum (pairs_of (revalued k v t)), total-revalued (λ p. 1) k v w t e);
-  weighs = omega (arith, total-revalued pair_weight k v w t e);
+  as_long = omega (arith, length_by_sum (pairs_of t), length_by_sum (pairs_of (tree_with_value k v t)), total-tree_with_value (λ p. 1) k v w t e);
+  weighs = omega (arith, total-tree_with_value pair_weight k v w t e);
 }
 
 pub shrinks_del : (k w : List ℕ) (t : Tree) → end_at k t ≡ Leaf k w → Shrinks t (del_in k t) k (length w)

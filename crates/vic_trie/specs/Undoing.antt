@@ -21,7 +21,7 @@ CanUndo (Gone k) = Unit {0}
 CanUndo (Back r) = IsReady r
 
 -- the dictionary once it is taken back
-abbrev pub undone : Undo → Dictionary → Dictionary
-undone Nothing d = d
-undone (Gone k) d = map.remove d k
-undone (Back r) d = map.insert d r.key r.value
+abbrev pub dictionary_undone : Undo → Dictionary → Dictionary
+dictionary_undone Nothing d = d
+dictionary_undone (Gone k) d = map.remove d k
+dictionary_undone (Back r) d = map.insert d r.key r.value

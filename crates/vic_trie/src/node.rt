@@ -2,7 +2,7 @@ ghost use Rattle.std.specs.Prelude.{◌≡◌, ◌<◌, ◌≤◌, length, List,
 ghost use Rattle.std.specs.Bool.{OnTrue};
 ghost use Rattle.vic_dict.specs.Dictionary.{IsKey};
 ghost use Rattle.vic_wire.specs.Trees.{Tree, Empty, Leaf, root_of, pairs_of};
-ghost use Rattle.vic_wire.specs.Walks.{end_at, below, least, revalued, forked, planted, put_in, del_in};
+ghost use Rattle.vic_wire.specs.Walks.{end_at, below, least, tree_with_value, fork_of, tree_with_fork, put_in, del_in};
 ghost use Rattle.vic_tree.specs.Shown.{value_at, side_of};
 ghost use Rattle.vic_trie.specs.Nodes.{tree, IsSound};
 ghost use Rattle.vic_trie.specs.Tries.{Grows, Keeps};
@@ -56,7 +56,7 @@ impl Node {
         requires key { IsKey key.now }
         requires value { length value < 65 }
         requires at_key { (w : List ℕ) × (end_at key.now (tree self.old) ≡ Leaf key.now w) }
-        ensures tree { tree self.new ≡ revalued key.now value (tree self.old) }
+        ensures tree { tree self.new ≡ tree_with_value key.now value (tree self.old) }
         ensures sound { IsSound self.new }
     {
         match self {
@@ -81,7 +81,7 @@ impl Node {
         requires sound { IsSound self.old }
         requires key { IsKey key.now }
         requires fresh { IsSound fresh.value × ((w : List ℕ) × (tree fresh.value ≡ Leaf key.now w)) }
-        ensures tree { (w : List ℕ) → tree fresh.value ≡ Leaf key.now w → tree self.new ≡ planted index key.now w (tree self.old) }
+        ensures tree { (w : List ℕ) → tree fresh.value ≡ Leaf key.now w → tree self.new ≡ tree_with_fork index key.now w (tree self.old) }
         ensures sound { IsSound self.new }
     {
         match self {
@@ -101,7 +101,7 @@ impl Node {
         requires sound { IsSound self.old }
         requires key { IsKey key.now }
         requires fresh { IsSound fresh.value × ((w : List ℕ) × (tree fresh.value ≡ Leaf key.now w)) }
-        ensures tree { (w : List ℕ) → tree fresh.value ≡ Leaf key.now w → tree self.new ≡ forked index key.now w (tree self.old) }
+        ensures tree { (w : List ℕ) → tree fresh.value ≡ Leaf key.now w → tree self.new ≡ fork_of index key.now w (tree self.old) }
         ensures sound { IsSound self.new }
     {
         let mut old = spare;

@@ -6,7 +6,7 @@ ghost use Rattle.vic_wire.specs.Trees.{Leaf, dictionary_root, pairs_of, tree_of}
 ghost use Rattle.vic_tree.specs.Grown.{IsTree};
 ghost use Rattle.vic_trie.specs.Nodes.{tree, IsSound};
 ghost use Rattle.vic_trie.specs.Weights.{weight_of, added_weight};
-ghost use Rattle.vic_trie.specs.Undoing.{IsReady, CanUndo, undone};
+ghost use Rattle.vic_trie.specs.Undoing.{IsReady, CanUndo, dictionary_undone};
 ghost use Rattle.std.specs.Prelude.{List, ℕ};
 
 use crate::node::Node;
@@ -191,7 +191,7 @@ impl Trie {
     fn undo_at(&self, key: &[u8]) -> Result<Undo, NoMemory>
         requires { IsKey key.now }
         ensures can { IfOk result CanUndo }
-        ensures back { IfOk result (λ u. (e : Dictionary) → ((q : List ℕ) → (q ≡ key.now → ⊥) → map.get e q ≡ map.get self.now q) → undone u e ≡ self.now) }
+        ensures back { IfOk result (λ u. (e : Dictionary) → ((q : List ℕ) → (q ≡ key.now → ⊥) → map.get e q ≡ map.get self.now q) → dictionary_undone u e ≡ self.now) }
     {
         match self.get(key) {
             None => Ok(Undo::Gone(Bytes::of(self.alloc, key)?)),
@@ -206,7 +206,7 @@ impl Trie {
         requires room { weight_of self.old ≤ 4294967295 }
         ensures ok { OnOk result (self.new ≡ after self.old op.now) }
         ensures can { IfOk result CanUndo }
-        ensures back { IfOk result (λ u. undone u self.new ≡ self.old) }
+        ensures back { IfOk result (λ u. dictionary_undone u self.new ≡ self.old) }
         ensures weighs { OnOk result (weight_of self.new ≤ weight_of self.old + added_weight op.now) }
         ensures err { OnErr result (self.new ≡ self.old) }
     {
@@ -229,7 +229,7 @@ impl Trie {
     pub fn undo(&mut self, undo: Undo)
         requires can { CanUndo undo }
         requires room { weight_of self.old ≤ 4294967295 }
-        ensures { self.new ≡ undone undo self.old }
+        ensures { self.new ≡ dictionary_undone undo self.old }
     {
         match undo {
             Undo::Nothing => (),

@@ -10,7 +10,7 @@ use Rattle.vic_turn.specs.declared.view.View.{View}
 use Rattle.vic_change.specs.Changes.{of_seat}
 use Rattle.vic_turn.specs.Changes.{Each}
 use Rattle.vic_turn.specs.Turns.{AreDifferent, one_if, tickets_of, passes_of, Moment, Stands, Fits, Kept}
-use Rattle.vic_turn.specs.Told.{grown, turn_over, HandedOn}
+use Rattle.vic_turn.specs.Told.{lists_with_changes, turn_over, HandedOn}
 use Rattle.vic_turn.proofs.Histories.{each_map, each_append, prefix_self, prefix_trans, append_cancel, of_seat-append, of_seat_own, of_seat_others}
 use Rattle.vic_turn.proofs.Views.{sum_by_at, fits_set}
 
@@ -50,15 +50,15 @@ module _ {X F : Type 0} (fixed_of : X → F) (changes_of : X → List Change) (f
         fixed = f.fixed;
         seen = prefix_self log;
         told = each_map (λ h. IsPrefix h m.log) (λ h. IsPrefix h log) (λ h p. prefix_trans h m.log log p longer) v.told f.told;
-        held = subst (λ l. Each (Stands (ended m log) id) (grown d l)) (sym only) (after, tt);
+        held = subst (λ l. Each (Stands (ended m log) id) (lists_with_changes d l)) (sym only) (after, tt);
         ticket = λ t e. absurd (cc e);
-        different = subst (λ l. AreDifferent (grown d l)) (sym only) (tt, tt);
+        different = subst (λ l. AreDifferent (lists_with_changes d l)) (sym only) (tt, tt);
         a_pass = omega arith;
         known = λ k e. absurd (cc e);
         maker = f.maker;
       }
 
-  grown_as_long : (d : List Change) (es : List (ℕ × List Change)) → length (grown d es) ≡ length es
+  grown_as_long : (d : List Change) (es : List (ℕ × List Change)) → length (lists_with_changes d es) ≡ length es
   grown_as_long d [] = refl
   grown_as_long d (e ∷ es) = refl
 

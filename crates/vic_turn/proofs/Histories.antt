@@ -5,7 +5,7 @@ use Rattle.std.proofs.lemmas.Bool.Decides.{leb_tells}
 use Rattle.vic_change.specs.declared.Change.{Change}
 use Rattle.vic_change.specs.Changes.{of_seat}
 use Rattle.vic_turn.specs.Changes.{Each}
-use Rattle.vic_turn.specs.Told.{longer, IsLonger}
+use Rattle.vic_turn.specs.Told.{longer_list, IsLonger}
 
 pub bool_cases : (b : Bool) → (b ≡ true) ⊎ (b ≡ false)
 bool_cases true = inl refl
@@ -46,7 +46,7 @@ module _ {A : Type 0} where
       let rest = prefix_shorter xs ys zs (p.0, cc (p.1)) (q.0, cc (q.1)) (omega arith) in
       (rest.0, cc (heads, rest.1))
 
-pub longer_begins : (xs ys zs : List Change) → IsPrefix xs zs → IsPrefix ys zs → IsPrefix (longer xs ys) zs
+pub longer_begins : (xs ys zs : List Change) → IsPrefix xs zs → IsPrefix ys zs → IsPrefix (longer_list xs ys) zs
 longer_begins xs ys zs p q = chosen (leb (length ys) (length xs))
   where
     chosen : (b : Bool) → IsPrefix (cond b xs ys) zs
@@ -75,7 +75,7 @@ pub of_seat_none : (k made : ℕ) (xs : List Change) → made < k → Each (λ c
 of_seat_none k made [] a e = refl
 of_seat_none k made (c ∷ xs) a e = ap (λ b. cond b (c ∷ of_seat k xs) (of_seat k xs)) (ne_eqb k c.seat (λ h. omega (arith, e.0, h))) ∙ of_seat_none k made xs a e.1
 
-pub longer_is : (xs ys zs : List Change) → IsPrefix xs zs → IsPrefix ys zs → IsLonger xs ys (longer xs ys)
+pub longer_is : (xs ys zs : List Change) → IsPrefix xs zs → IsPrefix ys zs → IsLonger xs ys (longer_list xs ys)
 longer_is xs ys zs p q =
     ⊎_elim
     (λ (h : (leb (length ys) (length xs) ≡ true) × (length ys ≤ length xs)). inl (prefix_shorter ys xs zs q p h.1, ap (λ b. cond b xs ys) h.0))

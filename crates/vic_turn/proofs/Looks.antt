@@ -11,7 +11,7 @@ use Rattle.atomic_table.proofs.Lists.{one_turn, set_again}
 use Rattle.vic_change.specs.declared.Change.{Change}
 use Rattle.vic_turn.specs.declared.view.View.{View}
 use Rattle.vic_turn.specs.Turns.{tickets_of, passes_of, Moment, Fits, Kept}
-use Rattle.vic_turn.specs.Told.{with_known, first_told, met, Looked, Met}
+use Rattle.vic_turn.specs.Told.{with_known, first_told, met_view, Looked, Met}
 use Rattle.vic_turn.proofs.Histories.{bool_cases, longer_is, longer_begins}
 use Rattle.vic_turn.proofs.Views.{sum_by_at, sum_by_mono, set_there, knower_set, fits_set}
 
@@ -116,7 +116,7 @@ module _ {X F : Type 0} (fixed_of : X → F) (changes_of : X → List Change) (f
         (λ u ut. ((λ e. absurd (ne (e ∙ ap (λ (n : ℕ). n % 2 ^ 64) (cc (ut, ticket))))), (λ _. refl))),
       ))
 
-  meeter_fits : (m : Moment F) (id : ℕ) (v : View F) → IsPrefix (first_told v.told) m.log → Fits m id v → Fits m id (met v)
+  meeter_fits : (m : Moment F) (id : ℕ) (v : View F) → IsPrefix (first_told v.told) m.log → Fits m id v → Fits m id (met_view v)
   meeter_fits m id v told f = record {
     fixed = f.fixed;
     seen = longer_begins v.seen (first_told v.told) m.log f.seen told;
@@ -138,7 +138,7 @@ module _ {X F : Type 0} (fixed_of : X → F) (changes_of : X → List Change) (f
       let m = h.m in
       let f = h.fits id me.0 at in
       let told = first_begins m id me.0 f me.0.told refl in
-      let w = met me.0 in (
+      let w = met_view me.0 in (
         w,
         keeps,
         tt,

@@ -3,12 +3,12 @@ use Rattle.std.proofs.Common.{◌≡◌, ℕ, List, [], ◌∷◌, ◌++◌, Som
 use Rattle.atomic_table.specs.Table.{Me}
 use Rattle.vic_change.specs.declared.Change.{Change}
 use Rattle.vic_turn.specs.declared.view.View.{View}
-use Rattle.vic_turn.specs.Told.{IsLonger, joined, first_told, met}
+use Rattle.vic_turn.specs.Told.{IsLonger, joined_view, first_told, met_view}
 use Rattle.vic_turn.specs.Passes.{first_list, IsIdle, IsNote}
 
-module _ {X F : Type 0} (n : ℕ) (old note both new : Me X (View F)) (idle : IsIdle n old) (plain : IsNote note) (join : both ≡ (joined old.0 note.0, old.1)) (told : (new ≡ (met both.0, both.1)) × IsLonger both.0.seen (first_told both.0.told) new.0.seen) where
-  after : new ≡ (met (joined old.0 note.0), old.1)
-  after = told.0 ∙ ap (λ (m : Me X (View F)). (met m.0, m.1)) join
+module _ {X F : Type 0} (n : ℕ) (old note both new : Me X (View F)) (idle : IsIdle n old) (plain : IsNote note) (join : both ≡ (joined_view old.0 note.0, old.1)) (told : (new ≡ (met_view both.0, both.1)) × IsLonger both.0.seen (first_told both.0.told) new.0.seen) where
+  after : new ≡ (met_view (joined_view old.0 note.0), old.1)
+  after = told.0 ∙ ap (λ (m : Me X (View F)). (met_view m.0, m.1)) join
 
   held_is : new.0.held ≡ old.0.held
   held_is = ap (λ (m : Me X (View F)). m.0.held) after ∙ ap (λ l. old.0.held ++ l) plain.3 ∙ append-nil old.0.held

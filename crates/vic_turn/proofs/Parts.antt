@@ -9,7 +9,7 @@ use Rattle.vic_change.specs.declared.Change.{Change}
 use Rattle.vic_turn.specs.declared.view.View.{View}
 use Rattle.vic_turn.specs.Changes.{Each}
 use Rattle.vic_turn.specs.Turns.{AreDifferent, one_if, tickets_of, passes_of, Moment, Stands, Fits, Kept}
-use Rattle.vic_turn.specs.Told.{Came, maker, made_pass, note_of, spent_view, joined}
+use Rattle.vic_turn.specs.Told.{Came, maker, made_pass, note_of, spent_view, joined_view}
 use Rattle.vic_turn.proofs.Histories.{each_map, each_append, cond_same, cond_other, of_seat_none}
 use Rattle.vic_turn.proofs.Views.{sum_by_at, sum_by_more, knower_set, knower_more, fits_set, fits_more}
 
@@ -141,7 +141,7 @@ module _ {X F : Type 0} (fixed_of : X → F) (changes_of : X → List Change) (f
     different_append m id other apart vs ws sv.1 sw dv.1 dw,
   )
 
-  joined_fits : (m : Moment F) (id other : ℕ) (v w : View F) → other ≢ id → Fits m id v → Fits m other w → Fits (gathered m id other) id (joined v w)
+  joined_fits : (m : Moment F) (id other : ℕ) (v w : View F) → other ≢ id → Fits m id v → Fits m other w → Fits (gathered m id other) id (joined_view v w)
   joined_fits m id other v w apart f g =
       let here = gathered_others m id other id v (λ h. apart (sym h)) f in
       record {
@@ -191,33 +191,33 @@ module _ {X F : Type 0} (fixed_of : X → F) (changes_of : X → List Change) (f
         refl,
       )
 
-  pub gathers : (id : ℕ) (v : View F) (other : ℕ) (w : View F) → w.ticket ≡ None → w.known ≡ None → Joins (Kept {X = X} fixed_of changes_of fixed count) id v other w (joined v w) spent_view
+  pub gathers : (id : ℕ) (v : View F) (other : ℕ) (w : View F) → w.ticket ≡ None → w.known ≡ None → Joins (Kept {X = X} fixed_of changes_of fixed count) id v other w (joined_view v w) spent_view
   gathers id v other w no_ticket no_known s h at apart there =
       let m = h.m in
-      let views = set s.views id (joined v w) in
-      let was : get_elem? s.views other ≡ some w = sym (set_else s.views id other (joined v w) apart) ∙ there in
+      let views = set s.views id (joined_view v w) in
+      let was : get_elem? s.views other ≡ some w = sym (set_else s.views id other (joined_view v w) apart) ∙ there in
       let f = h.fits id v at in
       let g = h.fits other w was in
       record {
         m = gathered m id other;
         fixed_is = h.fixed_is;
         words = h.words;
-        tickets = omega (arith, h.tickets, sum_by_at tickets_of s.views id v (joined v w) at, sum_by_at tickets_of views other w spent_view there, ap one_if no_ticket);
-        passes = omega (arith, h.passes, sum_by_at passes_of s.views id v (joined v w) at, sum_by_at passes_of views other w spent_view there, length-append v.held w.held);
+        tickets = omega (arith, h.tickets, sum_by_at tickets_of s.views id v (joined_view v w) at, sum_by_at tickets_of views other w spent_view there, ap one_if no_ticket);
+        passes = omega (arith, h.passes, sum_by_at passes_of s.views id v (joined_view v w) at, sum_by_at passes_of views other w spent_view there, length-append v.held w.held);
         few = h.few;
         fits = fits_set (gathered m id other) views other spent_view
             (λ j u ne e. fits_away j u ne e)
             (spent_fits (gathered m id other) other);
         seats = h.seats;
         home = h.home;
-        out = λ a. let o = h.out a in (o.0, knower_set views other w spent_view m.log there (sym no_known) (knower_set s.views id v (joined v w) m.log at refl o.1));
+        out = λ a. let o = h.out a in (o.0, knower_set views other w spent_view m.log there (sym no_known) (knower_set s.views id v (joined_view v w) m.log at refl o.1));
       }
     where
-      fits_away : (j : ℕ) (u : View F) → j ≢ other → get_elem? (set s.views id (joined v w)) j ≡ some u → Fits (gathered h.m id other) j u
+      fits_away : (j : ℕ) (u : View F) → j ≢ other → get_elem? (set s.views id (joined_view v w)) j ≡ some u → Fits (gathered h.m id other) j u
       fits_away j u ne e =
-          let was : get_elem? s.views other ≡ some w = sym (set_else s.views id other (joined v w) apart) ∙ there in
+          let was : get_elem? s.views other ≡ some w = sym (set_else s.views id other (joined_view v w) apart) ∙ there in
           let P : ℕ → View F → Type 0 = λ i x. i ≢ other → Fits (gathered h.m id other) i x in
           Rattle.std.proofs.Common.⊎_elim
-          (λ (x : (j ≡ id) × (joined v w ≡ u)). subst (λ (y : ℕ × View F). Fits (gathered h.m id other) y.0 y.1) (λ i. (sym x.0 i, x.1 i)) (joined_fits h.m id other v w apart (h.fits id v at) (h.fits other w was)))
+          (λ (x : (j ≡ id) × (joined_view v w ≡ u)). subst (λ (y : ℕ × View F). Fits (gathered h.m id other) y.0 y.1) (λ i. (sym x.0 i, x.1 i)) (joined_fits h.m id other v w apart (h.fits id v at) (h.fits other w was)))
           (λ (x : (j ≢ id) × (get_elem? s.views j ≡ some u)). gathered_others h.m id other j u ne (h.fits j u x.1))
-          (Rattle.atomic_table.proofs.Lists.at_set s.views id j (joined v w) u e)
+          (Rattle.atomic_table.proofs.Lists.at_set s.views id j (joined_view v w) u e)

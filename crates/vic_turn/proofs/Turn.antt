@@ -6,13 +6,13 @@ use Rattle.atomic_table.specs.Table.{Me}
 use Rattle.atomic_table.specs.Seated.{TableId}
 use Rattle.vic_change.specs.declared.Change.{Change}
 use Rattle.vic_turn.specs.declared.view.View.{View}
-use Rattle.vic_change.specs.Changes.{added}
+use Rattle.vic_change.specs.Changes.{change_added}
 use Rattle.vic_turn.specs.Changes.{Each}
-use Rattle.vic_turn.specs.Told.{grown, with_ticket, with_known, turn_over, TurnCame}
+use Rattle.vic_turn.specs.Told.{lists_with_changes, with_ticket, with_known, turn_over, TurnCame}
 use Rattle.vic_turn.specs.Passes.{first_list, pass_view, IsIdle, Applied, Hands, Answers, Refuses}
 use Rattle.vic_turn.proofs.Histories.{prefix_trans}
 
-each_added : (n : ℕ) (o : Option (ℕ × List ℕ)) → Each (λ c. c.seat ≡ n) (added n o)
+each_added : (n : ℕ) (o : Option (ℕ × List ℕ)) → Each (λ c. c.seat ≡ n) (change_added n o)
 each_added n None = tt
 each_added n (Some c) = (refl, tt)
 
@@ -23,11 +23,11 @@ module _ {X F Y E : Type 0} (fixed_of : X → F) (changes_of : X → List Change
     pub is : log ≡ k ++ d
     pub own : Each (λ c. c.seat ≡ n) d
     pub reply : IfOk result (λ r. r ≡ replies fixed k who payload)
-    pub change : IfOk result (λ _. d ≡ added n (records fixed k who payload n))
+    pub change : IfOk result (λ _. d ≡ change_added n (records fixed k who payload n))
     pub refused : OnErr result (d ≡ [])
 
   grew : (n who : ℕ) (payload : List ℕ) (y z : X) (result : Result Y E) → Applied fixed_of changes_of replies records n who payload y result z → Grew (fixed_of y) n who payload (changes_of y) (changes_of z) result
-  grew n who payload y z (Ok r) a = record { d = added n (records (fixed_of y) (changes_of y) who payload n); is = a.change; own = each_added n (records (fixed_of y) (changes_of y) who payload n); reply = a.reply; change = refl; refused = tt }
+  grew n who payload y z (Ok r) a = record { d = change_added n (records (fixed_of y) (changes_of y) who payload n); is = a.change; own = each_added n (records (fixed_of y) (changes_of y) who payload n); reply = a.reply; change = refl; refused = tt }
   grew n who payload y z (Err e) a = record { d = []; is = a.refused ∙ sym (append-nil (changes_of y)); own = tt; reply = tt; change = tt; refused = refl }
 
   -- the turn so far
@@ -73,7 +73,7 @@ module _ {X F Y E : Type 0} (fixed_of : X → F) (changes_of : X → List Change
       after = over p.z p.k p.grew.d p.has (ap (λ (v : View F). v.known) p.view) p.grew.is ∙ ap (λ (v : View F). (turn_over v (changes_of p.z) p.grew.d, [])) p.view
 
       held_is : new.0.held ≡ (n, first_list old.0.held ++ p.grew.d) ∷ []
-      held_is = ap (λ (m : Me X (View F)). m.0.held) after ∙ ap (grown p.grew.d) idle.4
+      held_is = ap (λ (m : Me X (View F)). m.0.held) after ∙ ap (lists_with_changes p.grew.d) idle.4
 
       pub idle_again : IsIdle n new
       idle_again = (
@@ -96,7 +96,7 @@ module _ {X F Y E : Type 0} (fixed_of : X → F) (changes_of : X → List Change
       pub answers : (id id' : TableId) → IfOk result (Answers replies records fixed (pass_view id n old) who payload (pass_view id' n new))
       answers id id' = by_case result p.grew.reply p.grew.change
         where
-          by_case : (r : Result Y E) → IfOk r (λ x. x ≡ replies fixed p.k who payload) → IfOk r (λ _. p.grew.d ≡ added n (records fixed p.k who payload n)) → IfOk r (Answers replies records fixed (pass_view id n old) who payload (pass_view id' n new))
+          by_case : (r : Result Y E) → IfOk r (λ x. x ≡ replies fixed p.k who payload) → IfOk r (λ _. p.grew.d ≡ change_added n (records fixed p.k who payload n)) → IfOk r (Answers replies records fixed (pass_view id n old) who payload (pass_view id' n new))
           by_case (Ok x) reply change = (p.k, p.begins, reply, seen_is ∙ ap (λ l. p.k ++ l) change, mine_is ∙ ap (λ l. first_list old.0.held ++ l) change)
           by_case (Err e) reply change = tt
 

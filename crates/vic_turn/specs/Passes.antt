@@ -6,7 +6,7 @@ use Rattle.atomic_table.specs.Table.{Me}
 use Rattle.atomic_table.specs.Seated.{TableId, table_id_coded}
 use Rattle.vic_change.specs.declared.Change.{Change}
 use Rattle.vic_turn.specs.declared.view.View.{View}
-use Rattle.vic_change.specs.Changes.{added, change}
+use Rattle.vic_change.specs.Changes.{change_added, change}
 use Rattle.vic_turn.specs.Changes.{Each}
 
 -- which lock it is, the fixed part of its value, and how many passes it has
@@ -59,7 +59,7 @@ module _ {F : Type 0} where
   abbrev pub Answers : {Y : Type 0} → (F → List Change → ℕ → List ℕ → Y) → (F → List Change → ℕ → List ℕ → ℕ → Option (ℕ × List ℕ)) → F → PassView F → ℕ → List ℕ → PassView F → Y → Type 0
   Answers replies records fixed old who payload new reply =
       (h : List Change) × IsPrefix old.seen h × (reply ≡ replies fixed h who payload)
-      × (new.seen ≡ h ++ added old.number (records fixed h who payload old.number)) × (new.mine ≡ old.mine ++ added old.number (records fixed h who payload old.number))
+      × (new.seen ≡ h ++ change_added old.number (records fixed h who payload old.number)) × (new.mine ≡ old.mine ++ change_added old.number (records fixed h who payload old.number))
 
   -- no change was made, and all that the value keeps has been seen
   abbrev pub Refuses : PassView F → PassView F → Type 0
@@ -94,7 +94,7 @@ pub record Applied {X F Y E : Type 0} (fixed_of : X → F) (changes_of : X → L
     (seat who : ℕ) (payload : List ℕ) (y : X) (result : Result Y E) (z : X) : Type 0 where
   pub kept : fixed_of z ≡ fixed_of y
   pub reply : IfOk result (λ r. r ≡ replies (fixed_of y) (changes_of y) who payload)
-  pub change : IfOk result (λ _. changes_of z ≡ changes_of y ++ added seat (records (fixed_of y) (changes_of y) who payload seat))
+  pub change : IfOk result (λ _. changes_of z ≡ changes_of y ++ change_added seat (records (fixed_of y) (changes_of y) who payload seat))
   pub refused : OnErr result (changes_of z ≡ changes_of y)
 
 -- the value is out with it, and has the known history, and then changes of the one pass that it stands for

@@ -8,13 +8,13 @@ use Rattle.vic_change.specs.Changes.{of_seat}
 use Rattle.vic_turn.specs.Changes.{Each}
 
 -- each pass's list grows by these changes
-abbrev pub grown : List Change → List (ℕ × List Change) → List (ℕ × List Change)
-grown d [] = []
-grown d (e ∷ es) = (e.0, e.1 ++ d) ∷ es
+abbrev pub lists_with_changes : List Change → List (ℕ × List Change) → List (ℕ × List Change)
+lists_with_changes d [] = []
+lists_with_changes d (e ∷ es) = (e.0, e.1 ++ d) ∷ es
 
 -- the longer of two histories
-abbrev pub longer : List Change → List Change → List Change
-longer xs ys = if leb (length ys) (length xs) then xs else ys
+abbrev pub longer_list : List Change → List Change → List Change
+longer_list xs ys = if leb (length ys) (length xs) then xs else ys
 
 -- of xs and ys one begins the other, and zs is the longer
 abbrev pub IsLonger : List Change → List Change → List Change → Type 0
@@ -51,8 +51,8 @@ module _ {F : Type 0} where
   spent_view = record { fixed = None; seen = []; told = []; held = []; ticket = None; known = None; makes = false; made = 0 }
 
   -- the view v, which has been told what w had seen, and stands for the passes of w too
-  abbrev pub joined : View F → View F → View F
-  joined v w = record { fixed = v.fixed; seen = v.seen; told = v.told ++ w.seen ∷ []; held = v.held ++ w.held; ticket = v.ticket; known = v.known; makes = v.makes; made = v.made }
+  abbrev pub joined_view : View F → View F → View F
+  joined_view v w = record { fixed = v.fixed; seen = v.seen; told = v.told ++ w.seen ∷ []; held = v.held ++ w.held; ticket = v.ticket; known = v.known; makes = v.makes; made = v.made }
 
   abbrev pub with_ticket : View F → ℕ → View F
   with_ticket v t = record { fixed = v.fixed; seen = v.seen; told = v.told; held = v.held; ticket = Some t; known = v.known; makes = v.makes; made = v.made }
@@ -62,11 +62,11 @@ module _ {F : Type 0} where
 
   -- the turn is over: it has seen h, which ends with its changes d
   abbrev pub turn_over : View F → List Change → List Change → View F
-  turn_over v h d = record { fixed = v.fixed; seen = h; told = v.told; held = grown d v.held; ticket = None; known = None; makes = v.makes; made = v.made }
+  turn_over v h d = record { fixed = v.fixed; seen = h; told = v.told; held = lists_with_changes d v.held; ticket = None; known = None; makes = v.makes; made = v.made }
 
   -- it has seen the longer of what it had seen and what it was told
-  abbrev pub met : View F → View F
-  met v = record { fixed = v.fixed; seen = longer v.seen (first_told v.told); told = []; held = v.held; ticket = v.ticket; known = v.known; makes = v.makes; made = v.made }
+  abbrev pub met_view : View F → View F
+  met_view v = record { fixed = v.fixed; seen = longer_list v.seen (first_told v.told); told = []; held = v.held; ticket = v.ticket; known = v.known; makes = v.makes; made = v.made }
 
 module _ {X F : Type 0} where
   -- a new seat, which knows nothing
@@ -94,7 +94,7 @@ module _ {X F : Type 0} where
 
   -- of what was seen and what was told one begins the other, and the longer has been seen
   abbrev pub Met : Step X → Me X (View F) → ℕ → Me X (View F) → Type 0
-  Met st m found n = (n ≡ (met m.0, m.1)) × IsLonger m.0.seen (first_told m.0.told) n.0.seen
+  Met st m found n = (n ≡ (met_view m.0, m.1)) × IsLonger m.0.seen (first_told m.0.told) n.0.seen
 
 -- what is known of the value at the end, of a view that stands for all passes
 pub record Settled {X F : Type 0} (fixed_of : X → F) (changes_of : X → List Change) (fixed : F) (count : ℕ) (v : View F) (y : X) : Type 0 where

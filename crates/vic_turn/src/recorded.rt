@@ -1,7 +1,7 @@
 //! What a turn lock asks of its value.
 ghost use Rattle.std.specs.Prelude.{◌≡◌, ℕ, List, ◌++◌, Option, IfOk, OnErr};
 ghost use Rattle.vic_change.specs.declared.Change.{Change};
-ghost use Rattle.vic_change.specs.Changes.{added};
+ghost use Rattle.vic_change.specs.Changes.{change_added};
 
 use std::alloc::Global;
 use vic_dict::NoMemory;
@@ -36,7 +36,7 @@ pub trait Recorded {
     ) -> Result<Self::Reply, NoMemory>
         ensures kept { fixed self.new ≡ fixed self.old }
         ensures reply { IfOk result (λ r. r ≡ replies (fixed self.old) (changes self.old) who payload.now) }
-        ensures change { IfOk result (λ _. changes self.new ≡ changes self.old ++ added seat (records (fixed self.old) (changes self.old) who payload.now seat)) }
+        ensures change { IfOk result (λ _. changes self.new ≡ changes self.old ++ change_added seat (records (fixed self.old) (changes self.old) who payload.now seat)) }
         ensures fits { IfOk result fits }
         ensures refused { OnErr result (changes self.new ≡ changes self.old) };
 }

@@ -1,6 +1,6 @@
 //! The rule, and what each step tells.
 ghost use Rattle.vic_turn.specs.Turns.{Kept};
-ghost use Rattle.vic_turn.specs.Told.{opening_view, maker, made_pass, note_of, spent_view, joined, Came, Drew, Looked, HandedOn, Met};
+ghost use Rattle.vic_turn.specs.Told.{opening_view, maker, made_pass, note_of, spent_view, joined_view, Came, Drew, Looked, HandedOn, Met};
 
 use crate::recorded::Recorded;
 use crate::view::View;
@@ -71,7 +71,7 @@ impl<F> Split<View<F>> for TakeNote {
 pub(crate) struct Gather;
 
 impl<F> Join<View<F>> for Gather {
-    ghost both = { joined };
+    ghost both = { joined_view };
 
     ghost spent = { spent_view };
 }

@@ -12,7 +12,7 @@ use Rattle.vic_rules.specs.Client.{digest}
 use Rattle.vic_rules.specs.History.{path, AreSteps}
 use Rattle.vic_laws.proofs.Growth.{front_grows, front_whole}
 use Rattle.vic_view.specs.declared.replay.Place.{Place}
-use Rattle.vic_view.specs.Replay.{replayed}
+use Rattle.vic_view.specs.Replay.{replayed_path}
 use Rattle.vic_view.specs.Making.{IsPlaceEntry, hashes_above, hashes_of, hash_at}
 use Rattle.vic_view.proofs.Fronts.{rest_from, below_next}
 use Rattle.vic_view.proofs.Replays.{entries, replays_path}
@@ -40,9 +40,9 @@ hash_is g ps n le =
 
 -- the hash of a front of a client's path, also of the path that it had before
 pub hash_before : (g : Group) (h : List TraceStep) → AreSteps g h → (me : ℕ) (news p : List Entry) (n : ℕ) → path g me h ≡ news ++ p → n ≤ length p
-    → hash_at (hashes_of g (replayed me h).places) n ≡ chain g (front n p)
+    → hash_at (hashes_of g (replayed_path me h).places) n ≡ chain g (front n p)
 hash_before g h steps me news p n grown le =
-    let ps : List Place = (replayed me h).places in
+    let ps : List Place = (replayed_path me h).places in
     let whole : reverse (entries ps) ≡ news ++ p = replays_path g h steps me ∙ grown in
     let size : length ps ≡ length (news ++ p) = sym (length-map ps (λ (q : Place). q.entry)) ∙ sym (length-reverse (entries ps)) ∙ ap length whole in
     hash_is g ps n (omega (arith, size, length-append news p)) ∙ ap (λ (es : List Entry). chain g (front n es)) whole ∙ ap (chain g) (front_grows news p n le)

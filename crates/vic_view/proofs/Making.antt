@@ -13,14 +13,14 @@ use Rattle.vic_rules.specs.declared.trace.Input.{Input}
 use Rattle.vic_rules.specs.declared.trace.TraceStep.{TraceStep}
 use Rattle.vic_rules.specs.Client.{Standing, Move, Sending, Invokes, Commits, Polls, Seals, Syncs, Keeps, Fetches, request_of, payload_of, made_text, commit_text_on, seal_text_on, seal_of, entries_of}
 use Rattle.vic_rules.specs.History.{standing, path, move_of, AreSteps}
-use Rattle.vic_rules.specs.Trust.{taken_by, took, seal_texts, checked_texts, texts_taken, text_sent, texts_made}
+use Rattle.vic_rules.specs.Trust.{answer_unless_halted, answer_taken, seal_texts, checked_texts, texts_taken, text_sent, texts_made}
 use Rattle.vic_laws.proofs.Words.{some_same, none_is_some}
 use Rattle.vic_laws.proofs.Steps.{Kind, is_quiet, is_called, is_replied, is_updated, is_listed}
 use Rattle.vic_laws.proofs.StepKinds.{step_kind}
 use Rattle.vic_laws.proofs.Standings.{standing_moved, earlier_steps}
 use Rattle.vic_laws.proofs.Growth.{front_whole, path_later, Within, stands_within}
 use Rattle.vic_made.proofs.Spelled.{IsSpelled, step_spelled}
-use Rattle.vic_view.specs.Replay.{read_by, replayed}
+use Rattle.vic_view.specs.Replay.{read_by, replayed_path}
 use Rattle.vic_view.specs.Making.{hashes_of, hash_at, request_in, made_by, seal_texts_by, taken_with}
 use Rattle.vic_view.proofs.Replays.{taken_told}
 use Rattle.vic_view.proofs.Hashing.{hash_before}
@@ -48,7 +48,7 @@ made_is g me s at w h (Some sending) spelled =
 
 -- ---- what was taken
 
-seal_within : (g : Group) (me : ℕ) (s : Standing) (i : Input) (v : Move) → Kind g me s i v → (m : ToClient) → taken_by v.next i ≡ Some m → (seal : Seal) → seal_of m ≡ Some seal
+seal_within : (g : Group) (me : ℕ) (s : Standing) (i : Input) (v : Move) → Kind g me s i v → (m : ToClient) → answer_unless_halted v.next i ≡ Some m → (seal : Seal) → seal_of m ≡ Some seal
     → seal.position ≤ length v.next.path
 seal_within g me s i v (is_quiet k) m e seal f = absurd (none_is_some (sym (k.seals_nothing m e).0 ∙ f))
 seal_within g me s i v (is_called k) m e seal f = absurd (none_is_some (sym (ap seal_of (k.takes m e)) ∙ f))
@@ -76,7 +76,7 @@ taken_is g p at (Some m) h = ap (λ (ts : List (List ℕ)). ts ++ map (λ (t : T
 
 -- the hashes along the path that the client has at the end tell those of the path that it then had
 hash_then : (g : Group) (later : List TraceStep) (x : TraceStep) (past : List TraceStep) → AreSteps g (later ++ x ∷ past) → (n : ℕ) → n ≤ length (move_of g past x).next.path
-    → hash_at (hashes_of g (replayed x.client (later ++ x ∷ past)).places) n ≡ chain g (front n (move_of g past x).next.path)
+    → hash_at (hashes_of g (replayed_path x.client (later ++ x ∷ past)).places) n ≡ chain g (front n (move_of g past x).next.path)
 hash_then g later x past steps n le =
     let now : path g x.client (x ∷ past) ≡ (move_of g past x).next.path = ap (λ (s : Standing). s.path) (standing_moved g x.client x past refl) in
     let grown = path_later g later (x ∷ past) steps x.client in
@@ -84,12 +84,12 @@ hash_then g later x past steps n le =
 
 -- the text that was made at a step
 pub made_at_step : (g : Group) (later : List TraceStep) (x : TraceStep) (past : List TraceStep) → AreSteps g (later ++ x ∷ past)
-    → texts_made g (x ∷ past) ≡ option_to_list (made_by (hash_at (hashes_of g (replayed x.client (later ++ x ∷ past)).places)) x.client (request_in x.sent)) ++ texts_made g past
+    → texts_made g (x ∷ past) ≡ option_to_list (made_by (hash_at (hashes_of g (replayed_path x.client (later ++ x ∷ past)).places)) x.client (request_in x.sent)) ++ texts_made g past
 unfolding texts_made
 made_at_step g later x past steps =
     let here : AreSteps g (x ∷ past) = earlier_steps g later (x ∷ past) steps in
     let v : Move = move_of g past x in
-    let at : ℕ → List ℕ = hash_at (hashes_of g (replayed x.client (later ++ x ∷ past)).places) in
+    let at : ℕ → List ℕ = hash_at (hashes_of g (replayed_path x.client (later ++ x ∷ past)).places) in
     let within : Within v.next = subst (λ (s : Standing). Within s) (standing_moved g x.client x past refl) (stands_within g (x ∷ past) here x.client) in
     ap (λ (ts : List (List ℕ)). ts ++ texts_made g past)
     (made_is g x.client v.next at within (hash_then g later x past steps) v.sends (step_spelled g past x here)
@@ -97,13 +97,13 @@ made_at_step g later x past steps =
 
 -- the texts that were taken at a step
 pub taken_at_step : (g : Group) (later : List TraceStep) (x : TraceStep) (past : List TraceStep) → AreSteps g (later ++ x ∷ past)
-    → texts_taken g past x ≡ taken_with (hash_at (hashes_of g (replayed x.client (later ++ x ∷ past)).places)) (read_by x.input x.returned)
-unfolding took
+    → texts_taken g past x ≡ taken_with (hash_at (hashes_of g (replayed_path x.client (later ++ x ∷ past)).places)) (read_by x.input x.returned)
+unfolding answer_taken
 taken_at_step g later x past steps =
     let here : AreSteps g (x ∷ past) = earlier_steps g later (x ∷ past) steps in
     let v : Move = move_of g past x in
-    let at : ℕ → List ℕ = hash_at (hashes_of g (replayed x.client (later ++ x ∷ past)).places) in
+    let at : ℕ → List ℕ = hash_at (hashes_of g (replayed_path x.client (later ++ x ∷ past)).places) in
     let kind : Kind g x.client (standing g x.client past) x.input v = step_kind g x.client (standing g x.client past) x.input here.1.may in
-    taken_is g v.next.path at (taken_by v.next x.input)
+    taken_is g v.next.path at (answer_unless_halted v.next x.input)
     (λ m e s f. hash_then g later x past steps s.position (seal_within g x.client (standing g x.client past) x.input v kind m e s f))
     ∙ ap (taken_with at) (taken_told g x.client (standing g x.client past) x.input ∙ ap (read_by x.input) (sym here.1.returned))

@@ -17,7 +17,7 @@ use Rattle.vic_laws.proofs.Steps.{call_of}
 use Rattle.vic_laws.proofs.Calls.{RepliedAt, completed_by, completion_stays, completion_after}
 use Rattle.vic_view.specs.declared.replay.Place.{Place}
 use Rattle.vic_view.specs.declared.replay.ClientPath.{ClientPath}
-use Rattle.vic_view.specs.Replay.{read_by, entries_in, entries_at, completed_with, places_with, path_with, path_after, replayed}
+use Rattle.vic_view.specs.Replay.{read_by, entries_in, entries_at, completed_with, places_with, path_with, path_after, replayed_path}
 use Rattle.vic_view.proofs.Fronts.{below_next}
 use Rattle.vic_view.proofs.Replays.{taken_told, entries, replayed_own, replayed_other, own_or_other, replays_path, path_joined}
 
@@ -78,17 +78,17 @@ first_is_one cs me p None = tt
 first_is_one cs me p (Some x) = inl refl
 
 -- each mark of the replay is a completion
-pub marks_hold : (g : Group) (h : List TraceStep) → AreSteps g h → (me : ℕ) → MarksHold (completions g h) me [] (replayed me h).places
-unfolding replayed path_after
+pub marks_hold : (g : Group) (h : List TraceStep) → AreSteps g h → (me : ℕ) → MarksHold (completions g h) me [] (replayed_path me h).places
+unfolding replayed_path path_after
 marks_hold g [] steps me = tt
 marks_hold g (x ∷ past) steps me =
-    let old : MarksHold (completions g (x ∷ past)) me [] (replayed me past).places =
-    marks_weaker (completions g past) (completions g (x ∷ past)) (completion_stays g past x) me [] (replayed me past).places (marks_hold g past steps.0 me) in
-    own_or_other me x (MarksHold (completions g (x ∷ past)) me [] (replayed me (x ∷ past)).places)
+    let old : MarksHold (completions g (x ∷ past)) me [] (replayed_path me past).places =
+    marks_weaker (completions g past) (completions g (x ∷ past)) (completion_stays g past x) me [] (replayed_path me past).places (marks_hold g past steps.0 me) in
+    own_or_other me x (MarksHold (completions g (x ∷ past)) me [] (replayed_path me (x ∷ past)).places)
     (λ e.
     let o : Option Outcome = completed_with x.returned in
     let ts : List Tagged = entries_at x in
-    let before : List Place = (replayed me past).places in
+    let before : List Place = (replayed_path me past).places in
     let joined : path g x.client (x ∷ past) ≡ onto ts (reverse (entries before)) =
     path_joined g past x steps.1 ∙ ap (λ (i : ℕ). onto ts (path g i past)) e ∙ ap (onto ts) (sym (replays_path g past steps.0 me)) in
     let there : IfSome o (λ y. IsIn (completions g (x ∷ past)) (completed_as x.client (path g x.client (x ∷ past)) y)) =
@@ -152,11 +152,11 @@ told_or_old me p (Some y) cs c (inl e) = inl (y, refl, ap (λ (d : Completion). 
 told_or_old me p (Some y) cs c (inr h) = inr h
 
 marked_now : (g : Group) (past : List TraceStep) (x : TraceStep) → AreSteps g (x ∷ past) → RepliedAt g past x → (q : List Entry) (y : Outcome)
-    → completed_with x.returned ≡ Some y → q ≡ path g x.client (x ∷ past) → IsMarked [] (replayed x.client (x ∷ past)).places q
+    → completed_with x.returned ≡ Some y → q ≡ path g x.client (x ∷ past) → IsMarked [] (replayed_path x.client (x ∷ past)).places q
 unfolding path_after
 marked_now g past x steps r q y told is =
     let ts : List Tagged = entries_at x in
-    let before : List Place = (replayed x.client past).places in
+    let before : List Place = (replayed_path x.client past).places in
     let joined : onto ts (reverse (entries before)) ≡ q =
     sym (is ∙ path_joined g past x steps.1 ∙ ap (onto ts) (sym (replays_path g past steps.0 x.client))) in
     let at_end : IsMarked (reverse (entries before)) (places_with (Some y) ts) q =
@@ -166,31 +166,31 @@ marked_now g past x steps r q y told is =
     (subst (λ (es : List Entry). IsMarked es (places_with (Some y) ts) q) (sym (append-nil (reverse (entries before)))) at_end) in
     subst (λ (p : ClientPath). IsMarked [] p.places q) (sym (replayed_own x.client x past refl)) (marked_right [] before (places_with (completed_with x.returned) ts) q with_told)
 
-marked_later : (g : Group) (past : List TraceStep) (x : TraceStep) (me : ℕ) (q : List Entry) → IsMarked [] (replayed me past).places q → IsMarked [] (replayed me (x ∷ past)).places q
+marked_later : (g : Group) (past : List TraceStep) (x : TraceStep) (me : ℕ) (q : List Entry) → IsMarked [] (replayed_path me past).places q → IsMarked [] (replayed_path me (x ∷ past)).places q
 unfolding path_after
 marked_later g past x me q m =
-    own_or_other me x (IsMarked [] (replayed me (x ∷ past)).places q)
+    own_or_other me x (IsMarked [] (replayed_path me (x ∷ past)).places q)
     (λ e. subst (λ (p : ClientPath). IsMarked [] p.places q) (sym (replayed_own me x past e))
-    (marked_left [] (replayed me past).places (places_with (completed_with x.returned) (entries_at x)) q m))
+    (marked_left [] (replayed_path me past).places (places_with (completed_with x.returned) (entries_at x)) q m))
     (λ e. subst (λ (p : ClientPath). IsMarked [] p.places q) (sym (replayed_other me x past e)) m)
 
 -- each completion is marked on its client's path
-pub all_marked : (g : Group) (h : List TraceStep) → AreSteps g h → (c : Completion) → IsIn (completions g h) c → IsMarked [] (replayed c.client h).places c.prefix
+pub all_marked : (g : Group) (h : List TraceStep) → AreSteps g h → (c : Completion) → IsIn (completions g h) c → IsMarked [] (replayed_path c.client h).places c.prefix
 unfolding completions
 all_marked g [] steps c w = absurd w
 all_marked g (x ∷ past) steps c w =
-    let old : IsIn (completions g past) c → IsMarked [] (replayed c.client (x ∷ past)).places c.prefix =
+    let old : IsIn (completions g past) c → IsMarked [] (replayed_path c.client (x ∷ past)).places c.prefix =
     λ v. marked_later g past x c.client c.prefix (all_marked g past steps.0 c v) in
     let Told : Type 0 = (y : Outcome) × (completed_with x.returned ≡ Some y) × (c.prefix ≡ path g x.client (x ∷ past)) in
     let told : Told ⊎ IsIn (completions g past) c =
     told_or_old x.client (path g x.client (x ∷ past)) (completed_with x.returned) (completions g past) c (subst (λ (cs : List Completion). IsIn cs c) (completions_told g past x) w) in
-    let Goal : IsIn (completions g past) c ⊎ ((r : RepliedAt g past x) × (completed_by r ≡ c)) → Type 0 = λ v. IsMarked [] (replayed c.client (x ∷ past)).places c.prefix in
+    let Goal : IsIn (completions g past) c ⊎ ((r : RepliedAt g past x) × (completed_by r ≡ c)) → Type 0 = λ v. IsMarked [] (replayed_path c.client (x ∷ past)).places c.prefix in
     elim (completion_after g past x steps.1 c w) as Goal [
       | inl v ↦ old v
       | inr r ↦
-          let Goal2 : Told ⊎ IsIn (completions g past) c → Type 0 = λ v. IsMarked [] (replayed c.client (x ∷ past)).places c.prefix in
+          let Goal2 : Told ⊎ IsIn (completions g past) c → Type 0 = λ v. IsMarked [] (replayed_path c.client (x ∷ past)).places c.prefix in
           elim told as Goal2 [
-            | inl t ↦ subst (λ (i : ℕ). IsMarked [] (replayed i (x ∷ past)).places c.prefix) (ap (λ (d : Completion). d.client) r.1) (marked_now g past x steps r.0 c.prefix t.0 t.1 t.2)
+            | inl t ↦ subst (λ (i : ℕ). IsMarked [] (replayed_path i (x ∷ past)).places c.prefix) (ap (λ (d : Completion). d.client) r.1) (marked_now g past x steps r.0 c.prefix t.0 t.1 t.2)
             | inr v ↦ old v
           ]
     ]
@@ -228,25 +228,25 @@ last_own me (Some y) now cs p ps d e = record {
 }
 
 -- the path up to the client's last completed call
-pub done_is : (g : Group) (h : List TraceStep) → AreSteps g h → (me : ℕ) → EndsDone (last_prefix me (completions g h)) (replayed me h)
-unfolding replayed completions last_prefix path_after
+pub done_is : (g : Group) (h : List TraceStep) → AreSteps g h → (me : ℕ) → EndsDone (last_prefix me (completions g h)) (replayed_path me h)
+unfolding replayed_path completions last_prefix path_after
 done_is g [] steps me = record { within = omega arith; front = refl }
 done_is g (x ∷ past) steps me =
-    own_or_other me x (EndsDone (last_prefix me (completions g (x ∷ past))) (replayed me (x ∷ past)))
+    own_or_other me x (EndsDone (last_prefix me (completions g (x ∷ past))) (replayed_path me (x ∷ past)))
     (λ e.
     let o : Option Outcome = completed_with x.returned in
     let now : List Entry = path g x.client (x ∷ past) in
-    let is_now : now ≡ reverse (entries ((replayed me past).places ++ places_with o (entries_at x))) =
+    let is_now : now ≡ reverse (entries ((replayed_path me past).places ++ places_with o (entries_at x))) =
     ap (λ (i : ℕ). path g i (x ∷ past)) e ∙ sym (replays_path g (x ∷ past) steps me) ∙ ap (λ (p : ClientPath). reverse (entries p.places)) (replayed_own me x past e) in
     let told : completions g (x ∷ past) ≡ one_completion me now o ++ completions g past =
     completions_told g past x ∙ ap (λ (i : ℕ). one_completion i now o ++ completions g past) e in
-    subst (λ (cs : List Completion). EndsDone (last_prefix me cs) (replayed me (x ∷ past))) (sym told)
+    subst (λ (cs : List Completion). EndsDone (last_prefix me cs) (replayed_path me (x ∷ past))) (sym told)
     (subst (EndsDone (last_prefix me (one_completion me now o ++ completions g past))) (sym (replayed_own me x past e))
-    (last_own me o now (completions g past) (replayed me past) (places_with o (entries_at x)) (done_is g past steps.0 me) is_now)))
+    (last_own me o now (completions g past) (replayed_path me past) (places_with o (entries_at x)) (done_is g past steps.0 me) is_now)))
     (λ e.
     let o : Option Outcome = completed_with x.returned in
     let now : List Entry = path g x.client (x ∷ past) in
     let same : last_prefix me (completions g past) ≡ last_prefix me (completions g (x ∷ past)) =
     sym (ap (last_prefix me) (completions_told g past x) ∙ last_other me x.client now o (completions g past) e) in
-    subst (λ (p : List Entry). EndsDone p (replayed me (x ∷ past))) same
+    subst (λ (p : List Entry). EndsDone p (replayed_path me (x ∷ past))) same
     (subst (EndsDone (last_prefix me (completions g past))) (sym (replayed_other me x past e)) (done_is g past steps.0 me)))

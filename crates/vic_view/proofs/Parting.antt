@@ -19,7 +19,7 @@ use Rattle.vic_script.specs.Print.{same_answer, same_outcome, same_shown, agreem
 use Rattle.vic_laws.proofs.SameOp.{same_entry-Decides}
 use Rattle.vic_view.specs.declared.replay.Place.{Place}
 use Rattle.vic_view.specs.declared.replay.ClientPath.{ClientPath}
-use Rattle.vic_view.specs.Replay.{common}
+use Rattle.vic_view.specs.Replay.{common_length}
 use Rattle.vic_view.specs.Together.{IsNested, IsSymmetric, IsRowBy, row_of, rows_of}
 
 -- ---- where two lists part
@@ -96,26 +96,26 @@ place_tells : Tells same_place (λ (p : Place). p.entry)
 unfolding same_place
 place_tells x y = same_entry-Decides x.entry y.entry
 
-common_is : (a b : List Place) → common a b ≡ parting same_place a b
+common_is : (a b : List Place) → common_length a b ≡ parting same_place a b
 unfolding same_place
 common_is [] b = refl
 common_is (x ∷ a) [] = refl
 common_is (x ∷ a) (y ∷ b) = ap (λ (n : ℕ). if same_entry x.entry y.entry then n + 1 else 0) (common_is a b)
 
-pub common_within : (a b : List Place) → (common a b ≤ length a) × (common a b ≤ length b)
+pub common_within : (a b : List Place) → (common_length a b ≤ length a) × (common_length a b ≤ length b)
 common_within a b =
     let within = parting_within same_place a b in
     (subst (λ (k : ℕ). k ≤ length a) (sym (common_is a b)) within.0, subst (λ (k : ℕ). k ≤ length b) (sym (common_is a b)) within.1)
 
-pub common_beyond : (n rest : ℕ) (a b : List Place) → n ≤ common a b → rest ≡ common (take (length a - n) (drop n a)) (take (length b - n) (drop n b)) → n + rest ≡ common a b
+pub common_beyond : (n rest : ℕ) (a b : List Place) → n ≤ common_length a b → rest ≡ common_length (take (length a - n) (drop n a)) (take (length b - n) (drop n b)) → n + rest ≡ common_length a b
 common_beyond n rest a b le e =
-    let left : rest ≡ common (drop n a) (drop n b) =
-    e ∙ ap (λ (x : List Place). common x (take (length b - n) (drop n b))) (take_rest a n) ∙ ap (common (drop n a)) (take_rest b n) in
+    let left : rest ≡ common_length (drop n a) (drop n b) =
+    e ∙ ap (λ (x : List Place). common_length x (take (length b - n) (drop n b))) (take_rest a n) ∙ ap (common_length (drop n a)) (take_rest b n) in
     ap (λ (k : ℕ). n + k) (left ∙ common_is (drop n a) (drop n b))
     ∙ parting_beyond same_place n a b (subst (λ (k : ℕ). n ≤ k) (common_is a b) le) ∙ sym (common_is a b)
 
 abbrev pub common_places : ClientPath → ClientPath → ℕ
-common_places a b = common a.places b.places
+common_places a b = common_length a.places b.places
 
 pub paths_nested : IsNested common_places
 paths_nested n a b c first second =

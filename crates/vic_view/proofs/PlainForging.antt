@@ -7,11 +7,11 @@ use Rattle.vic_wire.specs.Hashes.{Group}
 use Rattle.vic_rules.specs.declared.trace.TraceStep.{TraceStep}
 use Rattle.vic_rules.specs.History.{AreSteps}
 use Rattle.vic_rules.specs.Trust.{texts_made}
-use Rattle.vic_script.specs.Print.{is_among, takes_unmade, is_forged}
+use Rattle.vic_script.specs.Print.{is_among, takes_forged, is_forged}
 use Rattle.vic_laws.proofs.Standings.{earlier_steps}
 use Rattle.vic_view.specs.declared.replay.ClientPath.{ClientPath}
-use Rattle.vic_view.specs.Replay.{read_by, replayed}
-use Rattle.vic_view.specs.Making.{HasEntries, hashes_of, hash_at, request_in, made_by, taken_with, has_unmade, SameTexts}
+use Rattle.vic_view.specs.Replay.{read_by, replayed_path}
+use Rattle.vic_view.specs.Making.{HasEntries, hashes_of, hash_at, request_in, made_by, taken_with, has_forged, SameTexts}
 use Rattle.vic_view.proofs.Loops.{newest_step}
 use Rattle.vic_view.proofs.Making.{made_at_step, taken_at_step}
 use Rattle.vic_view.proofs.Forging.{replayed_spelled, steps_then, any_same, same_more, forged_at, not_forged_next}
@@ -31,28 +31,28 @@ newest : (g : Group) (xs : List TraceStep) (i : ℕ) (x : TraceStep) → IsAt g 
 newest g xs i x a = newest_step xs i x a.within a.is
 
 -- each entry of the path that the client then has can be spelled
-pub spelled_then : (g : Group) (xs : List TraceStep) (i : ℕ) (x : TraceStep) → IsAt g xs i x → (p : ClientPath) → p ≡ replayed x.client (reverse (take (i + 1) xs)) → HasEntries p
+pub spelled_then : (g : Group) (xs : List TraceStep) (i : ℕ) (x : TraceStep) → IsAt g xs i x → (p : ClientPath) → p ≡ replayed_path x.client (reverse (take (i + 1) xs)) → HasEntries p
 spelled_then g xs i x a p is =
     let steps : AreSteps g (reverse (take (i + 1) xs)) = subst (AreSteps g) (sym (newest g xs i x a)) (steps_to g xs i x a) in
     subst HasEntries (sym is) (replayed_spelled g (reverse (take (i + 1) xs)) steps x.client)
 
 -- the hashes along the path that the client of a step then has
 pub record AreHashes (g : Group) (xs : List TraceStep) (i : ℕ) (x : TraceStep) (hs : List Digest32) : Type 0 where
-  pub are : hs ≡ hashes_of g (replayed x.client (reverse (take (i + 1) xs))).places
+  pub are : hs ≡ hashes_of g (replayed_path x.client (reverse (take (i + 1) xs))).places
 
-pub are_hashes : (g : Group) (xs : List TraceStep) (i : ℕ) (x : TraceStep) (p : ClientPath) (hs : List Digest32) → p ≡ replayed x.client (reverse (take (i + 1) xs)) → hs ≡ hashes_of g p.places
+pub are_hashes : (g : Group) (xs : List TraceStep) (i : ℕ) (x : TraceStep) (p : ClientPath) (hs : List Digest32) → p ≡ replayed_path x.client (reverse (take (i + 1) xs)) → hs ≡ hashes_of g p.places
     → AreHashes g xs i x hs
 are_hashes g xs i x p hs is e = record { are = e ∙ ap (λ (q : ClientPath). hashes_of g q.places) is }
 
-hashes_now : (g : Group) (xs : List TraceStep) (i : ℕ) (x : TraceStep) → IsAt g xs i x → (hs : List Digest32) → AreHashes g xs i x hs → hs ≡ hashes_of g (replayed x.client (x ∷ reverse (take i xs))).places
-hashes_now g xs i x a hs h = h.are ∙ ap (λ (past : List TraceStep). hashes_of g (replayed x.client past).places) (newest g xs i x a)
+hashes_now : (g : Group) (xs : List TraceStep) (i : ℕ) (x : TraceStep) → IsAt g xs i x → (hs : List Digest32) → AreHashes g xs i x hs → hs ≡ hashes_of g (replayed_path x.client (x ∷ reverse (take i xs))).places
+hashes_now g xs i x a hs h = h.are ∙ ap (λ (past : List TraceStep). hashes_of g (replayed_path x.client past).places) (newest g xs i x a)
 
 -- ---- the loop
 
 -- what is found at a step
-unmade_then : (g : Group) (xs : List TraceStep) (i : ℕ) (x : TraceStep) → IsAt g xs i x → (hs : List Digest32) → AreHashes g xs i x hs → (made : List (List ℕ)) → SameTexts made (texts_made g (reverse (take i xs)))
-    → has_unmade made (taken_with (hash_at hs) (read_by x.input x.returned)) ≡ takes_unmade g (reverse (take i xs)) x
-unmade_then g xs i x a hs h made same =
+takes_forged_then : (g : Group) (xs : List TraceStep) (i : ℕ) (x : TraceStep) → IsAt g xs i x → (hs : List Digest32) → AreHashes g xs i x hs → (made : List (List ℕ)) → SameTexts made (texts_made g (reverse (take i xs)))
+    → has_forged made (taken_with (hash_at hs) (read_by x.input x.returned)) ≡ takes_forged g (reverse (take i xs)) x
+takes_forged_then g xs i x a hs h made same =
     let past : List TraceStep = reverse (take i xs) in
     any_same (λ t. not (is_among made t)) (λ t. not (is_among (texts_made g past) t)) (λ t. ap not (same t)) (taken_with (hash_at hs) (read_by x.input x.returned))
     ∙ ap (list_any (λ t. not (is_among (texts_made g past) t)))
@@ -60,14 +60,14 @@ unmade_then g xs i x a hs h made same =
 
 -- where some text wasn't made the history is forged
 pub forged_then : (g : Group) (xs : List TraceStep) (i : ℕ) (x : TraceStep) → IsAt g xs i x → (hs : List Digest32) → AreHashes g xs i x hs → (made : List (List ℕ)) → SameTexts made (texts_made g (reverse (take i xs)))
-    → has_unmade made (taken_with (hash_at hs) (read_by x.input x.returned)) ≡ true → true ≡ is_forged g (reverse xs)
-forged_then g xs i x a hs h made same found = sym (forged_at g xs i x a.within a.is (sym (unmade_then g xs i x a hs h made same) ∙ found))
+    → has_forged made (taken_with (hash_at hs) (read_by x.input x.returned)) ≡ true → true ≡ is_forged g (reverse xs)
+forged_then g xs i x a hs h made same found = sym (forged_at g xs i x a.within a.is (sym (takes_forged_then g xs i x a hs h made same) ∙ found))
 
 -- and where each was it isn't yet
 pub not_forged_then : (g : Group) (xs : List TraceStep) (i : ℕ) (x : TraceStep) → IsAt g xs i x → (hs : List Digest32) → AreHashes g xs i x hs → (made : List (List ℕ))
-    → SameTexts made (texts_made g (reverse (take i xs))) → is_forged g (reverse (take i xs)) ≡ false → has_unmade made (taken_with (hash_at hs) (read_by x.input x.returned)) ≡ false
+    → SameTexts made (texts_made g (reverse (take i xs))) → is_forged g (reverse (take i xs)) ≡ false → has_forged made (taken_with (hash_at hs) (read_by x.input x.returned)) ≡ false
     → is_forged g (reverse (take (i + 1) xs)) ≡ false
-not_forged_then g xs i x a hs h made same before found = not_forged_next g xs i x a.within a.is before (sym (unmade_then g xs i x a hs h made same) ∙ found)
+not_forged_then g xs i x a hs h made same before found = not_forged_next g xs i x a.within a.is before (sym (takes_forged_then g xs i x a hs h made same) ∙ found)
 
 -- the texts that were made, with that of one more step
 pub made_then : (g : Group) (xs : List TraceStep) (i : ℕ) (x : TraceStep) → IsAt g xs i x → (hs : List Digest32) → AreHashes g xs i x hs → (made new : List (List ℕ)) → SameTexts made (texts_made g (reverse (take i xs)))

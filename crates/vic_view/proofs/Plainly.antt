@@ -12,11 +12,11 @@ use Rattle.vic_rules.specs.declared.trace.TraceStep.{TraceStep}
 use Rattle.vic_rules.specs.declared.trace.Shown.{Shown}
 use Rattle.vic_rules.specs.Client.{same_entry}
 use Rattle.vic_rules.specs.History.{path, AreSteps, Completion, completions}
-use Rattle.vic_rules.specs.Views.{or_else, confirmed, confirmed_calls, shown_as, last_prefix, view_of}
+use Rattle.vic_rules.specs.Views.{or_else, confirmation, confirmed_calls, shown_as, last_prefix, view_of}
 use Rattle.vic_laws.proofs.Agreement.{same_path-Decides}
 use Rattle.vic_view.specs.declared.replay.Place.{Place}
 use Rattle.vic_view.specs.declared.plain.CompletedCall.{CompletedCall}
-use Rattle.vic_view.specs.Replay.{completed_with, replayed, shown_by}
+use Rattle.vic_view.specs.Replay.{completed_with, replayed_path, shown_by}
 use Rattle.vic_view.specs.Plain.{prefix_of, completion_of, completions_of, completed_on, completed_in}
 use Rattle.vic_view.proofs.Fronts.{rest_from}
 use Rattle.vic_view.proofs.Loops.{newest_step}
@@ -29,12 +29,12 @@ use Rattle.vic_view.proofs.Shows.{reverse_shown}
 
 -- one more step
 pub completed_next : (xs : List TraceStep) (i : ℕ) (x : TraceStep) (cs new : List CompletedCall) → i < length xs → x ≡ get_or xs i x → cs ≡ completed_in (reverse (take i xs))
-    → new ≡ cs ++ completed_on x.client (replayed x.client (reverse (take (i + 1) xs))).places (completed_with x.returned) → new ≡ completed_in (reverse (take (i + 1) xs))
+    → new ≡ cs ++ completed_on x.client (replayed_path x.client (reverse (take (i + 1) xs))).places (completed_with x.returned) → new ≡ completed_in (reverse (take (i + 1) xs))
 unfolding completed_in
 completed_next xs i x cs new lt is before e =
     let newest : reverse (take (i + 1) xs) ≡ x ∷ reverse (take i xs) = newest_step xs i x lt is in
-    e ∙ ap (λ (h : List TraceStep). cs ++ completed_on x.client (replayed x.client h).places (completed_with x.returned)) newest
-    ∙ ap (λ (ds : List CompletedCall). ds ++ completed_on x.client (replayed x.client (x ∷ reverse (take i xs))).places (completed_with x.returned)) before
+    e ∙ ap (λ (h : List TraceStep). cs ++ completed_on x.client (replayed_path x.client h).places (completed_with x.returned)) newest
+    ∙ ap (λ (ds : List CompletedCall). ds ++ completed_on x.client (replayed_path x.client (x ∷ reverse (take i xs))).places (completed_with x.returned)) before
     ∙ ap completed_in (sym newest)
 
 pub completed_start : (cs : List CompletedCall) → cs ≡ [] → cs ≡ completed_in []
@@ -54,7 +54,7 @@ unfolding completed_in completions
 completed_are g [] steps = refl
 completed_are g (x ∷ past) steps =
     let o : Option Outcome = completed_with x.returned in
-    let ps : List Place = (replayed x.client (x ∷ past)).places in
+    let ps : List Place = (replayed_path x.client (x ∷ past)).places in
     completions_append (completed_in past) (completed_on x.client ps o)
     ∙ ap (λ (cs : List Completion). cs ++ completions_of (completed_in past)) (one_is x.client ps o)
     ∙ ap (λ (p : List Entry). one_completion x.client p o ++ completions_of (completed_in past)) (replays_path g (x ∷ past) steps x.client)
@@ -116,43 +116,43 @@ or_or : (a b c : Option Completion) → or_else (or_else a b) c ≡ or_else a (o
 or_or None b c = refl
 or_or (Some x) b c = refl
 
-confirmed_last : (cs : List Completion) (d : Completion) (p : List Entry) → confirmed (cs ++ d ∷ []) p ≡ or_else (if pointwise same_entry d.prefix p then Some d else None) (confirmed cs p)
-unfolding confirmed
+confirmed_last : (cs : List Completion) (d : Completion) (p : List Entry) → confirmation (cs ++ d ∷ []) p ≡ or_else (if pointwise same_entry d.prefix p then Some d else None) (confirmation cs p)
+unfolding confirmation
 confirmed_last [] d p = sym (or_none (if pointwise same_entry d.prefix p then Some d else None))
 confirmed_last (c ∷ cs) d p =
     ap (λ (o : Option Completion). or_else o (if pointwise same_entry c.prefix p then Some c else None)) (confirmed_last cs d p)
-    ∙ or_or (if pointwise same_entry d.prefix p then Some d else None) (confirmed cs p) (if pointwise same_entry c.prefix p then Some c else None)
+    ∙ or_or (if pointwise same_entry d.prefix p then Some d else None) (confirmation cs p) (if pointwise same_entry c.prefix p then Some c else None)
 
 -- the first of the calls goes before the others
 confirmed_first : (cs : List CompletedCall) (i : ℕ) (c : CompletedCall) (ps : List Place) (b : Bool) → i < length cs → c ≡ get_or cs i c
     → pointwise (λ (x y : Place). same_entry x.entry y.entry) c.path ps ≡ b
-    → confirmed (completions_of (drop i cs)) (prefix_of ps) ≡ or_else (if b then Some (completion_of c) else None) (confirmed (completions_of (drop (i + 1) cs)) (prefix_of ps))
+    → confirmation (completions_of (drop i cs)) (prefix_of ps) ≡ or_else (if b then Some (completion_of c) else None) (confirmation (completions_of (drop (i + 1) cs)) (prefix_of ps))
 confirmed_first cs i c ps b lt is same =
     let rest : List CompletedCall = drop (i + 1) cs in
-    ap (λ (ds : List CompletedCall). confirmed (completions_of ds) (prefix_of ps)) (rest_from cs i c lt is)
-    ∙ ap (λ (ds : List Completion). confirmed ds (prefix_of ps)) (completions_append (c ∷ []) rest)
+    ap (λ (ds : List CompletedCall). confirmation (completions_of ds) (prefix_of ps)) (rest_from cs i c lt is)
+    ∙ ap (λ (ds : List Completion). confirmation ds (prefix_of ps)) (completions_append (c ∷ []) rest)
     ∙ confirmed_last (completions_of rest) (completion_of c) (prefix_of ps)
-    ∙ ap (λ (t : Bool). or_else (if t then Some (completion_of c) else None) (confirmed (completions_of rest) (prefix_of ps))) (sym (same_prefix c.path ps) ∙ same)
+    ∙ ap (λ (t : Bool). or_else (if t then Some (completion_of c) else None) (confirmation (completions_of rest) (prefix_of ps))) (sym (same_prefix c.path ps) ∙ same)
 
 pub found_here : (cs : List CompletedCall) (i : ℕ) (c : CompletedCall) (ps : List Place) → i < length cs → c ≡ get_or cs i c
     → pointwise (λ (x y : Place). same_entry x.entry y.entry) c.path ps ≡ true
-    → confirmed (completions_of cs) (prefix_of ps) ≡ confirmed (completions_of (drop i cs)) (prefix_of ps)
-    → Some c.outcome ≡ option_map (λ (d : Completion). d.outcome) (confirmed (completions_of cs) (prefix_of ps))
+    → confirmation (completions_of cs) (prefix_of ps) ≡ confirmation (completions_of (drop i cs)) (prefix_of ps)
+    → Some c.outcome ≡ option_map (λ (d : Completion). d.outcome) (confirmation (completions_of cs) (prefix_of ps))
 found_here cs i c ps lt is same before =
     ap (option_map (λ (d : Completion). d.outcome)) (sym (before ∙ confirmed_first cs i c ps true lt is same))
 
 pub not_here : (cs : List CompletedCall) (i : ℕ) (c : CompletedCall) (ps : List Place) → i < length cs → c ≡ get_or cs i c
     → pointwise (λ (x y : Place). same_entry x.entry y.entry) c.path ps ≡ false
-    → confirmed (completions_of cs) (prefix_of ps) ≡ confirmed (completions_of (drop i cs)) (prefix_of ps)
-    → confirmed (completions_of cs) (prefix_of ps) ≡ confirmed (completions_of (drop (i + 1) cs)) (prefix_of ps)
+    → confirmation (completions_of cs) (prefix_of ps) ≡ confirmation (completions_of (drop i cs)) (prefix_of ps)
+    → confirmation (completions_of cs) (prefix_of ps) ≡ confirmation (completions_of (drop (i + 1) cs)) (prefix_of ps)
 not_here cs i c ps lt is same before = before ∙ confirmed_first cs i c ps false lt is same
 
 pub found_nowhere : (cs : List CompletedCall) (i : ℕ) (ps : List Place) → drop i cs ≡ []
-    → confirmed (completions_of cs) (prefix_of ps) ≡ confirmed (completions_of (drop i cs)) (prefix_of ps)
-    → None ≡ option_map (λ (d : Completion). d.outcome) (confirmed (completions_of cs) (prefix_of ps))
-unfolding confirmed
+    → confirmation (completions_of cs) (prefix_of ps) ≡ confirmation (completions_of (drop i cs)) (prefix_of ps)
+    → None ≡ option_map (λ (d : Completion). d.outcome) (confirmation (completions_of cs) (prefix_of ps))
+unfolding confirmation
 found_nowhere cs i ps none before =
-    ap (option_map (λ (d : Completion). d.outcome)) (sym (before ∙ ap (λ (ds : List CompletedCall). confirmed (completions_of ds) (prefix_of ps)) none))
+    ap (option_map (λ (d : Completion). d.outcome)) (sym (before ∙ ap (λ (ds : List CompletedCall). confirmation (completions_of ds) (prefix_of ps)) none))
 
 -- ---- the view
 
@@ -166,15 +166,15 @@ shows_none cs v e = ap reverse e
 
 -- one more position of the path
 pub shows_more : (cs : List Completion) (ps : List Place) (i : ℕ) (p : Place) (v w : List Shown) (o : Option Outcome) → i < length ps → p ≡ get_or ps i p
-    → reverse v ≡ confirmed_calls cs (prefix_of (take i ps)) → o ≡ option_map (λ (d : Completion). d.outcome) (confirmed cs (prefix_of (take (i + 1) ps)))
+    → reverse v ≡ confirmed_calls cs (prefix_of (take i ps)) → o ≡ option_map (λ (d : Completion). d.outcome) (confirmation cs (prefix_of (take (i + 1) ps)))
     → w ≡ v ++ shown_by p.entry o → reverse w ≡ confirmed_calls cs (prefix_of (take (i + 1) ps))
 unfolding confirmed_calls
 shows_more cs ps i p v w o lt is before found e =
     let newest : prefix_of (take (i + 1) ps) ≡ p.entry ∷ prefix_of (take i ps) = newest_entry ps i p lt is in
     ap reverse e ∙ reverse_shown v p.entry o
-    ∙ ap (λ (x : Option Outcome). shown_by p.entry x ++ reverse v) (found ∙ ap (λ (q : List Entry). option_map (λ (d : Completion). d.outcome) (confirmed cs q)) newest)
-    ∙ ap (λ (s : List Shown). s ++ reverse v) (shown_is p.entry (confirmed cs (p.entry ∷ prefix_of (take i ps))))
-    ∙ ap (λ (s : List Shown). shown_as p.entry (confirmed cs (p.entry ∷ prefix_of (take i ps))) ++ s) before
+    ∙ ap (λ (x : Option Outcome). shown_by p.entry x ++ reverse v) (found ∙ ap (λ (q : List Entry). option_map (λ (d : Completion). d.outcome) (confirmation cs q)) newest)
+    ∙ ap (λ (s : List Shown). s ++ reverse v) (shown_is p.entry (confirmation cs (p.entry ∷ prefix_of (take i ps))))
+    ∙ ap (λ (s : List Shown). shown_as p.entry (confirmation cs (p.entry ∷ prefix_of (take i ps))) ++ s) before
     ∙ ap (confirmed_calls cs) (sym newest)
 
 -- what the last path of a client shows is the client's view

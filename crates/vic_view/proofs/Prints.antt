@@ -9,7 +9,7 @@ use Rattle.vic_rules.specs.History.{IsLawful}
 use Rattle.vic_rules.specs.Views.{view_of}
 use Rattle.vic_script.specs.Print.{view_lines, agreement, agree_line, numbers_from, all_views, all_agreements, tags_line}
 use Rattle.vic_view.specs.declared.replay.ClientPath.{ClientPath}
-use Rattle.vic_view.specs.Replay.{no_path, replayed, AreReplayed, shown_below, places_among}
+use Rattle.vic_view.specs.Replay.{no_path, replayed_path, AreReplayed, shown_below, places_among}
 use Rattle.vic_view.specs.Printed.{shown_view, views_up_to, view_texts, agree_with, agree_texts}
 use Rattle.vic_view.specs.Together.{rows_of}
 use Rattle.vic_view.proofs.Fronts.{rest_from}
@@ -18,7 +18,7 @@ use Rattle.vic_view.proofs.Shows.{view_shown, done_within}
 
 -- a path among those that were replayed
 pub replayed_at : (count : ℕ) (h : List TraceStep) (all every : List ClientPath) → every ≡ all → AreReplayed count h all → (i : ℕ) (mine : ClientPath) → i < length every → mine ≡ get_or every i mine
-    → mine ≡ replayed (i + 1) h
+    → mine ≡ replayed_path (i + 1) h
 replayed_at count h all every same r i mine lt is =
     let size : length all ≡ count = r.size in
     let more : length every ≡ length all = ap length same in

@@ -13,13 +13,13 @@ use Rattle.vic_rules.specs.declared.trace.TraceStep.{TraceStep}
 use Rattle.vic_rules.specs.declared.trace.Shown.{Shown}
 use Rattle.vic_rules.specs.Client.{same_entry}
 use Rattle.vic_rules.specs.History.{AreSteps, IsLawful, Completion, completions}
-use Rattle.vic_rules.specs.Views.{confirmed, confirmed_calls, shown_as, last_prefix, view_of}
+use Rattle.vic_rules.specs.Views.{confirmation, confirmed_calls, shown_as, last_prefix, view_of}
 use Rattle.vic_laws.proofs.Words.{entry_same, some_same}
 use Rattle.vic_laws.proofs.SameOp.{entry_same_itself}
 use Rattle.vic_laws.proofs.Agreement.{confirmed_tells, confirmed_by, completion_owner}
 use Rattle.vic_view.specs.declared.replay.Place.{Place}
 use Rattle.vic_view.specs.declared.replay.ClientPath.{ClientPath}
-use Rattle.vic_view.specs.Replay.{no_path, replayed, AreReplayed, common, path_among, places_among, lengths_with, outcome_among, outcome_of, outcome_there, shown_by, shown_place, shown_below}
+use Rattle.vic_view.specs.Replay.{no_path, replayed_path, AreReplayed, common_length, path_among, places_among, lengths_with, outcome_among, outcome_of, outcome_there, shown_by, shown_place, shown_below}
 use Rattle.vic_view.proofs.Fronts.{below_next}
 use Rattle.vic_view.proofs.Loops.{newest_step}
 use Rattle.vic_view.proofs.Replays.{entries, replayed_other}
@@ -36,8 +36,8 @@ tails_same x y v w e = cc
 none_common : (n : ℕ) (v w : List Entry) → n ≤ 0 → take n v ≡ take n w
 none_common n v w le = let e : zero ≡ n = omega arith in subst (λ (k : ℕ). take k v ≡ take k w) e refl
 
-common_next : (x y : Place) (a b : List Place) (n : ℕ) (t : Bool) → same_entry x.entry y.entry ≡ t → suc n ≤ (if t then common a b + 1 else 0)
-    → (n ≤ common a b → take n (entries a) ≡ take n (entries b)) → take (suc n) (entries (x ∷ a)) ≡ take (suc n) (entries (y ∷ b))
+common_next : (x y : Place) (a b : List Place) (n : ℕ) (t : Bool) → same_entry x.entry y.entry ≡ t → suc n ≤ (if t then common_length a b + 1 else 0)
+    → (n ≤ common_length a b → take n (entries a) ≡ take n (entries b)) → take (suc n) (entries (x ∷ a)) ≡ take (suc n) (entries (y ∷ b))
 common_next x y a b n true e le rest =
     let others : take n (entries a) ≡ take n (entries b) = rest (omega arith) in
     let first : x.entry ≡ y.entry = entry_same x.entry y.entry e in
@@ -45,22 +45,22 @@ common_next x y a b n true e le rest =
 common_next x y a b n false e le rest = absurd (omega arith)
 
 -- what is common to two paths is the same front of both
-pub common_take : (a b : List Place) (n : ℕ) → n ≤ common a b → take n (entries a) ≡ take n (entries b)
+pub common_take : (a b : List Place) (n : ℕ) → n ≤ common_length a b → take n (entries a) ≡ take n (entries b)
 common_take [] b n le = none_common n [] (entries b) le
 common_take (x ∷ a) [] n le = none_common n (entries (x ∷ a)) [] le
 common_take (x ∷ a) (y ∷ b) zero le = refl
 common_take (x ∷ a) (y ∷ b) (suc n) le = common_next x y a b n (same_entry x.entry y.entry) refl le (common_take a b n)
 
 -- and each front that is the same is common
-pub take_common : (a b : List Place) (n : ℕ) → n ≤ length a → take n (entries a) ≡ take n (entries b) → n ≤ common a b
+pub take_common : (a b : List Place) (n : ℕ) → n ≤ length a → take n (entries a) ≡ take n (entries b) → n ≤ common_length a b
 take_common a b zero le e = omega arith
 take_common [] b (suc n) le e = absurd (omega arith)
 take_common (x ∷ a) [] (suc n) le e = absurd cc
 take_common (x ∷ a) (y ∷ b) (suc n) le e =
     let first : x.entry ≡ y.entry = heads_same x.entry y.entry (take n (entries a)) (take n (entries b)) e in
-    let rest : n ≤ common a b = take_common a b n (omega arith) (tails_same x.entry y.entry (take n (entries a)) (take n (entries b)) e) in
+    let rest : n ≤ common_length a b = take_common a b n (omega arith) (tails_same x.entry y.entry (take n (entries a)) (take n (entries b)) e) in
     let test : same_entry x.entry y.entry ≡ true = subst (λ (z : Entry). same_entry x.entry z ≡ true) first (entry_same_itself x.entry) in
-    subst (λ (t : Bool). suc n ≤ (if t then common a b + 1 else 0)) (sym test) (omega arith)
+    subst (λ (t : Bool). suc n ≤ (if t then common_length a b + 1 else 0)) (sym test) (omega arith)
 
 -- ---- marks by their numbers
 
@@ -122,14 +122,14 @@ there_some false s o e = absurd cc
 
 -- an outcome that the comparison finds confirms the place
 pub found_confirms : (g : Group) (h : List TraceStep) → AreSteps g h → (mine : List Place) (n : ℕ) (p : Place) → slice_get mine n ≡ Some p → (o : Outcome)
-    → outcome_there mine (replayed p.entry.client h).places n ≡ Some o
-    → confirmed (completions g h) (p.entry ∷ reverse (take n (entries mine))) ≡ Some (completed_as p.entry.client (p.entry ∷ reverse (take n (entries mine))) o)
+    → outcome_there mine (replayed_path p.entry.client h).places n ≡ Some o
+    → confirmation (completions g h) (p.entry ∷ reverse (take n (entries mine))) ≡ Some (completed_as p.entry.client (p.entry ∷ reverse (take n (entries mine))) o)
 found_confirms g h steps mine n p here o found =
-    let theirs : List Place = (replayed p.entry.client h).places in
+    let theirs : List Place = (replayed_path p.entry.client h).places in
     let q : List Entry = p.entry ∷ reverse (take n (entries mine)) in
-    let parts = there_some (nat_lt n (common mine theirs)) (slice_get theirs n) o found in
+    let parts = there_some (nat_lt n (common_length mine theirs)) (slice_get theirs n) o found in
     let t : Place = parts.1.0 in
-    let lt : n < common mine theirs = ltb-true n (common mine theirs) parts.0 in
+    let lt : n < common_length mine theirs = ltb-true n (common_length mine theirs) parts.0 in
     let fronts : take (n + 1) (entries mine) ≡ take (n + 1) (entries theirs) = common_take mine theirs (n + 1) (omega arith) in
     let same : t.entry ∷ (reverse (take n (entries theirs)) ++ []) ≡ q =
     ap (λ (es : List Entry). t.entry ∷ es) (append-nil (reverse (take n (entries theirs))))
@@ -144,14 +144,14 @@ there_now b s t o e f m = ap (λ (c : Bool). if c then outcome_of s else None) e
 
 -- and where a place is confirmed the comparison finds an outcome
 pub confirmed_found : (g : Group) (h : List TraceStep) → AreSteps g h → (mine : List Place) (n : ℕ) (p : Place) → slice_get mine n ≡ Some p → (c : Completion)
-    → confirmed (completions g h) (p.entry ∷ reverse (take n (entries mine))) ≡ Some c → (o : Outcome) × (outcome_there mine (replayed p.entry.client h).places n ≡ Some o)
+    → confirmation (completions g h) (p.entry ∷ reverse (take n (entries mine))) ≡ Some c → (o : Outcome) × (outcome_there mine (replayed_path p.entry.client h).places n ≡ Some o)
 confirmed_found g h steps mine n p here c is =
-    let theirs : List Place = (replayed p.entry.client h).places in
+    let theirs : List Place = (replayed_path p.entry.client h).places in
     let q : List Entry = p.entry ∷ reverse (take n (entries mine)) in
     let tells : IsIn (completions g h) c × (c.prefix ≡ q) = confirmed_tells (completions g h) q c is in
     let owner : c.client ≡ p.entry.client = completion_owner g h steps c tells.0 p.entry (reverse (take n (entries mine))) tells.1 in
     let marked : IsMarked [] theirs q =
-    subst (λ (es : List Entry). IsMarked [] theirs es) tells.1 (subst (λ (i : ℕ). IsMarked [] (replayed i h).places c.prefix) owner (all_marked g h steps c tells.0)) in
+    subst (λ (es : List Entry). IsMarked [] theirs es) tells.1 (subst (λ (i : ℕ). IsMarked [] (replayed_path i h).places c.prefix) owner (all_marked g h steps c tells.0)) in
     let m : MarkedAt [] theirs q = marked_at [] theirs q marked in
     let their_front : q ≡ reverse (take (m.number + 1) (entries theirs)) =
     m.is ∙ ap (λ (es : List Entry). m.place.entry ∷ es) (append-nil (reverse (take m.number (entries theirs)))) ∙ sym (front_with theirs m.number m.place m.there) in
@@ -166,9 +166,9 @@ confirmed_found g h steps mine n p here c is =
     let fronts : take (n + 1) (entries mine) ≡ take (n + 1) (entries theirs) =
     sym (reverse-reverse (take (n + 1) (entries mine))) ∙ ap reverse (my_front ∙ their_front)
     ∙ reverse-reverse (take (m.number + 1) (entries theirs)) ∙ ap (λ (k : ℕ). take (k + 1) (entries theirs)) same in
-    let far : n + 1 ≤ common mine theirs = take_common mine theirs (n + 1) (omega arith) fronts in (
+    let far : n + 1 ≤ common_length mine theirs = take_common mine theirs (n + 1) (omega arith) fronts in (
       m.outcome,
-      there_now (nat_lt n (common mine theirs)) (slice_get theirs n) m.place m.outcome (lt-ltb n (common mine theirs) (omega arith))
+      there_now (nat_lt n (common_length mine theirs)) (slice_get theirs n) m.place m.outcome (lt-ltb n (common_length mine theirs) (omega arith))
           (ap (slice_get theirs) (sym same) ∙ m.there) m.marked,
     )
 
@@ -187,10 +187,10 @@ shown_same e c (Some y) f k =
 
 -- a place shows what confirms it
 pub place_shows : (g : Group) (h : List TraceStep) → AreSteps g h → (mine : List Place) (n : ℕ) (p : Place) → slice_get mine n ≡ Some p
-    → shown_by p.entry (outcome_there mine (replayed p.entry.client h).places n) ≡ shown_as p.entry (confirmed (completions g h) (p.entry ∷ reverse (take n (entries mine))))
+    → shown_by p.entry (outcome_there mine (replayed_path p.entry.client h).places n) ≡ shown_as p.entry (confirmation (completions g h) (p.entry ∷ reverse (take n (entries mine))))
 place_shows g h steps mine n p here =
     let q : List Entry = p.entry ∷ reverse (take n (entries mine)) in
-    shown_same p.entry (confirmed (completions g h) q) (outcome_there mine (replayed p.entry.client h).places n)
+    shown_same p.entry (confirmation (completions g h) q) (outcome_there mine (replayed_path p.entry.client h).places n)
     (λ y e. (completed_as p.entry.client q y, found_confirms g h steps mine n p here y e, refl))
     (λ d e. confirmed_found g h steps mine n p here d e)
 
@@ -199,7 +199,7 @@ none_within [] n e lt = omega arith
 none_within (x ∷ xs) zero e lt = cc
 none_within (x ∷ xs) (suc n) e lt = none_within xs n e (omega arith)
 
-shows_next : (g : Group) (h : List TraceStep) → AreSteps g h → (paths : ℕ → List Place) → ((j : ℕ) → paths j ≡ (replayed j h).places) → (mine : List Place) (n : ℕ) → suc n ≤ length mine
+shows_next : (g : Group) (h : List TraceStep) → AreSteps g h → (paths : ℕ → List Place) → ((j : ℕ) → paths j ≡ (replayed_path j h).places) → (mine : List Place) (n : ℕ) → suc n ≤ length mine
     → shown_below paths mine n ≡ confirmed_calls (completions g h) (reverse (take n (entries mine))) → (s : Option Place) → slice_get mine n ≡ s
     → shown_place paths mine n s ++ shown_below paths mine n ≡ confirmed_calls (completions g h) (reverse (take (n + 1) (entries mine)))
 unfolding confirmed_calls
@@ -207,11 +207,11 @@ shows_next g h steps paths are mine n le before None e = absurd (none_within min
 shows_next g h steps paths are mine n le before (Some p) e =
     ap (λ (theirs : List Place). shown_by p.entry (outcome_there mine theirs n) ++ shown_below paths mine n) (are p.entry.client)
     ∙ ap (λ (v : List Shown). v ++ shown_below paths mine n) (place_shows g h steps mine n p e)
-    ∙ ap (λ (v : List Shown). shown_as p.entry (confirmed (completions g h) (p.entry ∷ reverse (take n (entries mine)))) ++ v) before
+    ∙ ap (λ (v : List Shown). shown_as p.entry (confirmation (completions g h) (p.entry ∷ reverse (take n (entries mine)))) ++ v) before
     ∙ ap (confirmed_calls (completions g h)) (sym (front_with mine n p e))
 
 -- what a path shows below a place is what its front shows
-pub shows_front : (g : Group) (h : List TraceStep) → AreSteps g h → (paths : ℕ → List Place) → ((j : ℕ) → paths j ≡ (replayed j h).places) → (mine : List Place) (n : ℕ) → n ≤ length mine
+pub shows_front : (g : Group) (h : List TraceStep) → AreSteps g h → (paths : ℕ → List Place) → ((j : ℕ) → paths j ≡ (replayed_path j h).places) → (mine : List Place) (n : ℕ) → n ≤ length mine
     → shown_below paths mine n ≡ confirmed_calls (completions g h) (reverse (take n (entries mine)))
 unfolding shown_below confirmed_calls
 shows_front g h steps paths are mine zero le = refl
@@ -223,8 +223,8 @@ shows_front g h steps paths are mine (suc n) le =
 -- ---- views
 
 -- a client that is no member has no path
-pub stranger : (g : Group) (h : List TraceStep) → AreSteps g h → (j : ℕ) → ((i : ℕ) → 0 < i → i ≤ g.count → i ≡ j → ⊥) → replayed j h ≡ no_path
-unfolding replayed
+pub stranger : (g : Group) (h : List TraceStep) → AreSteps g h → (j : ℕ) → ((i : ℕ) → 0 < i → i ≤ g.count → i ≡ j → ⊥) → replayed_path j h ≡ no_path
+unfolding replayed_path
 stranger g [] steps j differs = refl
 stranger g (x ∷ past) steps j differs =
     replayed_other j x past (differs x.client steps.1.member.0 steps.1.member.1) ∙ stranger g past steps.0 j differs
@@ -233,14 +233,14 @@ is_within : (n u : ℕ) → (u < n) ⊎ (n ≤ u)
 is_within n u = grind arith
 
 -- the paths that were replayed are those of all clients
-pub paths_are : (g : Group) (h : List TraceStep) → AreSteps g h → (all : List ClientPath) → AreReplayed g.count h all → (j : ℕ) → path_among all j ≡ replayed j h
+pub paths_are : (g : Group) (h : List TraceStep) → AreSteps g h → (all : List ClientPath) → AreReplayed g.count h all → (j : ℕ) → path_among all j ≡ replayed_path j h
 paths_are g h steps all r j =
     elim (cases_eq j 0) [
       | inl e ↦ ap (λ (b : Bool). if b then no_path else get_or all (j - 1) no_path) (eq-eqb j 0 e)
           ∙ sym (stranger g h steps j (λ i pos le same. omega (arith, e, same, pos)))
       | inr differ ↦ ap (λ (b : Bool). if b then no_path else get_or all (j - 1) no_path) (ne_eqb j 0 differ) ∙
           elim (is_within g.count (j - 1)) [
-            | inl lt ↦ let same : j - 1 + 1 ≡ j = omega arith in r.each (j - 1) lt ∙ ap (λ (k : ℕ). replayed k h) same
+            | inl lt ↦ let same : j - 1 + 1 ≡ j = omega arith in r.each (j - 1) lt ∙ ap (λ (k : ℕ). replayed_path k h) same
             | inr ge ↦ let size : length all ≡ g.count = r.size in
                 get_or_past all (j - 1) no_path (omega arith) ∙ sym (stranger g h steps j (λ i pos le same. omega (arith, same, pos, le)))
           ]
@@ -248,25 +248,25 @@ paths_are g h steps all r j =
 
 -- what a path shows by comparison with all others is its client's view
 pub shows_view : (g : Group) (h : List TraceStep) → AreSteps g h → (all : List ClientPath) → AreReplayed g.count h all → (me : ℕ)
-    → shown_below (λ j. (path_among all j).places) (replayed me h).places (replayed me h).done ≡ view_of g me h
+    → shown_below (λ j. (path_among all j).places) (replayed_path me h).places (replayed_path me h).done ≡ view_of g me h
 unfolding view_of
 shows_view g h steps all r me =
-    let d : EndsDone (last_prefix me (completions g h)) (replayed me h) = done_is g h steps me in
-    shows_front g h steps (λ j. (path_among all j).places) (λ j. ap (λ (p : ClientPath). p.places) (paths_are g h steps all r j)) (replayed me h).places (replayed me h).done d.within
+    let d : EndsDone (last_prefix me (completions g h)) (replayed_path me h) = done_is g h steps me in
+    shows_front g h steps (λ j. (path_among all j).places) (λ j. ap (λ (p : ClientPath). p.places) (paths_are g h steps all r j)) (replayed_path me h).places (replayed_path me h).done d.within
     ∙ ap (confirmed_calls (completions g h)) (sym d.front)
 
 -- ---- what the loop over a path keeps
 
-none_with_nothing : (mine : List Place) → common mine [] ≡ 0
+none_with_nothing : (mine : List Place) → common_length mine [] ≡ 0
 none_with_nothing [] = refl
 none_with_nothing (p ∷ mine) = refl
 
-length_at : (mine : List Place) (all : List ClientPath) (k : ℕ) → get_or (lengths_with mine all) k 0 ≡ common mine (get_or all k no_path).places
+length_at : (mine : List Place) (all : List ClientPath) (k : ℕ) → get_or (lengths_with mine all) k 0 ≡ common_length mine (get_or all k no_path).places
 length_at mine [] k = sym (none_with_nothing mine)
 length_at mine (p ∷ all) zero = refl
 length_at mine (p ∷ all) (suc k) = length_at mine all k
 
-length_is : (mine : List Place) (all : List ClientPath) (owner : ℕ) (b : Bool) → (if b then 0 else get_or (lengths_with mine all) (owner - 1) 0) ≡ common mine (if b then no_path else get_or all (owner - 1) no_path).places
+length_is : (mine : List Place) (all : List ClientPath) (owner : ℕ) (b : Bool) → (if b then 0 else get_or (lengths_with mine all) (owner - 1) 0) ≡ common_length mine (if b then no_path else get_or all (owner - 1) no_path).places
 length_is mine all owner true = sym (none_with_nothing mine)
 length_is mine all owner false = length_at mine all (owner - 1)
 
@@ -303,12 +303,12 @@ shown_more lengths all mine v w n p o before there are found e =
     ∙ shown_suc (places_among all) mine n (n + 1) p next there
 
 -- a path that was replayed shows its client's view
-pub view_shown : (g : Group) (h : List TraceStep) → IsLawful g h → (all every : List ClientPath) → every ≡ all → AreReplayed g.count h all → (me : ℕ) (mine : ClientPath) → mine ≡ replayed me h
+pub view_shown : (g : Group) (h : List TraceStep) → IsLawful g h → (all every : List ClientPath) → every ≡ all → AreReplayed g.count h all → (me : ℕ) (mine : ClientPath) → mine ≡ replayed_path me h
     → shown_below (places_among every) mine.places mine.done ≡ view_of g me h
 view_shown g h lawful all every e r me mine is =
     ap (λ (x : List ClientPath). shown_below (places_among x) mine.places mine.done) e
     ∙ ap (λ (p : ClientPath). shown_below (places_among all) p.places p.done) is
     ∙ shows_view g h lawful.steps all r me
 
-pub done_within : (g : Group) (h : List TraceStep) → IsLawful g h → (me : ℕ) (mine : ClientPath) → mine ≡ replayed me h → mine.done ≤ length mine.places
+pub done_within : (g : Group) (h : List TraceStep) → IsLawful g h → (me : ℕ) (mine : ClientPath) → mine ≡ replayed_path me h → mine.done ≤ length mine.places
 done_within g h lawful me mine is = subst (λ (p : ClientPath). p.done ≤ length p.places) (sym is) (done_is g h lawful.steps me).within

@@ -68,8 +68,8 @@ taken_with at None = []
 taken_with at (Some m) = seal_texts_by at (seal_of m) ++ map (λ t. invoke_text t.entry) (entries_of m)
 
 -- some of the texts isn't among those that were made
-abbrev pub has_unmade : List (List ℕ) → List (List ℕ) → Bool
-has_unmade made texts = list_any (λ t. not (is_among made t)) texts
+abbrev pub has_forged : List (List ℕ) → List (List ℕ) → Bool
+has_forged made texts = list_any (λ t. not (is_among made t)) texts
 
 -- the same texts, in whatever order
 abbrev pub SameTexts : List (List ℕ) → List (List ℕ) → Type 0

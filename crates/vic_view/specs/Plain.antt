@@ -6,7 +6,7 @@ use Rattle.vic_rules.specs.declared.trace.TraceStep.{TraceStep}
 use Rattle.vic_rules.specs.History.{Completion}
 use Rattle.vic_view.specs.declared.replay.Place.{Place}
 use Rattle.vic_view.specs.declared.plain.CompletedCall.{CompletedCall}
-use Rattle.vic_view.specs.Replay.{completed_with, replayed}
+use Rattle.vic_view.specs.Replay.{completed_with, replayed_path}
 
 -- the entries of a path, the newest first
 abbrev pub prefix_of : List Place → List Entry
@@ -26,4 +26,4 @@ completed_on me ps (Some o) = record { client = me; path = ps; outcome = o } ∷
 -- all calls that were completed in a history
 unfoldable pub completed_in : List TraceStep → List CompletedCall
 completed_in [] = []
-completed_in (x ∷ past) = completed_in past ++ completed_on x.client (replayed x.client (x ∷ past)).places (completed_with x.returned)
+completed_in (x ∷ past) = completed_in past ++ completed_on x.client (replayed_path x.client (x ∷ past)).places (completed_with x.returned)

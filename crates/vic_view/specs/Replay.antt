@@ -74,22 +74,22 @@ unfoldable pub path_after : TraceStep → ClientPath → ClientPath
 path_after x p = path_with (completed_with x.returned) (places_with (completed_with x.returned) (entries_at x)) p
 
 -- the client's path after a history
-unfoldable pub replayed : ℕ → List TraceStep → ClientPath
-replayed me [] = no_path
-replayed me (x ∷ past) = if nat_eq x.client me then path_after x (replayed me past) else replayed me past
+unfoldable pub replayed_path : ℕ → List TraceStep → ClientPath
+replayed_path me [] = no_path
+replayed_path me (x ∷ past) = if nat_eq x.client me then path_after x (replayed_path me past) else replayed_path me past
 
 -- the paths of clients 1, 2 and so on after a history
 pub record AreReplayed (count : ℕ) (h : List TraceStep) (all : List ClientPath) : Type 0 where
   pub size : length all ≡ count
-  pub each : (k : ℕ) → k < count → slice_index_or all k no_path ≡ replayed (k + 1) h
+  pub each : (k : ℕ) → k < count → slice_index_or all k no_path ≡ replayed_path (k + 1) h
 
 -- ---- views
 
 -- how many entries two paths have in common at their front
-abbrev pub common : List Place → List Place → ℕ
-common [] w = 0
-common (x ∷ v) [] = 0
-common (x ∷ v) (y ∷ w) = if same_entry x.entry y.entry then common v w + 1 else 0
+abbrev pub common_length : List Place → List Place → ℕ
+common_length [] w = 0
+common_length (x ∷ v) [] = 0
+common_length (x ∷ v) (y ∷ w) = if same_entry x.entry y.entry then common_length v w + 1 else 0
 
 abbrev pub path_among : List ClientPath → ℕ → ClientPath
 path_among all owner = if nat_eq owner 0 then no_path else slice_index_or all (owner - 1) no_path
@@ -100,7 +100,7 @@ outcome_of (Some p) = p.outcome
 
 -- the outcome at a place of one path, if it has the other one's front up to there
 abbrev pub outcome_there : List Place → List Place → ℕ → Option Outcome
-outcome_there mine theirs n = if nat_lt n (common mine theirs) then outcome_of (slice_get theirs n) else None
+outcome_there mine theirs n = if nat_lt n (common_length mine theirs) then outcome_of (slice_get theirs n) else None
 
 -- the same, where the lengths in common with clients 1, 2 and so on are known
 abbrev pub length_among : List ℕ → ℕ → ℕ
@@ -111,7 +111,7 @@ outcome_among lengths all owner n = if nat_lt n (length_among lengths owner) the
 
 -- the lengths in common with each of the paths
 abbrev pub lengths_with : List Place → List ClientPath → List ℕ
-lengths_with mine all = map (λ (p : ClientPath). common mine p.places) all
+lengths_with mine all = map (λ (p : ClientPath). common_length mine p.places) all
 
 -- the places of a client's path
 abbrev pub places_among : List ClientPath → ℕ → List Place

@@ -5,12 +5,12 @@ use Rattle.vic_rules.specs.declared.trace.TraceStep.{TraceStep}
 use Rattle.vic_view.specs.declared.transcript.Transcript.{Transcript}
 
 -- the steps, the oldest first
-abbrev pub steps_of : Transcript → List TraceStep
-steps_of t = t.steps
+abbrev pub transcript_steps : Transcript → List TraceStep
+transcript_steps t = t.steps
 
-abbrev pub group_of : Transcript → Group
-group_of t = record { mode = t.mode; count = t.count; key = t.key }
+abbrev pub transcript_group : Transcript → Group
+transcript_group t = record { mode = t.mode; count = t.count; key = t.key }
 
 -- the steps as a history, the newest first
-abbrev pub history_of : Transcript → List TraceStep
-history_of t = reverse t.steps
+abbrev pub transcript_history : Transcript → List TraceStep
+transcript_history t = reverse t.steps

@@ -9,9 +9,9 @@ ghost use Rattle.vic_wire.specs.Messages.{IsTagged, HasRequestSpelling};
 ghost use Rattle.vic_rules.specs.History.{IsLawful};
 ghost use Rattle.vic_rules.specs.Trust.{IsForged};
 ghost use Rattle.vic_script.specs.Print.{is_among, is_forged};
-ghost use Rattle.vic_view.specs.Transcripts.{group_of, history_of};
+ghost use Rattle.vic_view.specs.Transcripts.{transcript_group, transcript_history};
 ghost use Rattle.vic_view.specs.Replay.{read_by, AreReplayed};
-ghost use Rattle.vic_view.specs.Making.{IsPlaceEntry, HasEntries, hashes_of, hashes_with, hash_at, request_in, made_by, seal_texts_by, taken_with, has_unmade, SameTexts};
+ghost use Rattle.vic_view.specs.Making.{IsPlaceEntry, HasEntries, hashes_of, hashes_with, hash_at, request_in, made_by, seal_texts_by, taken_with, has_forged, SameTexts};
 
 use crate::replay::{ClientPath, Place, answer_taken};
 use crate::transcript::Transcript;
@@ -148,7 +148,7 @@ pub(crate) fn hashes_along(
     places: &[Place],
 ) -> Result<Hashes, NoMemory>
     requires { AllByRecursion IsPlaceEntry places.now }
-    ensures { IfOk result (λ hashes. hashes ≡ hashes_of (group_of t.now) places.now) }
+    ensures { IfOk result (λ hashes. hashes ≡ hashes_of (transcript_group t.now) places.now) }
 {
     let mut last = genesis(t.mode, t.count);
     let mut hashes = Hashes::new(alloc);
@@ -162,7 +162,7 @@ pub(crate) fn hashes_along(
 
 fn all_hashes(alloc: Global, t: &Transcript, paths: &[ClientPath]) -> Result<AllHashes, NoMemory>
     requires { AllByRecursion HasEntries paths.now }
-    ensures { IfOk result (λ all. all ≡ hashes_with (group_of t.now) paths.now) }
+    ensures { IfOk result (λ all. all ≡ hashes_with (transcript_group t.now) paths.now) }
 {
     let mut all = AllHashes::new(alloc);
     for path in paths {
@@ -300,13 +300,13 @@ pub(crate) fn note_made(
 // ---- what was taken
 
 /// Whether a seal's text wasn't made. That of position 0 needs no tag.
-fn is_seal_unmade(
+fn is_seal_forged(
     alloc: Global,
     seal: &Seal,
     hashes: &[Digest32],
     made: &Texts,
 ) -> Result<bool, NoMemory>
-    ensures { IfOk result (λ b. b ≡ has_unmade made.now (seal_texts_by (hash_at hashes.now) (Some seal.now))) }
+    ensures { IfOk result (λ b. b ≡ has_forged made.now (seal_texts_by (hash_at hashes.now) (Some seal.now))) }
 {
     if seal.position == 0 {
         return Ok(false);
@@ -321,9 +321,9 @@ fn is_seal_unmade(
 }
 
 /// Whether the text of some entry wasn't made.
-fn are_entries_unmade(alloc: Global, entries: &[Tagged], made: &Texts) -> Result<bool, NoMemory>
+fn are_entries_forged(alloc: Global, entries: &[Tagged], made: &Texts) -> Result<bool, NoMemory>
     requires { AllByRecursion IsTagged entries.now }
-    ensures { IfOk result (λ b. b ≡ has_unmade made.now (map (λ t. invoke_text t.entry) entries.now)) }
+    ensures { IfOk result (λ b. b ≡ has_forged made.now (map (λ t. invoke_text t.entry) entries.now)) }
 {
     for item in entries {
         let text = invoke_text_of(alloc, item.entry.client, item.entry.seq, &item.entry.op)?;
@@ -335,7 +335,7 @@ fn are_entries_unmade(alloc: Global, entries: &[Tagged], made: &Texts) -> Result
 }
 
 /// Whether a seal's text or that of some entry wasn't made.
-fn are_unmade(
+fn are_forged(
     alloc: Global,
     seal: &Seal,
     entries: &[Tagged],
@@ -343,31 +343,31 @@ fn are_unmade(
     made: &Texts,
 ) -> Result<bool, NoMemory>
     requires { AllByRecursion IsTagged entries.now }
-    ensures { IfOk result (λ b. b ≡ has_unmade made.now (seal_texts_by (hash_at hashes.now) (Some seal.now) ++ map (λ t. invoke_text t.entry) entries.now)) }
+    ensures { IfOk result (λ b. b ≡ has_forged made.now (seal_texts_by (hash_at hashes.now) (Some seal.now) ++ map (λ t. invoke_text t.entry) entries.now)) }
 {
-    if is_seal_unmade(alloc, seal, hashes, made)? {
+    if is_seal_forged(alloc, seal, hashes, made)? {
         return Ok(true);
     }
-    are_entries_unmade(alloc, entries, made)
+    are_entries_forged(alloc, entries, made)
 }
 
 /// Whether some text that a client took at a step wasn't made.
-pub(crate) fn takes_unmade(
+pub(crate) fn takes_forged(
     alloc: Global,
     step: &TraceStep,
     hashes: &[Digest32],
     made: &Texts,
 ) -> Result<bool, NoMemory>
-    ensures { IfOk result (λ b. b ≡ has_unmade made.now (taken_with (hash_at hashes.now) (read_by step.now.input step.now.returned))) }
+    ensures { IfOk result (λ b. b ≡ has_forged made.now (taken_with (hash_at hashes.now) (read_by step.now.input step.now.returned))) }
 {
     match answer_taken(alloc, step)? {
         Some(ToClient::Reply { seal, entries, .. }) => {
-            are_unmade(alloc, &seal, entries.as_slice(), hashes, made)
+            are_forged(alloc, &seal, entries.as_slice(), hashes, made)
         }
         Some(ToClient::Entries { seal, entries }) => {
-            are_unmade(alloc, &seal, entries.as_slice(), hashes, made)
+            are_forged(alloc, &seal, entries.as_slice(), hashes, made)
         }
-        Some(ToClient::Update { seal, .. }) => are_unmade(alloc, &seal, &[], hashes, made),
+        Some(ToClient::Update { seal, .. }) => are_forged(alloc, &seal, &[], hashes, made),
         _ => Ok(false),
     }
 }
@@ -384,9 +384,9 @@ fn hashes_for(all: &[Hashes], client: u8) -> &[Digest32]
 /// step and the hashes along its path, and for each text that was tagged or taken the logarithm of the number of those
 /// tagged.
 pub fn forged(alloc: Global, t: &Transcript) -> Result<bool, NoMemory>
-    requires { IsLawful (group_of t.now) (history_of t.now) }
-    ensures is { IfOk result (λ b. b ≡ is_forged (group_of t.now) (history_of t.now)) }
-    ensures means { IfOk result (λ b. (b ≡ true) ↔ IsForged (group_of t.now) (history_of t.now)) }
+    requires { IsLawful (transcript_group t.now) (transcript_history t.now) }
+    ensures is { IfOk result (λ b. b ≡ is_forged (transcript_group t.now) (transcript_history t.now)) }
+    ensures means { IfOk result (λ b. (b ≡ true) ↔ IsForged (transcript_group t.now) (transcript_history t.now)) }
 {
     let paths = all_paths(alloc, t)?;
     forged_along(alloc, t, paths.as_slice())
@@ -398,15 +398,15 @@ pub(crate) fn forged_along(
     t: &Transcript,
     paths: &[ClientPath],
 ) -> Result<bool, NoMemory>
-    requires lawful { IsLawful (group_of t.now) (history_of t.now) }
-    requires paths { AreReplayed t.now.count (history_of t.now) paths.now }
-    ensures { IfOk result (λ b. b ≡ is_forged (group_of t.now) (history_of t.now)) }
+    requires lawful { IsLawful (transcript_group t.now) (transcript_history t.now) }
+    requires paths { AreReplayed t.now.count (transcript_history t.now) paths.now }
+    ensures { IfOk result (λ b. b ≡ is_forged (transcript_group t.now) (transcript_history t.now)) }
 {
     let all = all_hashes(alloc, t, paths)?;
     let mut made = Texts::new(alloc);
     for step in t.as_slice() {
         let hashes = hashes_for(all.as_slice(), step.client);
-        if takes_unmade(alloc, step, hashes, &made)? {
+        if takes_forged(alloc, step, hashes, &made)? {
             return Ok(true);
         }
         note_made(alloc, step, hashes, &mut made)?;

@@ -11,11 +11,11 @@ ghost use Rattle.vic_wire.specs.Texts.{invoke_text};
 ghost use Rattle.vic_wire.specs.Messages.{IsTagged};
 ghost use Rattle.vic_rules.specs.Client.{same_entry as same_entry_test};
 ghost use Rattle.vic_rules.specs.History.{Completion, IsLawful};
-ghost use Rattle.vic_rules.specs.Views.{confirmed, confirmed_calls, last_prefix, view_of as view_after};
+ghost use Rattle.vic_rules.specs.Views.{confirmation, confirmed_calls, last_prefix, view_of as view_after};
 ghost use Rattle.vic_script.specs.Print.{is_among, is_forged};
-ghost use Rattle.vic_view.specs.Transcripts.{group_of, history_of};
-ghost use Rattle.vic_view.specs.Replay.{completed_with, read_by, replayed};
-ghost use Rattle.vic_view.specs.Making.{hash_at, request_in, made_by, seal_texts_by, taken_with, has_unmade};
+ghost use Rattle.vic_view.specs.Transcripts.{transcript_group, transcript_history};
+ghost use Rattle.vic_view.specs.Replay.{completed_with, read_by, replayed_path};
+ghost use Rattle.vic_view.specs.Making.{hash_at, request_in, made_by, seal_texts_by, taken_with, has_forged};
 ghost use Rattle.vic_view.specs.Plain.{prefix_of, completions_of, completed_on, completed_in};
 
 use crate::forgery::{hash_with, hashes_along, invoke_text_of, seal_text_of, text_made};
@@ -85,7 +85,7 @@ fn note_completed(
     last: &TraceStep,
     all: &mut CompletedCalls,
 ) -> Result<(), NoMemory>
-    ensures { OnOk result (all.new ≡ all.old ++ completed_on last.now.client (replayed last.now.client (reverse steps.now)).places (completed_with last.now.returned)) }
+    ensures { OnOk result (all.new ≡ all.old ++ completed_on last.now.client (replayed_path last.now.client (reverse steps.now)).places (completed_with last.now.returned)) }
 {
     if let Some(outcome) = completed(alloc, &last.returned, true)? {
         let path = path_in(alloc, steps, last.client)?;
@@ -143,7 +143,7 @@ fn outcome_on(
     all: &[CompletedCall],
     path: &[Place],
 ) -> Result<Option<Outcome>, NoMemory>
-    ensures { IfOk result (λ o. o ≡ option_map (λ (c : Completion). c.outcome) (confirmed (completions_of all.now) (prefix_of path.now))) }
+    ensures { IfOk result (λ o. o ≡ option_map (λ (c : Completion). c.outcome) (confirmation (completions_of all.now) (prefix_of path.now))) }
 {
     for call in all {
         if same_path(call.path.as_slice(), path) {
@@ -172,8 +172,8 @@ pub(crate) fn confirmed_on(
 /// A client's view, the oldest call first, as `view_of` gives it. It is slow on purpose: for each completed call it goes through
 /// the transcript, and for each position of the client's path through the whole paths of all completed calls.
 pub fn view_plainly(alloc: Global, t: &Transcript, client: u8) -> Result<View, NoMemory>
-    requires { IsLawful (group_of t.now) (history_of t.now) }
-    ensures { IfOk result (λ v. reverse v ≡ view_after (group_of t.now) client (history_of t.now)) }
+    requires { IsLawful (transcript_group t.now) (transcript_history t.now) }
+    ensures { IfOk result (λ v. reverse v ≡ view_after (transcript_group t.now) client (transcript_history t.now)) }
 {
     let all = all_completed(alloc, t.as_slice())?;
     let path = last_path(all.as_slice(), client);
@@ -254,8 +254,8 @@ fn is_one_of(texts: &[Bytes], text: &[u8]) -> bool
 }
 
 /// Whether some text that was taken is none of those that were made.
-pub(crate) fn is_some_unmade(made: &[Bytes], taken: &[Bytes]) -> bool
-    ensures { result ≡ has_unmade made.now taken.now }
+pub(crate) fn is_some_forged(made: &[Bytes], taken: &[Bytes]) -> bool
+    ensures { result ≡ has_forged made.now taken.now }
 {
     taken.iter().any(|text| !is_one_of(made, text.as_slice()))
 }
@@ -279,8 +279,8 @@ pub(crate) fn put_made(
 /// step it goes through the transcript for the client's path and its hashes, and for each text that was taken through all texts
 /// that were made.
 pub fn forged_plainly(alloc: Global, t: &Transcript) -> Result<bool, NoMemory>
-    requires { IsLawful (group_of t.now) (history_of t.now) }
-    ensures { IfOk result (λ b. b ≡ is_forged (group_of t.now) (history_of t.now)) }
+    requires { IsLawful (transcript_group t.now) (transcript_history t.now) }
+    ensures { IfOk result (λ b. b ≡ is_forged (transcript_group t.now) (transcript_history t.now)) }
 {
     let steps = t.as_slice();
     let mut made = Names::new(alloc);
@@ -288,7 +288,7 @@ pub fn forged_plainly(alloc: Global, t: &Transcript) -> Result<bool, NoMemory>
         let path = path_in(alloc, &steps[..i + 1], step.client)?;
         let hashes = hashes_along(alloc, t, path.places.as_slice())?;
         let taken = texts_taken(alloc, step, hashes.as_slice())?;
-        if is_some_unmade(made.as_slice(), taken.as_slice()) {
+        if is_some_forged(made.as_slice(), taken.as_slice()) {
             return Ok(true);
         }
         put_made(alloc, step, hashes.as_slice(), &mut made)?;

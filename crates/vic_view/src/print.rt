@@ -6,7 +6,7 @@ ghost use Rattle.std.specs.Fmt.{decimal};
 ghost use Rattle.vic_rules.specs.History.{IsLawful};
 ghost use Rattle.vic_rules.specs.Trust.{IsForged};
 ghost use Rattle.vic_script.specs.Print.{shown_line, agreement, tags_line, is_forged, all_views as every_view, all_agreements as every_agreement, end_text};
-ghost use Rattle.vic_view.specs.Transcripts.{group_of, history_of};
+ghost use Rattle.vic_view.specs.Transcripts.{transcript_group, transcript_history};
 ghost use Rattle.vic_view.specs.Replay.{AreReplayed};
 ghost use Rattle.vic_view.specs.Printed.{views_up_to, view_text, view_texts, agree_text, agree_with, agree_texts};
 
@@ -69,9 +69,9 @@ impl Views {
 
 /// The views of all clients, whose paths are known.
 fn all_views(alloc: Global, t: &Transcript, all: &[ClientPath]) -> Result<Views, NoMemory>
-    requires lawful { IsLawful (group_of t.now) (history_of t.now) }
-    requires paths { AreReplayed t.now.count (history_of t.now) all.now }
-    ensures { IfOk result (λ views. views ≡ views_up_to (group_of t.now) (history_of t.now) t.now.count) }
+    requires lawful { IsLawful (transcript_group t.now) (transcript_history t.now) }
+    requires paths { AreReplayed t.now.count (transcript_history t.now) all.now }
+    ensures { IfOk result (λ views. views ≡ views_up_to (transcript_group t.now) (transcript_history t.now) t.now.count) }
 {
     let lengths = common_lengths(alloc, all)?;
     let rows = lengths.as_slice();
@@ -198,9 +198,9 @@ fn print_along(
     all: &[ClientPath],
     forged: bool,
 ) -> Result<Bytes, NoMemory>
-    requires lawful { IsLawful (group_of t.now) (history_of t.now) }
-    requires paths { AreReplayed t.now.count (history_of t.now) all.now }
-    ensures { IfOk result (λ b. b ≡ every_view (group_of t.now) (history_of t.now) ++ every_agreement (group_of t.now) (history_of t.now) ++ tags_line forged) }
+    requires lawful { IsLawful (transcript_group t.now) (transcript_history t.now) }
+    requires paths { AreReplayed t.now.count (transcript_history t.now) all.now }
+    ensures { IfOk result (λ b. b ≡ every_view (transcript_group t.now) (transcript_history t.now) ++ every_agreement (transcript_group t.now) (transcript_history t.now) ++ tags_line forged) }
 {
     let views = all_views(alloc, t, all)?;
     let mut out = Bytes::new(alloc);
@@ -215,24 +215,24 @@ fn print_along(
 /// the calls of its view hold; for each two clients a few numbers; and for each text that was
 /// tagged or taken the logarithm of the number of those tagged.
 pub fn print_end(alloc: Global, t: &Transcript) -> Result<Printed, NoMemory>
-    requires { IsLawful (group_of t.now) (history_of t.now) }
-    ensures text { IfOk result (λ p. p.text ≡ end_text (group_of t.now) (history_of t.now) None) }
-    ensures forged { IfOk result (λ p. p.forged ≡ is_forged (group_of t.now) (history_of t.now)) }
-    ensures means { IfOk result (λ p. (p.forged ≡ true) ↔ IsForged (group_of t.now) (history_of t.now)) }
+    requires { IsLawful (transcript_group t.now) (transcript_history t.now) }
+    ensures text { IfOk result (λ p. p.text ≡ end_text (transcript_group t.now) (transcript_history t.now) None) }
+    ensures forged { IfOk result (λ p. p.forged ≡ is_forged (transcript_group t.now) (transcript_history t.now)) }
+    ensures means { IfOk result (λ p. (p.forged ≡ true) ↔ IsForged (transcript_group t.now) (transcript_history t.now)) }
 {
     let paths = all_paths(alloc, t)?;
-    let unmade = forged_along(alloc, t, paths.as_slice())?;
-    let text = print_along(alloc, t, paths.as_slice(), unmade)?;
+    let forged = forged_along(alloc, t, paths.as_slice())?;
+    let text = print_along(alloc, t, paths.as_slice(), forged)?;
     Ok(Printed {
         text,
-        forged: unmade,
+        forged: forged,
     })
 }
 
 /// The text of `print_end` alone.
 pub fn print_views(alloc: Global, t: &Transcript) -> Result<Bytes, NoMemory>
-    requires { IsLawful (group_of t.now) (history_of t.now) }
-    ensures { IfOk result (λ b. b ≡ end_text (group_of t.now) (history_of t.now) None) }
+    requires { IsLawful (transcript_group t.now) (transcript_history t.now) }
+    ensures { IfOk result (λ b. b ≡ end_text (transcript_group t.now) (transcript_history t.now) None) }
 {
     let printed = print_end(alloc, t)?;
     Ok(printed.text)

@@ -3,8 +3,8 @@
 ghost use Rattle.std.specs.Prelude.{◌≡◌, ◌<◌, ◌≤◌, [], ◌∷◌, ◌++◌, length, reverse, IfOk, OnOk, OnErr, slice_get, Some, None, is_some, IfSome, if◌then◌else◌};
 ghost use Rattle.vic_wire.specs.Messages.{HasSpelling};
 ghost use Rattle.vic_wire.specs.Reading.{read_answer};
-ghost use Rattle.vic_view.specs.Transcripts.{history_of};
-ghost use Rattle.vic_view.specs.Replay.{is_halt, read_by, entries_in, entries_at, completed_with, places_with, path_after, replayed, AreReplayed};
+ghost use Rattle.vic_view.specs.Transcripts.{transcript_history};
+ghost use Rattle.vic_view.specs.Replay.{is_halt, read_by, entries_in, entries_at, completed_with, places_with, path_after, replayed_path, AreReplayed};
 
 use crate::transcript::Transcript;
 use std::alloc::Global;
@@ -199,7 +199,7 @@ pub(crate) fn path_in(
     steps: &[TraceStep],
     client: u8,
 ) -> Result<ClientPath, NoMemory>
-    ensures { IfOk result (λ p. p ≡ replayed client (reverse steps.now)) }
+    ensures { IfOk result (λ p. p ≡ replayed_path client (reverse steps.now)) }
 {
     let mut path = ClientPath {
         places: Places::new(alloc),
@@ -215,7 +215,7 @@ pub(crate) fn path_in(
 
 /// The path of a client, read from its steps. It costs these, and a look at each of the others.
 pub fn path_of(alloc: Global, t: &Transcript, client: u8) -> Result<ClientPath, NoMemory>
-    ensures { IfOk result (λ p. p ≡ replayed client (history_of t.now)) }
+    ensures { IfOk result (λ p. p ≡ replayed_path client (transcript_history t.now)) }
 {
     path_in(alloc, t.as_slice(), client)
 }

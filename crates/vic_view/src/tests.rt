@@ -1,5 +1,5 @@
-use crate::forgery::{Texts, note_made, takes_unmade};
-use crate::plain::{all_completed, confirmed_on, is_some_unmade, last_path, put_made, texts_taken};
+use crate::forgery::{Texts, note_made, takes_forged};
+use crate::plain::{all_completed, confirmed_on, is_some_forged, last_path, put_made, texts_taken};
 use crate::replay::path_of;
 use crate::together::row_afresh;
 use crate::view::agreements;
@@ -527,7 +527,7 @@ fn hashes_of(first: u8) -> [Digest32; 3] {
 #[test]
 fn forged_texts(rt: HostRuntime) -> Result<(), Fail> {
     let alloc = rt.alloc();
-    for (n, (rows, _, firsts, unmade)) in STORIES.iter().enumerate() {
+    for (n, (rows, _, firsts, forged)) in STORIES.iter().enumerate() {
         let t = transcript_of(alloc, rows)?;
         let (mut set, mut list) = (Texts::new(alloc), Names::new(alloc));
         let mut found = false;
@@ -538,14 +538,14 @@ fn forged_texts(rt: HostRuntime) -> Result<(), Fail> {
                 firsts[1]
             });
             let taken = texts_taken(alloc, step, hashes.as_slice())?;
-            let is_found = is_some_unmade(list.as_slice(), taken.as_slice());
-            let is_found_fast = takes_unmade(alloc, step, hashes.as_slice(), &set)?;
+            let is_found = is_some_forged(list.as_slice(), taken.as_slice());
+            let is_found_fast = takes_forged(alloc, step, hashes.as_slice(), &set)?;
             assert!(rt; is_found == is_found_fast, "story {n}");
             found = found || is_found;
             put_made(alloc, step, hashes.as_slice(), &mut list)?;
             note_made(alloc, step, hashes.as_slice(), &mut set)?;
         }
-        assert!(rt; found == *unmade, "story {n}");
+        assert!(rt; found == *forged, "story {n}");
     }
     Ok(())
 }

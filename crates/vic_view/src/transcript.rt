@@ -1,7 +1,7 @@
 //! What the clients of a group did, step by step.
 
 ghost use Rattle.std.specs.Prelude.{◌≡◌, ◌<◌, [], ◌∷◌, ◌++◌, length, OnOk, OnErr, slice_get, Some};
-ghost use Rattle.vic_view.specs.Transcripts.{steps_of};
+ghost use Rattle.vic_view.specs.Transcripts.{transcript_steps};
 
 use std::alloc::Global;
 use std::marker::Model;
@@ -76,7 +76,7 @@ impl Transcript {
         ensures mode { result.mode ≡ mode }
         ensures count { result.count ≡ count }
         ensures key { result.key ≡ key }
-        ensures steps { steps_of result ≡ [] }
+        ensures steps { transcript_steps result ≡ [] }
     {
         Transcript {
             mode,
@@ -88,22 +88,22 @@ impl Transcript {
 
     /// The number of steps.
     pub fn len(&self) -> usize
-        ensures { result ≡ length (steps_of self.now) }
+        ensures { result ≡ length (transcript_steps self.now) }
     {
         self.steps.len()
     }
 
     /// The step at a place, counted from 0.
     pub fn at(&self, place: usize) -> &TraceStep
-        requires { place < length (steps_of self.now) }
-        ensures { slice_get (steps_of self.now) place ≡ Some result.now }
+        requires { place < length (transcript_steps self.now) }
+        ensures { slice_get (transcript_steps self.now) place ≡ Some result.now }
     {
         self.steps.at(place)
     }
 
     /// All steps, the oldest first.
     pub fn as_slice(&self) -> &[TraceStep]
-        ensures { result.now ≡ steps_of self.now }
+        ensures { result.now ≡ transcript_steps self.now }
     {
         self.steps.as_slice()
     }
@@ -113,8 +113,8 @@ impl Transcript {
         ensures mode { self.new.mode ≡ self.old.mode }
         ensures count { self.new.count ≡ self.old.count }
         ensures key { self.new.key ≡ self.old.key }
-        ensures ok { OnOk result (steps_of self.new ≡ steps_of self.old ++ step ∷ []) }
-        ensures err { OnErr result (steps_of self.new ≡ steps_of self.old) }
+        ensures ok { OnOk result (transcript_steps self.new ≡ transcript_steps self.old ++ step ∷ []) }
+        ensures err { OnErr result (transcript_steps self.new ≡ transcript_steps self.old) }
     {
         self.steps.push(step)
     }

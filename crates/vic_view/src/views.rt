@@ -3,8 +3,8 @@
 ghost use Rattle.std.specs.Prelude.{◌≡◌, ◌<◌, ◌≤◌, ◌+◌, ◌-◌, [], ◌∷◌, ◌++◌, length, map, reverse, IfOk, OnOk, OnErr, slice_get, slice_index, slice_index_or, Some, None, IfSome, if◌then◌else◌};
 ghost use Rattle.vic_rules.specs.History.{IsLawful};
 ghost use Rattle.vic_rules.specs.Views.{view_of as view_after};
-ghost use Rattle.vic_view.specs.Transcripts.{group_of, history_of};
-ghost use Rattle.vic_view.specs.Replay.{AreReplayed, common, outcome_of, length_among, outcome_among, lengths_with, places_among, shown_by, shown_below};
+ghost use Rattle.vic_view.specs.Transcripts.{transcript_group, transcript_history};
+ghost use Rattle.vic_view.specs.Replay.{AreReplayed, common_length, outcome_of, length_among, outcome_among, lengths_with, places_among, shown_by, shown_below};
 
 use crate::replay::{ClientPath, Place, path_of};
 use crate::together::{Line, Rows, row_afresh, together};
@@ -56,7 +56,7 @@ impl Paths {
 
 /// The paths of all clients. It costs the transcript, and for each client a look at each step.
 pub(crate) fn all_paths(alloc: Global, t: &Transcript) -> Result<Paths, NoMemory>
-    ensures { IfOk result (λ all. AreReplayed t.now.count (history_of t.now) all) }
+    ensures { IfOk result (λ all. AreReplayed t.now.count (transcript_history t.now) all) }
 {
     let mut all = Paths::new(alloc);
     for k in 0..t.count {
@@ -67,7 +67,7 @@ pub(crate) fn all_paths(alloc: Global, t: &Transcript) -> Result<Paths, NoMemory
 
 /// How many entries two paths have in common at their front. It takes no memory, and costs that number.
 pub fn common_length(a: &[Place], b: &[Place]) -> usize
-    ensures { result ≡ common a.now b.now }
+    ensures { result ≡ common_length a.now b.now }
 {
     let mut length = 0;
     for (i, place) in a.iter().enumerate() {
@@ -83,14 +83,14 @@ pub fn common_length(a: &[Place], b: &[Place]) -> usize
 fn common_length_beyond(a: &[Place], b: &[Place], known: usize) -> usize
     requires first { known ≤ length a.now }
     requires second { known ≤ length b.now }
-    requires common { known ≤ common a.now b.now }
-    ensures { result ≡ common a.now b.now }
+    requires common { known ≤ common_length a.now b.now }
+    ensures { result ≡ common_length a.now b.now }
 {
     known + common_length(&a[known..], &b[known..])
 }
 
 impl Line for ClientPath {
-    ghost in_common = { λ a b. common a.places b.places };
+    ghost in_common = { λ a b. common_length a.places b.places };
 
     fn common_beyond(&self, other: &ClientPath, known: usize) -> usize {
         common_length_beyond(self.places.as_slice(), other.places.as_slice(), known)
@@ -181,8 +181,8 @@ pub(crate) fn view_among(
 /// A client's view, the oldest call first. It costs the transcript, and for each client a look at each step and a comparison
 /// of its path with this client's.
 pub fn view_of(alloc: Global, t: &Transcript, client: u8) -> Result<View, NoMemory>
-    requires { IsLawful (group_of t.now) (history_of t.now) }
-    ensures { IfOk result (λ v. reverse v ≡ view_after (group_of t.now) client (history_of t.now)) }
+    requires { IsLawful (transcript_group t.now) (transcript_history t.now) }
+    ensures { IfOk result (λ v. reverse v ≡ view_after (transcript_group t.now) client (transcript_history t.now)) }
 {
     let mine = path_of(alloc, t, client)?;
     let paths = all_paths(alloc, t)?;

@@ -31,11 +31,11 @@ same_bit false true = false
 same_bit false false = true
 
 -- the longest common prefix of two lists of bits
-abbrev pub common : List Bool → List Bool → List Bool
-common [] cs = []
-common (b ∷ bs) [] = []
-common (b ∷ bs) (c ∷ cs) = if same_bit b c then b ∷ common bs cs else []
+abbrev pub shared_front : List Bool → List Bool → List Bool
+shared_front [] cs = []
+shared_front (b ∷ bs) [] = []
+shared_front (b ∷ bs) (c ∷ cs) = if same_bit b c then b ∷ shared_front bs cs else []
 
 -- how many bits two keys have in common at their front
-abbrev pub shared : List ℕ → List ℕ → ℕ
-shared a b = length (common (key_bits a) (key_bits b))
+abbrev pub shared_bits : List ℕ → List ℕ → ℕ
+shared_bits a b = length (shared_front (key_bits a) (key_bits b))

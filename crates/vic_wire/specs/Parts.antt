@@ -4,7 +4,7 @@ use Rattle.std.specs.Int.{w16, to_be_bytes}
 use Rattle.vic_dict.specs.declared.op.Op.{Op}
 use Rattle.vic_dict.specs.Dictionary.{Dictionary, IsKey}
 use Rattle.vic_wire.specs.Texts.{short_text}
-use Rattle.vic_wire.specs.Reading.{Read, ◌>>=◌, byte_at, bytes_at, number_at, digest_at, allowed}
+use Rattle.vic_wire.specs.Reading.{Read, ◌>>=◌, byte_at, bytes_at, number_at, digest_at, if_allowed}
 use Rattle.vic_wire.specs.Reading as reading
 use Rattle.vic_wire.specs.Trees.{Tree, Empty, Leaf, Inner, Stub, tree_of, root_of, node_texts}
 use Rattle.vic_wire.specs.Walks.{tree_after}
@@ -79,7 +79,7 @@ field all left bad (Err reading.Value) = Err (bad (place all left))
 
 -- a length byte within the bounds, and that many bytes
 abbrev pub length_at : ℕ → ℕ → List ℕ → Read ℕ
-length_at low high left = byte_at left >>= (λ n. allowed (nat_le low n.0 && nat_le n.0 high) n)
+length_at low high left = byte_at left >>= (λ n. if_allowed (nat_le low n.0 && nat_le n.0 high) n)
 
 unfoldable pub text_at : ℕ → ℕ → ℕ → List ℕ → PartRead (List ℕ)
 text_at all low high left = field all left BadLength (length_at low high left) then (λ n. field all n.1 BadLength (bytes_at n.0 n.1))
@@ -89,7 +89,7 @@ leaf_at all left = text_at all 1 255 left then (λ k. text_at all 0 64 k.1 then 
 
 -- an index from the least one that is allowed to 2,295
 abbrev pub index_at : ℕ → List ℕ → Read ℕ
-index_at low left = number_at w16 left >>= (λ i. allowed (nat_le low i.0 && nat_lt i.0 2296) i)
+index_at low left = number_at w16 left >>= (λ i. if_allowed (nat_le low i.0 && nat_lt i.0 2296) i)
 
 unfoldable pub stub_at : ℕ → List ℕ → PartRead Tree
 stub_at all left = field all left BadTag (digest_at left) then (λ root. Ok (Stub root.0.bytes, root.1))
@@ -113,7 +113,7 @@ at_end all x = if length x.1 == 0 then Ok x.0 else Err (Trailing (place all x.1)
 
 -- the form byte
 abbrev pub form_at : List ℕ → Read ℕ
-form_at left = byte_at left >>= (λ form. allowed (form.0 == 1) form)
+form_at left = byte_at left >>= (λ form. if_allowed (form.0 == 1) form)
 
 -- the part that the bytes spell, or the first fault
 unfoldable pub part_at : List ℕ → Result Part PartFault

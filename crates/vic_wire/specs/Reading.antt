@@ -39,8 +39,8 @@ bytes_at n bytes = if nat_lt (length bytes) n then Err Short else Ok (take n byt
 abbrev pub number_at : Width → List ℕ → Read ℕ
 number_at w bytes = if nat_lt (length bytes) (byte_len w) then Err Short else Ok (from_be_bytes w (take (byte_len w) bytes), drop (byte_len w) bytes)
 
-abbrev pub allowed : {A : Type 0} → Bool → A → Result A FieldFault
-allowed ok x = if ok then Ok x else Err Value
+abbrev pub if_allowed : {A : Type 0} → Bool → A → Result A FieldFault
+if_allowed ok x = if ok then Ok x else Err Value
 
 unfoldable pub digest_at : List ℕ → Read Digest32
 digest_at bytes = do
@@ -51,7 +51,7 @@ digest_at bytes = do
 unfoldable pub short_at : ℕ → ℕ → List ℕ → Read (List ℕ)
 short_at least most bytes = do
   n ← byte_at bytes
-  fits ← allowed (nat_le least n.0 && nat_le n.0 most) n
+  fits ← if_allowed (nat_le least n.0 && nat_le n.0 most) n
   bytes_at n.0 n.1
 
 unfoldable pub put_at : List ℕ → Read Op
@@ -91,9 +91,9 @@ op_at bytes = do
 unfoldable pub entry_at : List ℕ → Read Entry
 entry_at bytes = do
   c ← byte_at bytes
-  client ← allowed (nat_lt 0 c.0 && nat_le c.0 64) c
+  client ← if_allowed (nat_lt 0 c.0 && nat_le c.0 64) c
   s ← number_at w32 client.1
-  seq ← allowed (nat_lt 0 s.0) s
+  seq ← if_allowed (nat_lt 0 s.0) s
   o ← op_at seq.1
   Ok (record { client = client.0; seq = seq.0; op = o.0 }, o.1)
 
@@ -114,7 +114,7 @@ tagged_list_at (suc n) bytes = do
 unfoldable pub entries_at : ℕ → ℕ → List ℕ → Read (List Tagged)
 entries_at least most bytes = do
   n ← number_at w16 bytes
-  count ← allowed (nat_le least n.0 && nat_le n.0 most) n
+  count ← if_allowed (nat_le least n.0 && nat_le n.0 most) n
   tagged_list_at count.0 count.1
 
 unfoldable pub seal_after : ℕ → List ℕ → Read Seal
@@ -128,8 +128,8 @@ seal_at bytes = do
   seal_after p.0 p.1
 
 -- nothing follows
-abbrev pub ended : {A : Type 0} → A × List ℕ → Result A FieldFault
-ended x = if length x.1 == 0 then Ok x.0 else Err Value
+abbrev pub if_ended : {A : Type 0} → A × List ℕ → Result A FieldFault
+if_ended x = if length x.1 == 0 then Ok x.0 else Err Value
 
 unfoldable pub update_at : List ℕ → Result ToClient FieldFault
 update_at bytes = do
@@ -138,16 +138,16 @@ update_at bytes = do
 
 unfoldable pub answer_of_kind : ℕ → List ℕ → Result ToClient FieldFault
 answer_of_kind kind bytes =
-    if kind == 0x41 then ended (say.Hi, bytes)
+    if kind == 0x41 then if_ended (say.Hi, bytes)
     else if kind == 0x42 then seal_at bytes >>= (λ s. entries_at 1 8192 s.1 >>= (λ es. Ok (say.Reply s.0 es.0 es.1)))
-    else if kind == 0x43 then ended (say.Wait, bytes)
+    else if kind == 0x43 then if_ended (say.Wait, bytes)
     else if kind == 0x44 then update_at bytes
-    else if kind == 0x45 then seal_at bytes >>= (λ s. entries_at 0 8192 s.1 >>= (λ es. ended (say.Entries s.0 es.0, es.1)))
-    else if kind == 0x46 then byte_at bytes >>= (λ r. allowed (nat_lt 0 r.0 && nat_le r.0 7) r >>= (λ x. ended (say.Refused x.0, x.1)))
-    else if kind == 0x47 then ended (say.Kept, bytes)
-    else if kind == 0x48 then allowed (nat_le (length bytes) 8388608) (say.Content bytes)
-    else if kind == 0x49 then ended (say.Gone, bytes)
-    else if kind == 0x4a then ended (say.Absent, bytes)
+    else if kind == 0x45 then seal_at bytes >>= (λ s. entries_at 0 8192 s.1 >>= (λ es. if_ended (say.Entries s.0 es.0, es.1)))
+    else if kind == 0x46 then byte_at bytes >>= (λ r. if_allowed (nat_lt 0 r.0 && nat_le r.0 7) r >>= (λ x. if_ended (say.Refused x.0, x.1)))
+    else if kind == 0x47 then if_ended (say.Kept, bytes)
+    else if kind == 0x48 then if_allowed (nat_le (length bytes) 8388608) (say.Content bytes)
+    else if kind == 0x49 then if_ended (say.Gone, bytes)
+    else if kind == 0x4a then if_ended (say.Absent, bytes)
     else Err Value
 
 abbrev pub some_read : {A : Type 0} → Result A FieldFault → Option A
@@ -166,59 +166,59 @@ mode_of b = if b == 0 then Ok mode.Plain else if b == 1 then Ok mode.Objects els
 unfoldable pub hello_at : List ℕ → Result ToServer FieldFault
 hello_at bytes = do
   v ← byte_at bytes
-  version ← allowed (v.0 == 1) v
+  version ← if_allowed (v.0 == 1) v
   m ← byte_at version.1
   kind ← mode_of m.0
   c ← byte_at m.1
-  ended (ask.Hello kind c.0, c.1)
+  if_ended (ask.Hello kind c.0, c.1)
 
 unfoldable pub invoke_at : List ℕ → Result ToServer FieldFault
 invoke_at bytes = do
   known ← number_at w32 bytes
   s ← number_at w32 known.1
-  seq ← allowed (nat_lt 0 s.0) s
+  seq ← if_allowed (nat_lt 0 s.0) s
   o ← op_at seq.1
   tag ← digest_at o.1
-  ended (ask.Invoke known.0 seq.0 o.0 tag.0, tag.1)
+  if_ended (ask.Invoke known.0 seq.0 o.0 tag.0, tag.1)
 
 unfoldable pub commit_at : List ℕ → Result ToServer FieldFault
 commit_at bytes = do
   p ← number_at w32 bytes
-  position ← allowed (nat_lt 0 p.0) p
+  position ← if_allowed (nat_lt 0 p.0) p
   s ← byte_at position.1
-  status ← allowed (nat_le s.0 1) s
+  status ← if_allowed (nat_le s.0 1) s
   tag ← digest_at status.1
-  ended (ask.Commit position.0 (status.0 == 0) tag.0, tag.1)
+  if_ended (ask.Commit position.0 (status.0 == 0) tag.0, tag.1)
 
 unfoldable pub seal_request_at : List ℕ → Result ToServer FieldFault
 seal_request_at bytes = do
   p ← number_at w32 bytes
-  position ← allowed (nat_lt 0 p.0) p
+  position ← if_allowed (nat_lt 0 p.0) p
   root ← digest_at position.1
   tag ← digest_at root.1
-  ended (ask.Seal position.0 root.0 tag.0, tag.1)
+  if_ended (ask.Seal position.0 root.0 tag.0, tag.1)
 
 unfoldable pub sync_at : List ℕ → Result ToServer FieldFault
 sync_at bytes = do
   known ← number_at w32 bytes
-  ended (ask.Sync known.0, known.1)
+  if_ended (ask.Sync known.0, known.1)
 
 unfoldable pub fetch_at : List ℕ → Result ToServer FieldFault
 fetch_at bytes = do
   hash ← digest_at bytes
-  ended (ask.Fetch hash.0, hash.1)
+  if_ended (ask.Fetch hash.0, hash.1)
 
 unfoldable pub request_of_kind : ℕ → List ℕ → Result ToServer FieldFault
 request_of_kind kind bytes =
     if kind == 0x21 then hello_at bytes
     else if kind == 0x22 then invoke_at bytes
     else if kind == 0x23 then commit_at bytes
-    else if kind == 0x24 then ended (ask.Poll, bytes)
+    else if kind == 0x24 then if_ended (ask.Poll, bytes)
     else if kind == 0x25 then seal_request_at bytes
     else if kind == 0x26 then sync_at bytes
-    else if kind == 0x27 then allowed (nat_le (length bytes) 8388608) (ask.Keep bytes)
+    else if kind == 0x27 then if_allowed (nat_le (length bytes) 8388608) (ask.Keep bytes)
     else if kind == 0x28 then fetch_at bytes
-    else if kind == 0x29 then ended (ask.Bye, bytes)
+    else if kind == 0x29 then if_ended (ask.Bye, bytes)
     else Err Value
 
 -- the request that the payload spells, if it spells one

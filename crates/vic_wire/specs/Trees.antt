@@ -4,7 +4,7 @@ use Rattle.std.specs.FinMap as map
 use Rattle.vic_dict.specs.Dictionary.{Dictionary}
 use Rattle.vic_wire.specs.Texts.{empty_text, leaf_text, inner_text}
 use Rattle.vic_wire.specs.Hashes.{hash}
-use Rattle.vic_wire.specs.Bits.{key_bits, key_bit, common, same_bit}
+use Rattle.vic_wire.specs.Bits.{key_bits, key_bit, shared_front, same_bit}
 
 -- a tree, of which subtrees may be cut away and stand by their roots
 pub data Tree : Type 0 where
@@ -42,7 +42,7 @@ pairs_of (Stub root) = []
 unfoldable pub common_bits : List Pair → List Bool
 common_bits [] = []
 common_bits (p ∷ []) = key_bits p.0
-common_bits (p ∷ q ∷ ps) = common (key_bits p.0) (common_bits (q ∷ ps))
+common_bits (p ∷ q ∷ ps) = shared_front (key_bits p.0) (common_bits (q ∷ ps))
 
 -- the pairs whose key has this bit at i
 abbrev pub side : Bool → ℕ → List Pair → List Pair

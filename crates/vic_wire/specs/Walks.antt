@@ -6,7 +6,7 @@ use Rattle.std.specs.FinMap as map
 use Rattle.vic_dict.specs.declared.op.Op.{Op}
 use Rattle.vic_dict.specs.declared.op.Op.TheVariants as op
 use Rattle.vic_dict.specs.Dictionary.{Dictionary, nothing}
-use Rattle.vic_wire.specs.Bits.{key_bit, shared}
+use Rattle.vic_wire.specs.Bits.{key_bit, shared_bits}
 use Rattle.vic_wire.specs.Trees.{Tree, Empty, Leaf, Inner, Stub, Pair, pairs_of}
 
 -- ---- the walk of a put, get or del
@@ -65,48 +65,48 @@ reaches t (op.List p) =
     if leaf_has_prefix p (least b) then is_whole b else not (is_stub (least b))
 
 -- the pairs at the leaves that the walk visits, from the left
-abbrev pub visited : Tree → Op → List Pair
-visited t (op.Put k v) = pairs_of (end_at k t)
-visited t (op.Get k) = pairs_of (end_at k t)
-visited t (op.Del k) = pairs_of (end_at k t)
-visited t (op.List p) =
+abbrev pub pairs_of_walk : Tree → Op → List Pair
+pairs_of_walk t (op.Put k v) = pairs_of (end_at k t)
+pairs_of_walk t (op.Get k) = pairs_of (end_at k t)
+pairs_of_walk t (op.Del k) = pairs_of (end_at k t)
+pairs_of_walk t (op.List p) =
     let b = below p t in
     if leaf_has_prefix p (least b) then pairs_of b else pairs_of (least b)
 
 -- a dictionary into which pairs are put, one after the other: of two with one key the later counts
-abbrev pub gathered : Dictionary → List Pair → Dictionary
-gathered d [] = d
-gathered d (p ∷ ps) = gathered (map.insert d p.0 p.1) ps
+abbrev pub dictionary_with_pairs : Dictionary → List Pair → Dictionary
+dictionary_with_pairs d [] = d
+dictionary_with_pairs d (p ∷ ps) = dictionary_with_pairs (map.insert d p.0 p.1) ps
 
 -- the dictionary of the pairs that the walk visits
 abbrev pub walked : Tree → Op → Dictionary
-walked t o = gathered nothing (visited t o)
+walked t o = dictionary_with_pairs nothing (pairs_of_walk t o)
 
 -- ---- the tree after an operation
 
 -- the leaf at the walk's end with a new value
-abbrev pub revalued : List ℕ → List ℕ → Tree → Tree
-revalued k v Empty = Empty
-revalued k v (Leaf q w) = Leaf k v
-revalued k v (Inner i l r) = if key_bit k i then Inner i l (revalued k v r) else Inner i (revalued k v l) r
-revalued k v (Stub root) = Stub root
+abbrev pub tree_with_value : List ℕ → List ℕ → Tree → Tree
+tree_with_value k v Empty = Empty
+tree_with_value k v (Leaf q w) = Leaf k v
+tree_with_value k v (Inner i l r) = if key_bit k i then Inner i l (tree_with_value k v r) else Inner i (tree_with_value k v l) r
+tree_with_value k v (Stub root) = Stub root
 
 -- the new leaf on the side of the key's bit, the old node on the other
-abbrev pub forked : ℕ → List ℕ → List ℕ → Tree → Tree
-forked i k v t = if key_bit k i then Inner i t (Leaf k v) else Inner i (Leaf k v) t
+abbrev pub fork_of : ℕ → List ℕ → List ℕ → Tree → Tree
+fork_of i k v t = if key_bit k i then Inner i t (Leaf k v) else Inner i (Leaf k v) t
 
 -- a fork at the first node of the walk that isn't an Inner of an index below i
-abbrev pub planted : ℕ → List ℕ → List ℕ → Tree → Tree
-planted i k v Empty = forked i k v Empty
-planted i k v (Leaf q w) = forked i k v (Leaf q w)
-planted i k v (Inner j l r) =
-    if nat_lt j i then (if key_bit k j then Inner j l (planted i k v r) else Inner j (planted i k v l) r)
-    else forked i k v (Inner j l r)
-planted i k v (Stub root) = forked i k v (Stub root)
+abbrev pub tree_with_fork : ℕ → List ℕ → List ℕ → Tree → Tree
+tree_with_fork i k v Empty = fork_of i k v Empty
+tree_with_fork i k v (Leaf q w) = fork_of i k v (Leaf q w)
+tree_with_fork i k v (Inner j l r) =
+    if nat_lt j i then (if key_bit k j then Inner j l (tree_with_fork i k v r) else Inner j (tree_with_fork i k v l) r)
+    else fork_of i k v (Inner j l r)
+tree_with_fork i k v (Stub root) = fork_of i k v (Stub root)
 
 abbrev pub put_beside : Tree → List ℕ → List ℕ → Tree → Tree
 put_beside Empty k v t = Leaf k v
-put_beside (Leaf q w) k v t = if bytes_eq q k then revalued k v t else planted (shared k q) k v t
+put_beside (Leaf q w) k v t = if bytes_eq q k then tree_with_value k v t else tree_with_fork (shared_bits k q) k v t
 put_beside (Inner i l r) k v t = t
 put_beside (Stub root) k v t = t
 
@@ -121,14 +121,14 @@ is_gone (Inner i l r) = false
 is_gone (Stub root) = false
 
 -- the other side moves up where a side is gone
-abbrev pub joined : ℕ → Tree → Tree → Tree
-joined i l r = if is_gone l then r else (if is_gone r then l else Inner i l r)
+abbrev pub tree_of_sides : ℕ → Tree → Tree → Tree
+tree_of_sides i l r = if is_gone l then r else (if is_gone r then l else Inner i l r)
 
 -- the key is gone
 abbrev pub del_in : List ℕ → Tree → Tree
 del_in k Empty = Empty
 del_in k (Leaf q w) = if bytes_eq q k then Empty else Leaf q w
-del_in k (Inner i l r) = if key_bit k i then joined i l (del_in k r) else joined i (del_in k l) r
+del_in k (Inner i l r) = if key_bit k i then tree_of_sides i l (del_in k r) else tree_of_sides i (del_in k l) r
 del_in k (Stub root) = Stub root
 
 abbrev pub tree_after : Tree → Op → Tree

@@ -12,7 +12,7 @@ use std::process::ExitCode;
 use vic_cli::{code_of, finish, run_in_memory};
 use vic_dict::{Bytes, NoMemory};
 use vic_ports::{
-    Calls, Input, MemorySink, MemorySource, NeverFails, StdSink, StdSource, read_input,
+    Calls, InputRead, MemorySink, MemorySource, NeverFails, StdSink, StdSource, read_input,
 };
 use vic_text::{Status, put_number, split_line};
 
@@ -86,10 +86,10 @@ fn main(rt: HostRuntime) -> ExitCode {
     let mut source = StdSource::new(rt.stdin());
     let mut sink = StdSink::new(rt.stdout());
     let status = match read_input(rt.alloc(), &mut source) {
-        Input::Whole(text) => write_all(rt.alloc(), text.as_slice(), &mut sink),
-        Input::TooLong(_) => finish(&mut sink, Status::BadLine, b"input too long\n"),
-        Input::Fault => finish(&mut sink, Status::ReadFault, Status::ReadFault.line()),
-        Input::NoMemory => finish(&mut sink, Status::NoMemory, Status::NoMemory.line()),
+        InputRead::Whole(text) => write_all(rt.alloc(), text.as_slice(), &mut sink),
+        InputRead::TooLong(_) => finish(&mut sink, Status::BadLine, b"input too long\n"),
+        InputRead::Fault => finish(&mut sink, Status::ReadFault, Status::ReadFault.line()),
+        InputRead::NoMemory => finish(&mut sink, Status::NoMemory, Status::NoMemory.line()),
     };
     code_of(status)
 }

@@ -1,6 +1,6 @@
 use Rattle.std.proofs.Common.{◌≡◌, ◌+◌, ◌-◌, length, reverse, refl, ap, arith}
 use Rattle.vic_rules.specs.declared.trace.TraceStep.{TraceStep}
-use Rattle.vic_view.specs.Transcripts.{group_of, history_of}
+use Rattle.vic_view.specs.Transcripts.{transcript_group, transcript_history}
 use Rattle.vic_apart.proofs.ContentsTold.{contents_start, contents_next, contents_end}
 use Rattle.vic_apart.proofs.contents.put_contents.Goals as goal
 
@@ -19,5 +19,5 @@ loop-left-preserved c =
 
 pub returns : goal.returns
 returns c =
-    contents_end (group_of c.args.t.now) (history_of c.args.t.now) c.as_slice-steps.result.now (ap (reverse {A = TraceStep}) c.as_slice-steps.ensures) c.requires.steps
+    contents_end (transcript_group c.args.t.now) (transcript_history c.args.t.now) c.as_slice-steps.result.now (ap (reverse {A = TraceStep}) c.as_slice-steps.ensures) c.requires.steps
     c.loop-left.left c.args.texts.now c.loop-left.texts c.loop-left-test.false c.loop-left.invariant.texts

@@ -1,7 +1,7 @@
 use Rattle.std.proofs.Common.{◌+◌, take, reverse, refl, ap, sym, subst, ◌∙◌}
 use Rattle.vic_rules.specs.declared.trace.TraceStep.{TraceStep}
 use Rattle.vic_rules.specs.History.{AreSteps}
-use Rattle.vic_view.specs.Transcripts.{group_of, history_of}
+use Rattle.vic_view.specs.Transcripts.{transcript_group, transcript_history}
 use Rattle.vic_view.specs.declared.replay.ClientPath.{ClientPath}
 use Rattle.vic_apart.specs.declared.stand.Stand.{Stand}
 use Rattle.vic_apart.proofs.Standing.{StandsSoFar, stands_start, stands_own, stands_other}
@@ -10,13 +10,13 @@ use Rattle.vic_apart.proofs.stand.stand_of.Goals.{then-step-client+in_ok-answer+
 
 pub loop-step-init : goal.loop-step-init
 loop-step-init c =
-    stands_start (group_of c.args.t.now) c.args.client (history_of c.args.t.now) (record { path = c.in_ok-path.path.places; sealed = 0; parts = c.new.result })
+    stands_start (transcript_group c.args.t.now) c.args.client (transcript_history c.args.t.now) (record { path = c.in_ok-path.path.places; sealed = 0; parts = c.new.result })
     (ap (λ (p : ClientPath). p.places) c.in_ok-path.ensures) refl c.new.ensures
 
 pub loop-step-preserved : goal.loop-step-preserved
 loop-step-preserved c =
-    let g = group_of c.args.t.now in
-    let h = history_of c.args.t.now in
+    let g = transcript_group c.args.t.now in
+    let h = transcript_history c.args.t.now in
     let xs = c.as_slice-step-items.result.now in
     let i = c.loop-step.step-index in
     let x = c.step-item.result in

@@ -4,13 +4,13 @@ use Rattle.vic_wire.specs.declared.message.ToServer.TheVariants as ask
 use Rattle.vic_wire.specs.Texts.{invoke_text}
 use Rattle.vic_wire.specs.Hashes.{tag_of}
 use Rattle.vic_wire.specs.Messages.{request_text}
-use Rattle.vic_checks.specs.State.{group_of}
+use Rattle.vic_checks.specs.State.{state_group}
 use Rattle.vic_client.proofs.Requests.{invoke_is, written}
 use Rattle.vic_client.proofs.sending.invoke_payload.Goals as goal
 
 pub returns-clause-sent : goal.returns-clause-sent
 returns-clause-sent c s shows =
-    let g = group_of c.args.state.now in
+    let g = state_group c.args.state.now in
     let tag = c.invoke_tag-tag.result in
     let tagged : tag.bytes ≡ tag_of c.args.state.now.key (invoke_text (record { client = c.args.state.now.id; seq = c.args.seq; op = c.args.op.now })) =
     subst (λ (o : Op). tag.bytes ≡ tag_of c.args.state.now.key (invoke_text (record { client = c.args.state.now.id; seq = c.args.seq; op = o }))) c.in_ok-copy.ensures c.invoke_tag-tag.ensures in

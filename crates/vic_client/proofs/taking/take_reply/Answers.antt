@@ -1,16 +1,16 @@
 use Rattle.std.proofs.Common.{◌≡◌, ℕ, Bool, List, [], ◌∷◌, ◌++◌, Some, length, sym, ap, ◌∙◌, subst, arith, refl}
 use Rattle.vic_dict.specs.declared.op.Entry.{Entry}
 use Rattle.vic_dict.specs.declared.op.Outcome.{Outcome}
-use Rattle.vic_rules.specs.Objects.{after_decision, ended_by}
+use Rattle.vic_rules.specs.Objects.{after_decision, outcome_after_decision}
 use Rattle.vic_wire.specs.declared.message.Tagged.{Tagged}
 use Rattle.vic_wire.specs.Hashes.{Group}
 use Rattle.vic_wire.specs.Messages.{request_text}
-use Rattle.vic_chain.specs.Held.{Held, ShowsPath, held_length, cut_to}
+use Rattle.vic_chain.specs.Held.{Held, ShowsPath, held_length, held_cut_to}
 use Rattle.vic_chain.proofs.Shown.{shows_advanced}
 use Rattle.vic_rules.specs.declared.state.Own.{Own}
-use Rattle.vic_rules.specs.Client.{onto, grown, decision, request_of, Commits, is_done}
+use Rattle.vic_rules.specs.Client.{onto, path_with_entries, decision, request_of, Commits, is_done}
 use Rattle.vic_checks.specs.declared.state.State.{State}
-use Rattle.vic_checks.specs.State.{group_of, below_last}
+use Rattle.vic_checks.specs.State.{state_group, below_last}
 use Rattle.vic_checks.proofs.Paths.{length-onto}
 use Rattle.vic_client.specs.declared.pending.Effect.{Effect}
 use Rattle.vic_client.specs.declared.pending.Effect.TheVariants as effect
@@ -39,7 +39,7 @@ returns-in-Ok-clause-pending c = λ calls p fits.
     let turned = c.in_ok-behind.behind.turned in
     let e : Effect = effect.Replies c.length-length.result seal.position seal.root turned in
     let joined : Own = record { position = held_length window; op = c.args.op; done = c.is_done.result } in
-    let back : cut_to window c.length-length.result ≡ old.window = ap (λ (n : ℕ). cut_to window n) c.length-length.ensures.value ∙ made.back in
+    let back : held_cut_to window c.length-length.result ≡ old.window = ap (λ (n : ℕ). held_cut_to window n) c.length-length.ensures.value ∙ made.back in
     subst (λ (x : State). IsPendingIn old calls p e x) (sym c.in-Ok.ensures.own)
     (replies_pending old window joined c.length-length.result seal.position seal.root turned calls p c.requires.sound fits (c.in_ok-behind.ensures.fits calls p fits) back
     (omega (arith, made.sealed)) (omega (arith, made.length, items, c.requires.below)) refl
@@ -48,10 +48,10 @@ returns-in-Ok-clause-pending c = λ calls p fits.
 pub returns-in-Ok-clause-taken : goal.returns-in-Ok-clause-taken
 returns-in-Ok-clause-taken c = λ s st calling.
     let old : State = c.args.state.now in
-    let g : Group = group_of old in
+    let g : Group = state_group old in
     let window = c.extend_all.new.window in
     let seal = c.args.seal.now in
-    let p : List Entry = grown s c.args.entries.now in
+    let p : List Entry = path_with_entries s c.args.entries.now in
     let ends = decision old.id s (below_last s c.args.entries.now) seal.position (part c.args.part.now) c.args.op in
     let v = reply_move old.id s seal c.args.entries.now (part c.args.part.now) c.args.op in
     let made = c.in_ok-extend_all.ensures in
@@ -72,7 +72,7 @@ returns-in-Ok-clause-taken c = λ s st calling.
     subst (λ (x : State). Hears old r x s v) (sym c.in-Ok.ensures.own) (record {
       send = ap Some (sent ∙ ap (λ (b : Bool). request_text (request_of g old.id v.next (Commits b))) done);
       returned = ap Some decided;
-      object = c.in_ok-behind.ensures.object s.phase calling ∙ ap (λ (x : Outcome). ended_by s.phase x) decided;
+      object = c.in_ok-behind.ensures.object s.phase calling ∙ ap (λ (x : Outcome). outcome_after_decision s.phase x) decided;
       stands = record {
         path = shows_advanced g p window seal.position seal.root.bytes (omega (arith, made.sealed)) (omega (arith, made.length, items, c.requires.below)) shown;
         sealed = refl;
@@ -90,6 +90,6 @@ returns-in-Err-clause-err c =
     let old : State = c.args.state.now in
     let after = c.in-Err.ensures.err in
     let window : c.cut_back.new.self ≡ old.window =
-    c.cut_back.ensures.value ∙ ap (λ (x : State). cut_to x.window c.length-length.result) after
-    ∙ ap (λ (n : ℕ). cut_to c.extend_all.new.window n) c.length-length.ensures.value ∙ c.in_ok-extend_all.ensures.back in
+    c.cut_back.ensures.value ∙ ap (λ (x : State). held_cut_to x.window c.length-length.result) after
+    ∙ ap (λ (n : ℕ). held_cut_to c.extend_all.new.window n) c.length-length.ensures.value ∙ c.in_ok-extend_all.ensures.back in
     ap (λ (x : State). record x { window = c.cut_back.new.self }) after ∙ ap (λ (w : Held). record old { window = w }) window

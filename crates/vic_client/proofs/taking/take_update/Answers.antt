@@ -3,17 +3,17 @@ use Rattle.std.specs.Prelude.{slice_get}
 use Rattle.vic_wire.specs.Hashes.{Group}
 use Rattle.vic_chain.proofs.Shown.{shows_advanced}
 use Rattle.vic_rules.specs.declared.state.Own.{Own}
-use Rattle.vic_rules.specs.Client.{sealed_to, new_root}
-use Rattle.vic_checks.specs.State.{group_of}
+use Rattle.vic_rules.specs.Client.{move_to_seal, new_root}
+use Rattle.vic_checks.specs.State.{state_group}
 use Rattle.vic_prune.specs.Parts.{part}
 use Rattle.vic_client.proofs.taking.take_update.Goals as goal
 
 pub returns-clause-taken : goal.returns-clause-taken
 returns-clause-taken c = λ s o others st is.
     let now = c.args.state.now in
-    let g : Group = group_of now in
+    let g : Group = state_group now in
     let position = c.args.seal.now.position + 1 in
-    let v = sealed_to s position (new_root o (part c.args.part.now) c.args.seal.now.root.bytes) others in
+    let v = move_to_seal s position (new_root o (part c.args.part.now) c.args.seal.now.root.bytes) others in
     let own : now.own ≡ o ∷ others = sym st.own ∙ is in
     let first : Some o ≡ Some c.at-call.result.now = sym (ap (λ (l : List Own). slice_get l 0) own) ∙ c.at-call.ensures.item in
     let call : o ≡ c.at-call.result.now = cc in

@@ -1,7 +1,7 @@
 use Rattle.std.proofs.Common.{arith}
-use Rattle.vic_script.specs.Run.{limit}
+use Rattle.vic_script.specs.Run.{script_limit}
 use Rattle.vic_group.proofs.Playing.{known_all}
 use Rattle.vic_group.proofs.play.known_of.Goals as goal
 
 pub returns-then-script-le-SCRIPT_LIMIT : goal.returns-then-script-le-SCRIPT_LIMIT
-returns-then-script-le-SCRIPT_LIMIT c = known_all limit c.args.script.now (omega (arith, c.if-script-le-SCRIPT_LIMIT.true))
+returns-then-script-le-SCRIPT_LIMIT c = known_all script_limit c.args.script.now (omega (arith, c.if-script-le-SCRIPT_LIMIT.true))

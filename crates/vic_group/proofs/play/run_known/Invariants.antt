@@ -1,7 +1,7 @@
 use Rattle.std.proofs.Common.{◌≤◌, ◌+◌, length}
 use Rattle.vic_script.specs.Lines.{lines_of}
-use Rattle.vic_script.specs.Run.{Before, play}
-use Rattle.vic_group.specs.Playing.{place_by, HasFew}
+use Rattle.vic_script.specs.Run.{Before, run_from}
+use Rattle.vic_group.specs.Playing.{progress_by, HasFew}
 use Rattle.vic_group.proofs.Playing.{Heading}
 use Rattle.vic_group.proofs.play.run_known.Given as goal
 
@@ -11,7 +11,7 @@ invariant-loop-rest l = record {
   header : HasFew l.header;
   place : l.before ≤ length l.known;
   few : l.number + length l.rest ≤ 16777218;
-  run : Heading (play (length l.known) 0 1 Before (lines_of l.known)) (length l.known) l.before l.number (place_by l.header) (lines_of l.rest);
+  run : Heading (run_from (length l.known) 0 1 Before (lines_of l.known)) (length l.known) l.before l.number (progress_by l.header) (lines_of l.rest);
 }
 
 abbrev pub decreases-loop-rest : goal.decreases-loop-rest

@@ -1,5 +1,5 @@
 use Rattle.std.proofs.Common.{◌≡◌, ℕ, List, ◌∙◌, arith}
-use Rattle.vic_drill.specs.Drills.{Drill as Definition, begun, turn_below, repeats, closes, print_of_drill}
+use Rattle.vic_drill.specs.Drills.{DrillState, drill_at_start, drill_after_turn_below, drill_after_repeats, drill_after_closing, print_of_drill}
 use Rattle.vic_drill.proofs.Drilled.{drills_are_honest}
 use Rattle.vic_run_drill.specs.Running.{summary_lines}
 use Rattle.vic_run_drill.proofs.Phases.{if_ok_map}
@@ -20,17 +20,17 @@ returns-clause-honest c = drills_are_honest c.args.number c.args.clients c.args.
 
 pub seal_all-requires-clause-begun : goal.seal_all-requires-clause-begun
 seal_all-requires-clause-begun c = (
-  repeats c.most_turns.result (turn_below c.args.calls) (begun c.args.number c.args.clients),
-  (c.most_turns.result, (omega (arith, c.most_turns.ensures, c.requires.bound), c.in_ok-make_calls.ensures (begun c.args.number c.args.clients) c.in_ok-drill.ensures)),
+  drill_after_repeats c.most_turns.result (drill_after_turn_below c.args.calls) (drill_at_start c.args.number c.args.clients),
+  (c.most_turns.result, (omega (arith, c.most_turns.ensures, c.requires.bound), c.in_ok-make_calls.ensures (drill_at_start c.args.number c.args.clients) c.in_ok-drill.ensures)),
 )
 
 pub returns-clause-text : goal.returns-clause-text
 returns-clause-text c =
-    let d : Definition = repeats c.most_turns.result (turn_below c.args.calls) (begun c.args.number c.args.clients) in
+    let d : DrillState = drill_after_repeats c.most_turns.result (drill_after_turn_below c.args.calls) (drill_at_start c.args.number c.args.clients) in
     let r = c.seal_all.new.self in
-    let made = c.in_ok-make_calls.ensures (begun c.args.number c.args.clients) c.in_ok-drill.ensures in
+    let made = c.in_ok-make_calls.ensures (drill_at_start c.args.number c.args.clients) c.in_ok-drill.ensures in
     let at = c.in_ok-seal_all.ensures d c.most_turns.result made in
     if_ok_map c.summary.result (λ (text : List ℕ). text ≡ summary_lines c.args.clients c.args.calls r.tally r.served.server) (λ (text : List ℕ). text ≡ print_of_drill c.args.number c.args.clients c.args.calls)
-    (λ text e. e ∙ summary_is r (repeats c.most_events.result closes d) _ c.args.clients c.args.calls at
+    (λ text e. e ∙ summary_is r (drill_after_repeats c.most_events.result drill_after_closing d) _ c.args.clients c.args.calls at
     ∙ printed c.args.number c.args.clients c.args.calls c.most_turns.result c.most_events.result c.most_turns.ensures c.most_events.ensures)
     c.summary.ensures

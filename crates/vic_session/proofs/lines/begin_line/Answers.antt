@@ -2,7 +2,7 @@ use Rattle.std.proofs.Common.{Some, IfOk, refl, sym, ap, subst}
 use Rattle.vic_rules.specs.declared.trace.Input.TheVariants as input
 use Rattle.vic_text.specs.declared.client_line.ClientLine.{ClientLine}
 use Rattle.vic_session.specs.declared.place.At.TheVariants as at
-use Rattle.vic_session.specs.Talks.{Calls, Tells, begins}
+use Rattle.vic_session.specs.Talks.{Calls, Tells, talk_from_line}
 use Rattle.vic_session.specs.Talking.{Began}
 use Rattle.vic_session.proofs.Begins.{asks_went, calls_poll, calls_sync, calls_call, calls_object}
 use Rattle.vic_session.proofs.lines.begin_line.Goals as goal
@@ -13,7 +13,7 @@ returns-in_ok-request_for-in-Call-clause-began c = λ w t start p on few. (
   (
     Calls,
     (
-      (λ next. ap (λ (l : ClientLine). begins w t (Some l) next) c.in-Call.is),
+      (λ next. ap (λ (l : ClientLine). talk_from_line w t (Some l) next) c.in-Call.is),
       (
         refl,
         (
@@ -32,7 +32,7 @@ returns-in_ok-request_for-in-Object-clause-began c = λ w t start p on few. (
   (
     Calls,
     (
-      (λ next. ap (λ (l : ClientLine). begins w t (Some l) next) c.in-Object.is),
+      (λ next. ap (λ (l : ClientLine). talk_from_line w t (Some l) next) c.in-Object.is),
       (
         refl,
         (
@@ -51,7 +51,7 @@ returns-in_ok-request_for-in-Poll-clause-began c = λ w t start p on few. (
   (
     Tells,
     (
-      (λ next. ap (λ (l : ClientLine). begins w t (Some l) next) c.in-Poll.is),
+      (λ next. ap (λ (l : ClientLine). talk_from_line w t (Some l) next) c.in-Poll.is),
       (
         refl,
         (
@@ -70,7 +70,7 @@ returns-in_ok-request_for-in-Sync-clause-began c = λ w t start p on few. (
   (
     Tells,
     (
-      (λ next. ap (λ (l : ClientLine). begins w t (Some l) next) c.in-Sync.is),
+      (λ next. ap (λ (l : ClientLine). talk_from_line w t (Some l) next) c.in-Sync.is),
       (
         refl,
         (

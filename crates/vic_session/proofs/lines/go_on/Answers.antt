@@ -1,10 +1,10 @@
 use Rattle.std.proofs.Common.{◌≡◌, ℕ, List, length, IsTrue, ap, subst, sym, ◌∙◌, arith}
 use Rattle.std.proofs.lemmas.Bool.{eqb-true}
-use Rattle.vic_client.specs.Kept.{Kept, is_idle}
+use Rattle.vic_client.specs.Kept.{KeptClient, is_idle}
 use Rattle.vic_session.specs.declared.lines.Begun.{Begun}
 use Rattle.vic_session.specs.declared.lines.Begun.TheVariants as begun
 use Rattle.vic_session.specs.Talking.{On, Lined, LinedAt, Rests, PrintsFront}
-use Rattle.vic_session.specs.Talks.{Talk, Talker, goes_on}
+use Rattle.vic_session.specs.Talks.{Talk, Talker, talk_at_next_line}
 use Rattle.vic_session.proofs.Extends.{extends_on}
 use Rattle.vic_session.proofs.Lined.{led_went, led_leaves, front_of_on}
 use Rattle.vic_session.proofs.lines.go_on.Goals as goal
@@ -13,7 +13,7 @@ pub returns-in-Err-clause-went : goal.returns-in-Err-clause-went
 returns-in-Err-clause-went c = λ w t start on.
     let led = c.loop-alloc.invariant.led w t start on in
     subst (λ (v : Talk). PrintsFront start v c.do_line.new.out) (sym led.1.1.0)
-    (front_of_on w led.0 (goes_on w led.0 led.0.lines) start c.do_line.new.out (extends_on w led.0 led.0.lines) (c.in-Err.ensures.err ∙ led.1.0.text))
+    (front_of_on w led.0 (talk_at_next_line w led.0 led.0.lines) start c.do_line.new.out (extends_on w led.0 led.0.lines) (c.in-Err.ensures.err ∙ led.1.0.text))
 
 pub returns-in-Err-clause-stays : goal.returns-in-Err-clause-stays
 returns-in-Err-clause-stays c = c.in-Err.ensures.stays ∙ c.loop-alloc.invariant.same
@@ -49,8 +49,8 @@ loop-alloc-preserved c =
     let l : Lined w u start c.do_line.new.client c.do_line.new.place c.do_line.new.out begun.Next =
     subst (λ (b : Begun). Lined w u start c.do_line.new.client c.do_line.new.place c.do_line.new.out b) c.in-Ok-Next.field-0-is (c.in-Ok-Next.ensures.lined w u start on) in l in
     record {
-      idle = subst (λ (k : Kept). IsTrue (is_idle k)) (sym rests) i.idle;
-      few = let same : c.do_line.new.client.calls ≡ c.loop-alloc.client.calls = ap (λ (k : Kept). k.calls) rests in omega (arith, same, i.few, c.in-Ok-Next.ensures.number);
+      idle = subst (λ (k : KeptClient). IsTrue (is_idle k)) (sym rests) i.idle;
+      few = let same : c.do_line.new.client.calls ≡ c.loop-alloc.client.calls = ap (λ (k : KeptClient). k.calls) rests in omega (arith, same, i.few, c.in-Ok-Next.ensures.number);
       within = subst (λ (b : Begun). LinedAt b c.do_line.new.place) c.in-Ok-Next.field-0-is c.in-Ok-Next.ensures.at;
       total = c.in-Ok-Next.ensures.total ∙ i.total;
       same = rests ∙ i.same;

@@ -6,7 +6,7 @@ use Rattle.vic_rules.specs.declared.trace.TraceStep.{TraceStep}
 use Rattle.vic_rules.specs.Trust.{IsForged}
 use Rattle.vic_script.specs.Print.{is_forged}
 use Rattle.vic_script.proofs.Forged.{forged_means}
-use Rattle.vic_view.specs.Transcripts.{group_of, history_of}
+use Rattle.vic_view.specs.Transcripts.{transcript_group, transcript_history}
 use Rattle.vic_view.proofs.forgery.forged.Goals as goal
 
 -- what the test answers means that a text was taken which wasn't made
@@ -15,4 +15,4 @@ means g h (Ok b) e = forged_means g h b e
 means g h (Err e) told = tt
 
 pub returns-clause-means : goal.returns-clause-means
-returns-clause-means c = means (group_of c.args.t.now) (history_of c.args.t.now) c.forged_along.result c.forged_along.ensures
+returns-clause-means c = means (transcript_group c.args.t.now) (transcript_history c.args.t.now) c.forged_along.result c.forged_along.ensures

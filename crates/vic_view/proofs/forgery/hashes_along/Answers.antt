@@ -1,23 +1,23 @@
 use Rattle.std.proofs.Common.{◌≡◌, ◌∷◌, ◌∙◌, ap, ℕ, List, [], take, reverse}
 use Rattle.vic_wire.specs.Hashes.{hash, chain}
 use Rattle.vic_wire.specs.Texts.{chain_text}
-use Rattle.vic_view.specs.Transcripts.{group_of}
+use Rattle.vic_view.specs.Transcripts.{transcript_group}
 use Rattle.vic_view.proofs.Replays.{entries}
 use Rattle.vic_view.proofs.Hashing.{genesis_is, chain_is, hash_first, hash_next, spelled_next}
 use Rattle.vic_view.proofs.forgery.hashes_along.Goals as goal
 
 pub loop-place-init : goal.loop-place-init
 loop-place-init c =
-    let first : c.genesis-last.result.bytes ≡ chain (group_of c.args.t.now) [] = c.genesis-last.ensures ∙ genesis_is (group_of c.args.t.now) in
+    let first : c.genesis-last.result.bytes ≡ chain (transcript_group c.args.t.now) [] = c.genesis-last.ensures ∙ genesis_is (transcript_group c.args.t.now) in
     record {
       spelled = c.requires;
-      hashes = hash_first (group_of c.args.t.now) c.args.places.now c.new-hashes.result c.push.new.self c.genesis-last.result c.new-hashes.ensures c.in_ok-push.ensures.ok first;
+      hashes = hash_first (transcript_group c.args.t.now) c.args.places.now c.new-hashes.result c.push.new.self c.genesis-last.result c.new-hashes.ensures c.in_ok-push.ensures.ok first;
       last = first;
     }
 
 pub loop-place-preserved : goal.loop-place-preserved
 loop-place-preserved c =
-    let g = group_of c.args.t.now in
+    let g = transcript_group c.args.t.now in
     let ps = c.args.places.now in
     let i = c.loop-place.place-index in
     let made : c.chain_step-last.result.bytes ≡ chain g (c.place-item.result.entry ∷ reverse (entries (take i ps))) =

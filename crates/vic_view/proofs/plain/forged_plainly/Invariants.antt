@@ -1,9 +1,9 @@
 use Rattle.std.proofs.Common.{◌≡◌, false, take, reverse}
 use Rattle.vic_rules.specs.Trust.{texts_made}
 use Rattle.vic_script.specs.Print.{is_forged}
-use Rattle.vic_view.specs.Transcripts.{group_of}
+use Rattle.vic_view.specs.Transcripts.{transcript_group}
 use Rattle.vic_view.specs.Making.{SameTexts}
 use Rattle.vic_view.proofs.plain.forged_plainly.Given as goal
 
 abbrev pub invariant-loop-i : goal.invariant-loop-i
-invariant-loop-i l = (is_forged (group_of l.t) (reverse (take l.i l.steps)) ≡ false) × SameTexts l.made (texts_made (group_of l.t) (reverse (take l.i l.steps)))
+invariant-loop-i l = (is_forged (transcript_group l.t) (reverse (take l.i l.steps)) ≡ false) × SameTexts l.made (texts_made (transcript_group l.t) (reverse (take l.i l.steps)))

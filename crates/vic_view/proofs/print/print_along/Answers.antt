@@ -1,6 +1,6 @@
 use Rattle.std.proofs.Common.{◌≡◌, ◌≤◌, ◌++◌, List, length, ap, ◌∙◌, arith}
 use Rattle.vic_rules.specs.declared.trace.Shown.{Shown}
-use Rattle.vic_view.specs.Transcripts.{group_of, history_of}
+use Rattle.vic_view.specs.Transcripts.{transcript_group, transcript_history}
 use Rattle.vic_view.specs.Printed.{view_texts, agree_texts}
 use Rattle.vic_view.proofs.Prints.{length_views, prints_all}
 use Rattle.vic_view.proofs.print.print_along.Goals as goal
@@ -8,13 +8,13 @@ use Rattle.vic_view.proofs.print.print_along.Goals as goal
 pub put_agreements-requires : goal.put_agreements-requires
 put_agreements-requires c =
     let size : length c.as_slice-2.result.now ≡ c.args.t.now.count =
-    ap length (c.as_slice-2.ensures ∙ c.in_ok-views.ensures) ∙ length_views (group_of c.args.t.now) (history_of c.args.t.now) c.args.t.now.count in
+    ap length (c.as_slice-2.ensures ∙ c.in_ok-views.ensures) ∙ length_views (transcript_group c.args.t.now) (transcript_history c.args.t.now) c.args.t.now.count in
     let few : c.args.t.now.count ≤ 64 = c.requires.lawful.group.count.1 in
     omega arith
 
 pub returns : goal.returns
 returns c =
-    prints_all (group_of c.args.t.now) (history_of c.args.t.now) c.in_ok-views.views c.args.forged c.new-out.result c.put_views.new.out c.put_agreements.new.out c.put_tags.new.out
+    prints_all (transcript_group c.args.t.now) (transcript_history c.args.t.now) c.in_ok-views.views c.args.forged c.new-out.result c.put_views.new.out c.put_agreements.new.out c.put_tags.new.out
     c.in_ok-views.ensures c.new-out.ensures
     (c.in_ok-put_views.ensures.ok ∙ ap (λ (x : List (List Shown)). c.new-out.result ++ view_texts 1 x) c.as_slice.ensures)
     (c.in_ok-put_agreements.ensures.ok ∙ ap (λ (x : List (List Shown)). c.put_views.new.out ++ agree_texts 1 x) c.as_slice-2.ensures)

@@ -1,7 +1,7 @@
 use Rattle.std.proofs.Common.{◌≡◌, ◌<◌, ◌+◌, ◌-◌, ◌%◌, ℕ, length, get_or, set, sym, ap, ◌∙◌, subst, arith}
 use Rattle.vic_gen.specs.declared.Act.TheVariants as act
-use Rattle.vic_gen.specs.Drawing.{Drawing, next_of, act_of, acted}
-use Rattle.vic_gen.proofs.Calls.{acts-at, is_poll-at, act-calls, acted-calls}
+use Rattle.vic_gen.specs.Drawing.{Drawing, next_of, act_of, drawing_after_act}
+use Rattle.vic_gen.proofs.Calls.{acts-at, is_poll-at, act-calls, drawing_after_act-calls}
 use Rattle.vic_gen.proofs.drawing.Gen.act.Goals as goal
 
 pub returns-clause-act : goal.returns-clause-act
@@ -25,6 +25,6 @@ returns-clause-ok c =
     let times = acts-at d client n within read in
     let left : ℕ → ℕ → ℕ → Drawing = λ x p m. record { x = x; acts = set d.acts (p - 1) ((m + 1) % 4) } in
     let far = c.next-self-inside.ensures ∙ ap next_of c.next-behind.ensures in
-    subst (λ (d : Drawing). left c.next-self-inside.result c.from-place.result c.from.result ≡ acted d client) c.self.view_is
+    subst (λ (d : Drawing). left c.next-self-inside.result c.from-place.result c.from.result ≡ drawing_after_act d client) c.self.view_is
     (ap (λ x. left x c.from-place.result c.from.result) far ∙ ap (λ p. left (next_of (next_of d.x)) p c.from.result) c.from-place.ensures ∙ ap (λ m. left (next_of (next_of d.x)) client m) c.from.ensures
-    ∙ sym (acted-calls d client n (is_poll-at d client n times c.if-times-eq-POLL.false) times))
+    ∙ sym (drawing_after_act-calls d client n (is_poll-at d client n times c.if-times-eq-POLL.false) times))

@@ -1,7 +1,7 @@
 use Rattle.std.proofs.Common.{List, ℕ, ap, subst, ◌∙◌}
 use Rattle.vic_rules.specs.declared.trace.Input.TheVariants as input
-use Rattle.vic_client.specs.Kept.{Kept}
-use Rattle.vic_client.specs.Pending.{IsPendingOf, kept}
+use Rattle.vic_client.specs.Kept.{KeptClient}
+use Rattle.vic_client.specs.Pending.{IsPendingOf, after_keeping}
 use Rattle.vic_group.specs.declared.member.Member.{Member}
 use Rattle.vic_group.proofs.Acting.{acts}
 use Rattle.vic_group.proofs.member.Member.take.Goals as goal
@@ -13,7 +13,7 @@ returns-in-Ok-clause-acts c = λ g h i at.
     let pends = subst (λ (p : List ℕ). IsPendingOf old.client c.in_ok-pending.pending c.hear.new.self (input.Payload p)) c.as_slice.ensures c.in_ok-pending.ensures.heard in
     acts g h i (input.Payload c.args.payload) old _ c.in_ok-pending.pending c.hear.new.self c.take-sent.result at pends c.take-sent.ensures.value c.are_bytes.ensures
     (record {
-      client = c.keep.ensures.client ∙ ap (λ (k : Kept). kept c.in_ok-pending.pending.effect k) (ap (λ (m : Member). m.client) made);
+      client = c.keep.ensures.client ∙ ap (λ (k : KeptClient). after_keeping c.in_ok-pending.pending.effect k) (ap (λ (m : Member). m.client) made);
       server = ap (λ (m : Member). m.server) made;
       up = ap (λ (m : Member). m.up) made;
       down = ap (λ (m : Member). m.down) made;

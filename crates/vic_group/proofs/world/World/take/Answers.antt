@@ -1,6 +1,6 @@
 use Rattle.std.proofs.Common.{◌≡◌, ℕ, List, [], ◌∷◌, drop, Option, refl, subst}
 use Rattle.std.specs.Prelude.{MatchOption}
-use Rattle.vic_order.specs.Scenes.{unchanged}
+use Rattle.vic_order.specs.Scenes.{payload_as_is}
 use Rattle.vic_group.specs.declared.member.Member.{Member}
 use Rattle.vic_group.specs.World.{states}
 use Rattle.vic_group.proofs.Scenes.{stands_here}
@@ -30,6 +30,6 @@ returns-clause-ok g c = λ s shows.
     let stands = stands_here w.transcript w.members.items vs s c.args.who c.args.place m shows c.requires.place at in
     let took = c.in_ok-take_oldest_as.ensures in (
       one_waits w.transcript w.members.items vs s c.args.who c.args.place m shows c.requires.place at p some,
-      taken_as w.transcript c.take_oldest_as.new.transcript w.members.items vs s c.args.who c.args.place m c.take_oldest_as.new.self unchanged p p c.args.out.now c.take_oldest_as.new.out shows c.requires.place at c.requires.within some refl
+      taken_as w.transcript c.take_oldest_as.new.transcript w.members.items vs s c.args.who c.args.place m c.take_oldest_as.new.self payload_as_is p p c.args.out.now c.take_oldest_as.new.out shows c.requires.place at c.requires.within some refl
           (took.acts s.group s.history c.args.who stands) (took.joins s.group s.history c.args.who stands) (took.out s.group s.history c.args.who stands),
     )

@@ -1,6 +1,6 @@
 use Rattle.std.proofs.Common.{◌≡◌, ℕ, ◌+◌, ◌-◌, ◌<◌, ◌^◌, length, Some, refl, ap, ◌∙◌, arith, slice_get}
 use Rattle.std.specs.Vec.{with_item}
-use Rattle.vic_gen.specs.Drawing.{Drawing, act_of, acted}
+use Rattle.vic_gen.specs.Drawing.{Drawing, act_of, drawing_after_act}
 use Rattle.vic_run_drill.specs.declared.seat.Seat.{Seat}
 use Rattle.vic_run_drill.specs.declared.run.Drill.{Drill}
 use Rattle.vic_run_drill.proofs.Asking.{seat_there, can_act}
@@ -49,5 +49,5 @@ returns c = λ d n few at none.
     let calls_few : d.calls + 1 < 2 ^ 32 = let same = at.calls in omega (arith, same, c.requires.few) in
     acted_next r d n at who k m is there none new c.in_ok-act.act c.act-2.new.self c.act.new.self few calls_few
     (did.act ∙ ap (λ (x : Drawing). act_of x who (r.calls + 1)) at.drawing ∙ ap (λ (j : ℕ). act_of d.drawing who (j + 1)) at.calls)
-    (did.ok ∙ ap (λ (x : Drawing). acted x who) at.drawing) next
+    (did.ok ∙ ap (λ (x : Drawing). drawing_after_act x who) at.drawing) next
     (record { seats = refl; server = refl; tally = refl; drawing = refl; calls = ap (λ (j : ℕ). r.calls + j) c.calls_in.ensures })

@@ -1,6 +1,6 @@
 use Rattle.std.proofs.Common.{◌≡◌, ℕ, ◌+◌, ◌-◌, ◌<◌, length, refl, sym, subst, ◌∙◌, arith}
 use Rattle.std.specs.Vec.{with_item}
-use Rattle.vic_drill.specs.Drills.{Drill as Definition}
+use Rattle.vic_drill.specs.Drills.{DrillState}
 use Rattle.vic_run_drill.specs.declared.run.Drill.{Drill}
 use Rattle.vic_run_drill.specs.Running.{Stands, WentOn, Closes}
 use Rattle.vic_run_drill.proofs.Asking.{seat_there, can_act}
@@ -94,5 +94,5 @@ returns c = λ d n at.
     let there = seat_there r.seats.items r.seats.items k c.index_mut.result.now refl lt c.index_mut.ensures.value in
     let new : Drill = record r { seats = with_item r.seats k c.act.new.self } in
     let stepped = c.in_ok-act.ensures.ok d.scene.group d.scene.history owner (seat_stands r d n at owner k c.index_mut.result.now is there) in
-    subst (λ (x : Definition). Stands new x (n + 1)) (sym (closes_by_poll r d n at none owner next))
+    subst (λ (x : DrillState). Stands new x (n + 1)) (sym (closes_by_poll r d n at none owner next))
     (polled r d n at owner k c.index_mut.result.now is there who.1 new c.act.new.self stepped (record { seats = refl; server = refl; tally = refl; drawing = refl; calls = refl }))

@@ -1,7 +1,7 @@
 use Rattle.std.proofs.Common.{ℕ, List, refl, sym, subst}
 use Rattle.vic_rules.specs.declared.trace.Input.TheVariants as input
 use Rattle.vic_rules.specs.History.{standing}
-use Rattle.vic_client.specs.Kept.{move_of}
+use Rattle.vic_client.specs.Kept.{kept_move}
 use Rattle.vic_client.specs.Shows.{Shows}
 use Rattle.vic_run_drill.specs.declared.seat.UnderWay.{UnderWay}
 use Rattle.vic_run_drill.specs.Running.{Steps}
@@ -15,8 +15,8 @@ returns-in_ok-step-in-Answer-clause-ok c = λ g h at.
     let who = c.args.who in
     let r = c.in_ok-step-in-Answer.step in
     let took = c.in_ok-step-in-Answer.ensures in
-    let shows : Shows old.client r c.take.new.self (move_of old.client (standing g who h) (input.Payload p)) =
-    subst (λ (b : List ℕ). Shows old.client r c.take.new.self (move_of old.client (standing g who h) (input.Payload b))) c.as_slice-in-Answer.ensures (took.taken (standing g who h) at.stands) in
+    let shows : Shows old.client r c.take.new.self (kept_move old.client (standing g who h) (input.Payload p)) =
+    subst (λ (b : List ℕ). Shows old.client r c.take.new.self (kept_move old.client (standing g who h) (input.Payload b))) c.as_slice-in-Answer.ensures (took.taken (standing g who h) at.stands) in
     let made = steps_so g h who (input.Payload p) old c.take.new.self at took.same r.send shows.send shows.stands in (
       p,
       (

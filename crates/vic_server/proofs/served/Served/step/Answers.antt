@@ -3,7 +3,7 @@ use Rattle.vic_wire.specs.declared.message.ToClient.{ToClient}
 use Rattle.vic_wire.specs.declared.message.ToClient.TheVariants as say
 use Rattle.vic_wire.specs.Reading.{read_request}
 use Rattle.vic_server.specs.Causes.{Causes}
-use Rattle.vic_server.specs.Replay.{Kept, stepped}
+use Rattle.vic_server.specs.Replay.{KeptServer, after_request}
 use Rattle.vic_server.proofs.Caused.{caused_served}
 use Rattle.vic_server.proofs.Refusals.{refused_stepped}
 use Rattle.vic_server.proofs.served.Served.step.Goals as goal
@@ -16,5 +16,5 @@ pub returns-clause-refused : goal.returns-clause-refused
 returns-clause-refused c r e =
     let k = c.args.self.now in
     let says : c.in_ok-answer.field-0.answer ≡ say.Refused r = cc in
-    c.in_ok-keep.ensures.ok ∙ ap (λ (x : Kept). stepped x c.args.seat c.args.who c.args.payload.now) c.plan.ensures.same
+    c.in_ok-keep.ensures.ok ∙ ap (λ (x : KeptServer). after_request x c.args.seat c.args.who c.args.payload.now) c.plan.ensures.same
     ∙ refused_stepped k c.args.seat c.args.who c.args.payload.now r (sym c.in_ok-answer.ensures.follows.1.0 ∙ says)

@@ -1,6 +1,6 @@
 use Rattle.std.proofs.Common.{◌≡◌, ℕ, List, length, sym, ap, refl, ◌∙◌, arith}
 use Rattle.vic_wire.specs.Trees.{Leaf}
-use Rattle.vic_wire.specs.Walks.{end_at, revalued, planted}
+use Rattle.vic_wire.specs.Walks.{end_at, tree_with_value, tree_with_fork}
 use Rattle.vic_trie.specs.Nodes.{tree}
 use Rattle.vic_trie.proofs.Kept.{grows_planted, keeps_revalued}
 use Rattle.vic_trie.proofs.node.Node.put.Goals as goal
@@ -10,7 +10,7 @@ returns-in-None-clause-change c =
     let k = c.args.key.now in let t = tree c.args.self.now in
     let same : c.end.result.0.now ≡ k = sym c.as_slice.ensures ∙ sym c.in-None.ensures.first in
     let e : end_at k t ≡ Leaf k c.end.result.1.now = c.end.ensures.leaf ∙ ap (λ q. Leaf q c.end.result.1.now) same in
-    let is : tree c.revalue.new.self ≡ revalued k c.args.value.now t = c.revalue.ensures.tree ∙ ap (λ v. revalued k v t) c.in_ok-held.ensures in
+    let is : tree c.revalue.new.self ≡ tree_with_value k c.args.value.now t = c.revalue.ensures.tree ∙ ap (λ v. tree_with_value k v t) c.in_ok-held.ensures in
     let long : c.len-old.result ≡ length c.end.result.1.now = c.len-old.ensures in
     (rw (is, long) (keeps_revalued k c.args.value.now c.end.result.1.now t e), omega arith)
 
