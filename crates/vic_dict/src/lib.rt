@@ -4,6 +4,7 @@
 #![tactic(auto)]
 
 pub mod bytes;
+pub mod limits;
 pub mod op;
 pub mod plain;
 

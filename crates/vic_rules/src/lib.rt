@@ -4,6 +4,7 @@
 //! code is the two tests of equality in [`same`].
 #![tactic(auto)]
 
+pub mod check;
 pub mod object;
 pub mod same;
 pub mod state;

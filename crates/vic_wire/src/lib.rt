@@ -5,5 +5,6 @@
 #![tactic(auto)]
 
 pub mod message;
+pub mod refusal;
 
 pub use message::{Digest32, Seal, Tagged, TaggedList, ToClient, ToServer};
