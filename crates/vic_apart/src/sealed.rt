@@ -2,6 +2,7 @@
 
 ghost use Rattle.std.specs.Prelude.{◌≡◌, ◌≤◌, ◌+◌, ◌++◌, length, IfOk, OnOk, slice_get, if◌then◌else◌};
 ghost use Rattle.std.specs.List.{AllByRecursion};
+ghost use Rattle.vic_dict.specs.declared.limits.TheConstants.{MOST_ENTRIES};
 ghost use Rattle.vic_dict.specs.Dictionary.{Fits, after};
 ghost use Rattle.vic_laws.specs.Meanings.{texts_of_each, zero_to};
 ghost use Rattle.vic_trie.specs.Weights.{weight_of};
@@ -80,7 +81,7 @@ pub(crate) fn put_left_texts(
     texts: &mut Names,
 ) -> Result<(), NoMemory>
     requires entries { AllByRecursion IsPlaceEntry mine.now.path }
-    requires few { length mine.now.path ≤ 1048576 }
+    requires few { length mine.now.path ≤ MOST_ENTRIES }
     requires within { mine.now.sealed ≤ length mine.now.path }
     ensures { OnOk result (texts.new ≡ texts.old ++ texts_of_each (left_texts (paths_in all.now) mine.now.path) (zero_to mine.now.sealed)) }
 {

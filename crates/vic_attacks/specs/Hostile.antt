@@ -1,5 +1,6 @@
 -- Servers that misbehave by themselves: one answers so many requests by the rule, and later ones in its own way.
 use Rattle.std.specs.Prelude.{ℕ, ◌+◌, ◌-◌, ◌*◌, Bool, true, false, List, [], ◌∷◌, ◌++◌, length, take, drop, reverse, replicate, Option, Some, None, nat_eq, nat_lt, nat_le, if◌then◌else◌, min, slice_get, slice_set}
+use Rattle.vic_dict.specs.declared.limits.TheConstants.{MOST_CLIENTS}
 use Rattle.vic_dict.specs.declared.op.Op.{Op}
 use Rattle.vic_dict.specs.Dictionary.{Dictionary}
 use Rattle.vic_wire.specs.declared.message.Tagged.{Tagged}
@@ -31,7 +32,7 @@ pub record Hostile : Type 0 where
 
 -- one that has served nothing
 abbrev pub hostile_from : HostileKind → ℕ → Server → Hostile
-hostile_from k n s = record { kind = k; after = n; count = 0; going = s; kept = None; past = None; told = replicate 64 None }
+hostile_from k n s = record { kind = k; after = n; count = 0; going = s; kept = None; past = None; told = replicate MOST_CLIENTS None }
 
 -- the number of the request that comes next, from 1 on; the count stops
 abbrev pub number : Hostile → ℕ

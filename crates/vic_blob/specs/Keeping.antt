@@ -5,6 +5,7 @@ use Rattle.std.specs.Str.{bytes_eq}
 use Rattle.std.specs.Ordering.{nat_cmp}
 use Rattle.std.specs.Cmp.Lexicographic.{slice_cmp}
 use Rattle.std.specs.BTreeMap.{BTreeMap, get}
+use Rattle.vic_dict.specs.declared.limits.TheConstants.{LONGEST_CONTENT, MOST_CONTENTS, MOST_CONTENT_BYTES}
 use Rattle.vic_wire.specs.Hashes.{hash}
 use Rattle.vic_wire.specs.Texts.{content_text}
 
@@ -17,7 +18,7 @@ kept_under contents h = find (has_hash h) contents
 
 -- there is room for a content
 abbrev pub IsRoom : List (List ℕ) → List ℕ → Type 0
-IsRoom contents c = (length contents < 1048576) × (sum_by length contents + length c ≤ 1073741824)
+IsRoom contents c = (length contents < MOST_CONTENTS) × (sum_by length contents + length c ≤ MOST_CONTENT_BYTES)
 
 -- the content at a place, if the index names one
 abbrev pub at_place : List (List ℕ) → Option ℕ → Option (List ℕ)
@@ -29,9 +30,9 @@ place_of places h = get (slice_cmp nat_cmp) places h
 
 -- the index leads to the content of each hash, and the bytes are counted
 pub record IsSound (rows : List (List ℕ)) (places : BTreeMap (List ℕ) ℕ) (counted : ℕ) : Type 0 where
-  pub few : length rows ≤ 1048576
+  pub few : length rows ≤ MOST_CONTENTS
   pub indexed : (h : List ℕ) → at_place rows (place_of places h) ≡ kept_under (reverse rows) h
   pub within : (h : List ℕ) (place : ℕ) → place_of places h ≡ Some place → place < length rows
   pub counts : counted ≡ sum_by length (reverse rows)
-  pub light : counted ≤ 1073741824
-  pub small : (h c : List ℕ) → kept_under (reverse rows) h ≡ Some c → length c ≤ 8388608
+  pub light : counted ≤ MOST_CONTENT_BYTES
+  pub small : (h c : List ℕ) → kept_under (reverse rows) h ≡ Some c → length c ≤ LONGEST_CONTENT

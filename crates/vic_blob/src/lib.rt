@@ -4,6 +4,7 @@
 ghost use Rattle.std.specs.Prelude.{[], is_some, ◌≡◌, ℕ, ◌<◌, ◌≤◌, ◌+◌, ◌∷◌, ◌↔◌, ◌⊎◌, true, false, IsTrue, length, Ok, Err, Some, None, IfOk, OnOk, OnErr, option_copied};
 ghost use Rattle.std.specs.List.{sum_by, find};
 ghost use Rattle.std.specs.Str.{bytes_eq};
+ghost use Rattle.vic_dict.specs.declared.limits.TheConstants.{LONGEST_CONTENT};
 ghost use Rattle.vic_wire.specs.Hashes.{hash};
 ghost use Rattle.std.specs.Prelude.{List};
 ghost use Rattle.vic_wire.specs.Texts.{content_text};
@@ -14,6 +15,7 @@ ghost use Rattle.vic_blob.specs.Keeping.{IsRoom, kept_under};
 use std::alloc::Global;
 use std::collections::BTreeMap;
 use std::marker::Model;
+use vic_dict::limits::{MOST_CONTENT_BYTES, MOST_CONTENTS};
 use vic_dict::{Bytes, NoMemory};
 use vic_wire::Digest32;
 
@@ -87,7 +89,7 @@ impl Blobs {
     /// The content that is kept under a hash, if one is. It costs the logarithm of their number.
     pub fn fetch(&self, hash: &Digest32) -> Option<&Bytes>
         ensures is { option_copied result ≡ kept_under self.now hash.now.bytes }
-        ensures small { (c : List ℕ) → kept_under self.now hash.now.bytes ≡ Some c → length c ≤ 8388608 }
+        ensures small { (c : List ℕ) → kept_under self.now hash.now.bytes ≡ Some c → length c ≤ LONGEST_CONTENT }
     {
         match self.places.get(&hash.bytes) {
             Some(place) => self.contents.get(*place as usize),
@@ -104,10 +106,10 @@ impl Blobs {
 
     /// Whether there is room for so many bytes more.
     pub fn has_room(&self, len: usize) -> bool
-        requires { len ≤ 8388608 }
+        requires { len ≤ LONGEST_CONTENT }
         ensures { (content : List ℕ) → length content ≡ len → IsTrue result ↔ IsRoom self.now content }
     {
-        self.contents.len() < 1_048_576 && self.bytes + len as u64 <= 1_073_741_824
+        self.contents.len() < MOST_CONTENTS && self.bytes + len as u64 <= MOST_CONTENT_BYTES
     }
 
     /// Keeps a content that isn't kept and for which there is room, under its hash. It hashes and copies nothing; where memory runs out
@@ -115,7 +117,7 @@ impl Blobs {
     pub fn add(&mut self, hash: &Digest32, content: Bytes) -> Result<(), NoMemory>
         requires hash { hash.now.bytes ≡ content_hash content }
         requires new { kept_under self.old hash.now.bytes ≡ None }
-        requires small { length content ≤ 8388608 }
+        requires small { length content ≤ LONGEST_CONTENT }
         requires room { IsRoom self.old content }
         ensures ok { OnOk result (self.new ≡ content ∷ self.old) }
         ensures err { OnErr result (self.new ≡ self.old) }
@@ -137,7 +139,7 @@ impl Blobs {
 
     /// Keeps a content under its hash. It costs the content's hash and a copy, and the logarithm of the number of contents.
     pub fn keep(&mut self, alloc: Global, content: &[u8]) -> Result<Kept, BlobFault>
-        requires { length content.now ≤ 8388608 }
+        requires { length content.now ≤ LONGEST_CONTENT }
         ensures new { result ≡ Ok Kept.New → (kept_under self.old (content_hash content.now) ≡ None) × (IsRoom self.old content.now × (self.new ≡ content.now ∷ self.old)) }
         ensures already { (result ≡ Ok Kept.Already) ↔ IsTrue (is_some (kept_under self.old (content_hash content.now))) }
         ensures kept { result ≡ Ok Kept.Already → self.new ≡ self.old }

@@ -13,7 +13,7 @@ fn got(alloc: Global, client: u8, seq: u32, key: &[u8]) -> Result<Entry, NoMemor
     requires high { client ≤ 64 }
     requires number { 0 < seq }
     requires some { 0 < length key.now }
-    requires short { length key.now < 256 }
+    requires short { length key.now ≤ 255 }
     ensures { IfOk result (λ e. IsEntry e) }
 {
     Ok(Entry {

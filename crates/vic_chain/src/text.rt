@@ -1,6 +1,6 @@
 //! Hashes of a path, and entries fed to a hasher field by field.
 
-ghost use Rattle.std.specs.Prelude.{◌≡◌, ◌<◌, List, ℕ, ◌++◌, ◌∷◌, [], length};
+ghost use Rattle.std.specs.Prelude.{◌≤◌, ◌≡◌, ◌<◌, List, ℕ, ◌++◌, ◌∷◌, [], length};
 ghost use Rattle.sha2.specs.Hashers.{Holds256};
 ghost use Rattle.vic_dict.specs.Dictionary.{Fits};
 ghost use Rattle.vic_wire.specs.Texts.{short_text, op_text, entry_text, genesis_text, chain_text, mode_byte};
@@ -13,7 +13,7 @@ use vic_wire::Digest32;
 
 // A length byte, and the bytes.
 fn feed_short(hasher: &mut Sha256, text: &Bytes)
-    requires { length text.now < 256 }
+    requires { length text.now ≤ 255 }
     ensures { (m : List ℕ) → Holds256 hasher.old m → Holds256 hasher.new (m ++ short_text text.now) }
 {
     let size = text.len() as u8;
@@ -23,7 +23,7 @@ fn feed_short(hasher: &mut Sha256, text: &Bytes)
 
 // The kind byte of an operation, and its first text.
 fn feed_kind(hasher: &mut Sha256, kind: u8, text: &Bytes)
-    requires { length text.now < 256 }
+    requires { length text.now ≤ 255 }
     ensures { (m : List ℕ) → Holds256 hasher.old m → Holds256 hasher.new (m ++ kind ∷ short_text text.now) }
 {
     hasher.update([kind].as_slice());
@@ -31,8 +31,8 @@ fn feed_kind(hasher: &mut Sha256, kind: u8, text: &Bytes)
 }
 
 fn feed_put(hasher: &mut Sha256, key: &Bytes, value: &Bytes)
-    requires key { length key.now < 256 }
-    requires value { length value.now < 256 }
+    requires key { length key.now ≤ 255 }
+    requires value { length value.now ≤ 255 }
     ensures { (m : List ℕ) → Holds256 hasher.old m → Holds256 hasher.new (m ++ 1 ∷ short_text key.now ++ short_text value.now) }
 {
     feed_kind(hasher, 1, key);

@@ -2,6 +2,7 @@
 
 ghost use Rattle.std.specs.Prelude.{◌≡◌, ◌<◌, ◌≤◌, ◌+◌, ◌-◌, ◌^◌, ℕ, List, [], ◌∷◌, ◌++◌, length, take, drop, OnOk, OnErr, slice_get};
 ghost use Rattle.std.specs.Option.{option_map};
+ghost use Rattle.vic_dict.specs.declared.limits.TheConstants.{MOST_ENTRIES};
 ghost use Rattle.vic_dict.specs.declared.op.Entry.{Entry as AnEntry};
 ghost use Rattle.vic_dict.specs.Lists.{front, newest};
 ghost use Rattle.vic_wire.specs.Hashes.{Group, chain, empty_root, hash};
@@ -37,12 +38,13 @@ pub struct Window {
 impl Model for Window {
     ghost use Rattle.std.specs.Prelude.{◌+◌, ◌≤◌, length};
     ghost use Rattle.vic_chain.specs.Held.{Held};
+    ghost use Rattle.vic_dict.specs.declared.limits.TheConstants.{MOST_ENTRIES};
 
     ghost Value = { Held };
 
     ghost view = { λ a. record { sealed = a.sealed; root = a.root.bytes; base = a.base; links = a.links.items } };
 
-    ghost invariant = { λ a. a.sealed + length a.links.items ≤ 1048576 };
+    ghost invariant = { λ a. a.sealed + length a.links.items ≤ MOST_ENTRIES };
 }
 
 // Drops the newest links; the cost is their number.
@@ -79,7 +81,7 @@ impl Window {
     /// The length of the path.
     pub fn length(&self) -> u32
         ensures value { result ≡ held_length self.now }
-        ensures limit { result ≤ 1048576 }
+        ensures limit { result ≤ MOST_ENTRIES }
         ensures shows { (g : Group) (p : List AnEntry) → ShowsPath g p self.now → result ≡ length p }
     {
         self.sealed + self.links.len() as u32
@@ -120,7 +122,7 @@ impl Window {
     /// Puts an entry onto the path.
     pub fn extend(&mut self, entry: &Entry) -> Result<(), NoMemory>
         requires spelled { IsEntry entry.now }
-        requires room { held_length self.old < 1048576 }
+        requires room { held_length self.old < MOST_ENTRIES }
         ensures ok { OnOk result (self.new ≡ held_with_entry self.old entry.now) }
         ensures err { OnErr result (self.new ≡ self.old) }
         ensures shows { (g : Group) (p : List AnEntry) → ShowsPath g p self.old → OnOk result (ShowsPath g (entry.now ∷ p) self.new) }

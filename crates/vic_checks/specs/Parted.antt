@@ -1,5 +1,6 @@
 -- The part that a message carries.
 use Rattle.std.specs.Prelude.{ℕ, ◌+◌, ◌≤◌, length, Option, Some, None}
+use Rattle.vic_dict.specs.declared.limits.TheConstants.{MOST_ENTRIES}
 use Rattle.vic_wire.specs.declared.message.ToClient.{ToClient}
 use Rattle.vic_wire.specs.declared.message.ToClient.TheVariants as say
 use Rattle.vic_wire.specs.Parts.{Part, IsPart, read_part}
@@ -44,5 +45,5 @@ IsAbove n m = Unit {0}
 
 -- there is a position above the seal of an Update
 abbrev pub IsLow : ToClient → Type 0
-IsLow (say.Update seal part) = seal.position ≤ 1048576
+IsLow (say.Update seal part) = seal.position ≤ MOST_ENTRIES
 IsLow m = Unit {0}

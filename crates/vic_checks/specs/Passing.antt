@@ -1,5 +1,6 @@
 -- What is known of an answer that passed the checks, by what the client keeps.
 use Rattle.std.specs.Prelude.{◌≡◌, ℕ, ◌+◌, ◌<◌, ◌≤◌, Bool, true, List, length, Option, IsTrue}
+use Rattle.vic_dict.specs.declared.limits.TheConstants.{MOST_ENTRIES}
 use Rattle.vic_wire.specs.declared.message.ToClient.{ToClient}
 use Rattle.vic_wire.specs.declared.message.ToClient.TheVariants as say
 use Rattle.vic_rules.specs.declared.state.Own.{Own}
@@ -35,9 +36,9 @@ RepliesTo a m = Unit {0}
 
 -- its kind is awaited, it has its part, and its lengths are within the limits, for a path of this length
 abbrev pub IsFormed : ℕ → Awaiting → Bool → ToClient → Type 0
-IsFormed n a is_part (say.Reply seal entries part) = (AwaitsReply a × IsTrue is_part) × ((seal.position < n + length entries) × (n + length entries ≤ 1048576))
+IsFormed n a is_part (say.Reply seal entries part) = (AwaitsReply a × IsTrue is_part) × ((seal.position < n + length entries) × (n + length entries ≤ MOST_ENTRIES))
 IsFormed n a is_part (say.Update seal part) = IsTrue is_part
-IsFormed n a is_part (say.Entries seal entries) = (seal.position ≤ n + length entries) × (n + length entries ≤ 1048576)
+IsFormed n a is_part (say.Entries seal entries) = (seal.position ≤ n + length entries) × (n + length entries ≤ MOST_ENTRIES)
 IsFormed n a is_part m = Unit {0}
 
 -- the part shows what is walked over: in a Reply by the open call, in an Update by the call that is sealed next

@@ -2,6 +2,7 @@
 
 ghost use Rattle.std.specs.Prelude.{◌≡◌, ◌+◌, ◌<◌, ◌≤◌, ℕ, Some, None, length, drop, nat_lt, if◌then◌else◌, is_some, option_copied, IfSome};
 ghost use Rattle.std.specs.FinMap as map;
+ghost use Rattle.vic_dict.specs.declared.limits.TheConstants.{MOST_ENTRIES};
 ghost use Rattle.vic_dict.specs.declared.op.Op.TheVariants as op;
 ghost use Rattle.vic_dict.specs.Dictionary.{Dictionary, Fits, IsKey};
 ghost use Rattle.vic_wire.specs.Parts.{IsPart, walked};
@@ -81,7 +82,7 @@ fn finds_one(state: &State, entries: &TaggedList, base: u32, part: &Pruned, op: 
     requires fits { Fits op.now }
     requires above { state.now.window.sealed ≤ base }
     requires below { base < held_length state.now.window + length entries.now }
-    requires room { held_length state.now.window + length entries.now ≤ 1048576 }
+    requires room { held_length state.now.window + length entries.now ≤ MOST_ENTRIES }
     ensures { (s : Standing) → StandsForState state.now s → result ≡ finds_reference (decision state.now.id s (below_last s entries.now) base (shown part.now) op.now) }
 {
     let Op::Get(key) = op else {

@@ -1,6 +1,7 @@
 //! The decision on a call.
 
 ghost use Rattle.std.specs.Prelude.{◌≡◌, ◌+◌, ◌-◌, ◌<◌, ◌≤◌, ℕ, List, Some, length, drop, nat_lt, if◌then◌else◌, IfOk, OnOk, IsTrue, true, false};
+ghost use Rattle.vic_dict.specs.declared.limits.TheConstants.{MOST_ENTRIES};
 ghost use Rattle.vic_dict.specs.declared.op.Entry.{Entry as AnEntry};
 ghost use Rattle.vic_dict.specs.Dictionary.{Dictionary, Fits, after, reply};
 ghost use Rattle.vic_dict.specs.Lists.{front, newest};
@@ -53,7 +54,7 @@ pub(crate) fn first_in_the_way(
 ) -> Option<u32>
     requires above { window.now.sealed ≤ base }
     requires below { base < held_length window.now + length entries.now }
-    requires room { held_length window.now + length entries.now ≤ 1048576 }
+    requires room { held_length window.now + length entries.now ≤ MOST_ENTRIES }
     ensures { (g : Group) (p : List AnEntry) → ShowsPath g p window.now → result ≡ in_the_way me op.now base (drop 1 (onto entries.now p)) }
 {
     let end = window.length() + entries.len() as u32;
@@ -155,7 +156,7 @@ pub fn decide(
     requires reached { reaches (shown part.now) op.now ≡ true }
     requires above { state.now.window.sealed ≤ base }
     requires below { base < held_length state.now.window + length entries.now }
-    requires room { held_length state.now.window + length entries.now ≤ 1048576 }
+    requires room { held_length state.now.window + length entries.now ≤ MOST_ENTRIES }
     ensures { (s : Standing) → StandsForState state.now s
         → IfOk result (λ o. o ≡ decision state.now.id s (below_last s entries.now) base (shown part.now) op.now) }
 {

@@ -1,11 +1,13 @@
 //! Which kinds of answers are awaited, and the limits on lengths.
 
 ghost use Rattle.std.specs.Prelude.{◌≡◌, ◌+◌, ◌-◌, ◌≤◌, ◌&&◌, length, nat_le, nat_lt, is_some, IsTrue};
+ghost use Rattle.vic_dict.specs.declared.limits.TheConstants.{MOST_ENTRIES, MOST_TOLD, MOST_UNSEALED};
 ghost use Rattle.vic_wire.specs.Messages.{HasSpelling};
 ghost use Rattle.vic_rules.specs.Client.{Standing, is_awaited as awaited, has_form as form};
 ghost use Rattle.vic_checks.specs.Parted.{part_of, IsWithin, path_length};
 ghost use Rattle.vic_checks.specs.Passing.{IsFormed, RepliesTo};
 
+use vic_dict::limits::{MOST_ENTRIES, MOST_UNSEALED};
 use vic_rules::Awaiting;
 use vic_wire::ToClient;
 
@@ -29,28 +31,28 @@ pub fn is_awaited(awaiting: &Awaiting, message: &ToClient) -> bool
 
 // A Reply's seal stands below the new length, and not far.
 pub(crate) fn reply_fits(length: u32, count: usize, position: u32) -> bool
-    requires room { length ≤ 1048576 }
-    requires few { count ≤ 8192 }
-    ensures { let n = length + count in result ≡ (nat_le n 1048576 && (nat_lt position n && nat_le (n - position) 1024)) }
+    requires room { length ≤ MOST_ENTRIES }
+    requires few { count ≤ MOST_TOLD }
+    ensures { let n = length + count in result ≡ (nat_le n MOST_ENTRIES && (nat_lt position n && nat_le (n - position) MOST_UNSEALED)) }
 {
     let n = length + count as u32;
-    n <= 1048576 && (position < n && n - position <= 1024)
+    n <= MOST_ENTRIES && (position < n && n - position <= MOST_UNSEALED)
 }
 
 // The seal of Entries stands at the new length or below it, and not far.
 fn entries_fit(length: u32, count: usize, position: u32) -> bool
-    requires room { length ≤ 1048576 }
-    requires few { count ≤ 8192 }
-    ensures { let n = length + count in result ≡ (nat_le n 1048576 && (nat_le position n && nat_le (n - position) 1024)) }
+    requires room { length ≤ MOST_ENTRIES }
+    requires few { count ≤ MOST_TOLD }
+    ensures { let n = length + count in result ≡ (nat_le n MOST_ENTRIES && (nat_le position n && nat_le (n - position) MOST_UNSEALED)) }
 {
     let n = length + count as u32;
-    n <= 1048576 && (position <= n && n - position <= 1024)
+    n <= MOST_ENTRIES && (position <= n && n - position <= MOST_UNSEALED)
 }
 
 // The seal of an Update stands at the length or below it.
 fn update_fits(length: u32, position: u32) -> bool
-    requires { length ≤ 1048576 }
-    ensures { result ≡ (nat_le length 1048576 && nat_le position length) }
+    requires { length ≤ MOST_ENTRIES }
+    ensures { result ≡ (nat_le length MOST_ENTRIES && nat_le position length) }
 {
     position <= length
 }
@@ -58,7 +60,7 @@ fn update_fits(length: u32, position: u32) -> bool
 /// Whether the answer has the form that is awaited, for a path of this length; `is_part` tells whether the bytes of its part
 /// spell one. It costs nothing that grows.
 pub fn has_form(length: u32, awaiting: &Awaiting, message: &ToClient, is_part: bool) -> bool
-    requires room { length ≤ 1048576 }
+    requires room { length ≤ MOST_ENTRIES }
     requires spelled { HasSpelling message.now }
     requires part { is_part ≡ is_some (part_of message.now) }
     ensures exact { (s : Standing) → path_length s ≡ length → s.awaiting ≡ awaiting.now → result ≡ form s message.now }

@@ -1,4 +1,4 @@
-ghost use Rattle.std.specs.Prelude.{◌≡◌, ◌<◌, [], IfOk, length};
+ghost use Rattle.std.specs.Prelude.{◌≤◌, ◌≡◌, ◌<◌, [], IfOk, length};
 ghost use Rattle.vic_dict.specs.Dictionary.{Fits};
 ghost use Rattle.vic_checks.specs.Passing.{AwaitsFit};
 
@@ -14,8 +14,8 @@ use vic_wire::{Digest32, Tagged, TaggedList, ToClient};
 
 fn put(alloc: Global, key: &[u8], value: &[u8]) -> Result<Op, NoMemory>
     requires some { 0 < length key.now }
-    requires short { length key.now < 256 }
-    requires small { length value.now < 65 }
+    requires short { length key.now ≤ 255 }
+    requires small { length value.now ≤ 64 }
     ensures { IfOk result (λ op. Fits op) }
 {
     Ok(Op::Put(Bytes::of(alloc, key)?, Bytes::of(alloc, value)?))
@@ -23,7 +23,7 @@ fn put(alloc: Global, key: &[u8], value: &[u8]) -> Result<Op, NoMemory>
 
 fn get(alloc: Global, key: &[u8]) -> Result<Op, NoMemory>
     requires some { 0 < length key.now }
-    requires short { length key.now < 256 }
+    requires short { length key.now ≤ 255 }
     ensures { IfOk result (λ op. Fits op) }
 {
     Ok(Op::Get(Bytes::of(alloc, key)?))

@@ -1,6 +1,7 @@
 //! Single words of a command line.
 
 ghost use Rattle.std.specs.Prelude.{◌≡◌, ◌<◌, ◌≤◌, IfSome};
+ghost use Rattle.vic_dict.specs.declared.limits.TheConstants.{MOST_CLIENTS};
 ghost use Rattle.vic_cli.specs.Arguments.{is_address as address_test, number_in as number_by, small_number as small_number_by, calls_number as calls_number_by, mode_of as mode_by};
 
 use vic_dict::Mode;
@@ -34,7 +35,7 @@ pub fn number_in(word: &[u8], most: u8) -> Option<u8>
 /// are served.
 pub fn small_number(word: &[u8]) -> Option<u8>
     ensures is { result ≡ small_number_by word.now }
-    ensures range { IfSome result (λ n. (0 < n) × (n ≤ 64)) }
+    ensures range { IfSome result (λ n. (0 < n) × (n ≤ MOST_CLIENTS)) }
 {
     number_in(word, 64)
 }

@@ -2,6 +2,7 @@
 
 ghost use Rattle.std.specs.Prelude.{◌≡◌, ◌<◌, ◌≤◌, ◌&&◌, ℕ, List, [], ◌∷◌, length, map, string_bytes, codes, IfOk, IfSome};
 ghost use Rattle.std.specs.Str.{bytes_eq};
+ghost use Rattle.vic_dict.specs.declared.limits.TheConstants.{LONGEST_GROUP_KEY, MOST_CLIENTS};
 ghost use Rattle.vic_cli.specs.Arguments.{is_address as address_test, mode_of as mode_by, number_in as number_by};
 ghost use Rattle.vic_cli.specs.ClientWords.{client_words, words_with_count, words_of_parts, key_in, IsClientOf};
 
@@ -22,7 +23,7 @@ fn is_right(name: &[u8], address: &[u8]) -> bool
 // The key that a word spells.
 fn key_of(alloc: Global, word: &str) -> Result<Option<GroupKey>, NoMemory>
     ensures key { IfOk result (λ k. k ≡ key_in word.now) }
-    ensures fits { IfOk result (λ k. IfSome k (λ key. (0 < length key) × (length key ≤ 64))) }
+    ensures fits { IfOk result (λ k. IfSome k (λ key. (0 < length key) × (length key ≤ LONGEST_GROUP_KEY))) }
 {
     match GroupKey::from_hex(alloc, word) {
         Ok(key) => {
@@ -44,7 +45,7 @@ fn member_of(
     mode: &[u8],
 ) -> Result<Option<Client>, NoMemory>
     requires some { 0 < count }
-    requires most { count ≤ 64 }
+    requires most { count ≤ MOST_CLIENTS }
     ensures { (address : List ℕ) → IfOk result (λ c. IsClientOf (words_of_parts address count (number_by count id.now) (key_in key.now) (mode_by mode.now)) c) }
 {
     let Some(me) = number_in(id, count) else {

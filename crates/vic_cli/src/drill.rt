@@ -1,6 +1,7 @@
 //! The command of a drill: it runs the drill that the words ask for, and prints its summary.
 
 ghost use Rattle.std.specs.Prelude.{◌≡◌, ◌<◌, ◌≤◌, IfSome, map, string_bytes};
+ghost use Rattle.vic_dict.specs.declared.limits.TheConstants.{MOST_CLIENTS};
 ghost use Rattle.vic_cli.specs.Output.{given_by, text_bytes};
 ghost use Rattle.vic_cli.specs.Command.{Plans, Ends, IsComplete};
 ghost use Rattle.vic_cli.specs.Drilling.{drill_words, drill_command, IsHonestFor};
@@ -24,7 +25,7 @@ pub struct DrillWords {
 // What the words ask for, where they are right.
 fn read_words(words: &[String]) -> Option<DrillWords>
     ensures is { result ≡ drill_words (map string_bytes words.now) }
-    ensures clients { IfSome result (λ a. (0 < a.clients) × (a.clients ≤ 64)) }
+    ensures clients { IfSome result (λ a. (0 < a.clients) × (a.clients ≤ MOST_CLIENTS)) }
     ensures calls { IfSome result (λ a. a.calls ≤ 100000) }
 {
     let [name, number, clients, calls] = words else {

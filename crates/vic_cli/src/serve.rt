@@ -1,6 +1,7 @@
 //! The command of a server: lines come, are served and go back, and what it prints tells of it.
 
 ghost use Rattle.std.specs.Prelude.{◌≡◌, ◌≢◌, ◌<◌, ◌≤◌, ◌++◌, None, IfOk, IfSome, IsSome, OnOk, map, string_bytes};
+ghost use Rattle.vic_dict.specs.declared.limits.TheConstants.{MOST_CLIENTS};
 ghost use Rattle.vic_cli.specs.Output.{given_by, text_bytes};
 ghost use Rattle.vic_cli.specs.Command.{Plans, Ends, IsComplete};
 ghost use Rattle.vic_text.specs.Statuses.{fixed_line};
@@ -37,7 +38,7 @@ struct Planned {
 // What the words ask for, where they are right.
 fn read_words(words: &[String]) -> Option<Asked>
     ensures is { result ≡ serve_words (map string_bytes words.now) }
-    ensures clients { IfSome result (λ a. (0 < a.clients) × (a.clients ≤ 64)) }
+    ensures clients { IfSome result (λ a. (0 < a.clients) × (a.clients ≤ MOST_CLIENTS)) }
     ensures connections { IfSome result (λ a. (0 < a.connections) × (a.connections ≤ 64)) }
 {
     let [name, address, count, kind, connections] = words else {

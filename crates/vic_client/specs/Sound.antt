@@ -1,6 +1,7 @@
 -- What holds of every client.
 use Rattle.std.specs.Prelude.{ℕ, ◌+◌, ◌<◌, ◌≤◌, ◌^◌, length, List}
 use Rattle.std.specs.List.{AllByRecursion}
+use Rattle.vic_dict.specs.declared.limits.TheConstants.{MOST_CLIENTS}
 use Rattle.vic_dict.specs.Dictionary.{IsKey}
 use Rattle.vic_rules.specs.declared.state.Own.{Own}
 use Rattle.vic_rules.specs.declared.state.Awaiting.{Awaiting}
@@ -15,7 +16,7 @@ OwnWithin most own = AllByRecursion (λ o. o.position ≤ most) own
 
 -- the client is one of its group, and what it keeps is within its path
 pub record IsSound (id count : ℕ) (window : Held) (own : List Own) (awaiting : Awaiting) : Type 0 where
-  pub member : (0 < id) × ((id ≤ count) × (count ≤ 64))
+  pub member : (0 < id) × ((id ≤ count) × (count ≤ MOST_CLIENTS))
   pub awaited : AwaitsFit awaiting
   pub within : OwnWithin (held_length window) own
   pub few : length own ≤ held_length window

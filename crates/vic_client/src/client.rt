@@ -1,6 +1,7 @@
 //! The client.
 
 ghost use Rattle.std.specs.Prelude.{◌≡◌, ◌<◌, ◌≤◌, ◌+◌, ◌^◌, ℕ, IsTrue, IsSome, IfSome, IfOk, OnOk, OnErr, Ok, Some, None, length};
+ghost use Rattle.vic_dict.specs.declared.limits.TheConstants.{MOST_CLIENTS};
 ghost use Rattle.vic_dict.specs.Dictionary.{Fits};
 ghost use Rattle.vic_chain.specs.Held.{held_length, held_sealed_at};
 ghost use Rattle.vic_rules.specs.Client.{Standing, at_start, move_to_call};
@@ -54,7 +55,7 @@ impl Client {
     pub fn new(alloc: Global, id: u8, count: u8, mode: Mode, key: GroupKey) -> Client
         requires some { 0 < id }
         requires member { id ≤ count }
-        requires few { count ≤ 64 }
+        requires few { count ≤ MOST_CLIENTS }
         ensures id { result.id ≡ id }
         ensures group { kept_group result ≡ record { mode = mode; count = count; key = key } }
         ensures stands { StandsFor result at_start }

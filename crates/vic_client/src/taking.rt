@@ -2,6 +2,7 @@
 
 ghost use Rattle.std.specs.Prelude.{◌≡◌, ℕ, ◌+◌, ◌≤◌, ◌<◌, ◌∷◌, [], ◌++◌, List, length, not, ◌&&◌, ◌||◌, true, Some, IfOk, IfSome, OnOk, OnErr};
 ghost use Rattle.std.specs.List.{AllByRecursion};
+ghost use Rattle.vic_dict.specs.declared.limits.TheConstants.{MOST_ENTRIES};
 ghost use Rattle.vic_dict.specs.Dictionary.{Fits};
 ghost use Rattle.vic_wire.specs.Hashes.{Group};
 ghost use Rattle.vic_wire.specs.Parts.{IsPart, reaches};
@@ -34,7 +35,7 @@ use vic_wire::{Digest32, Seal, Tagged, TaggedList};
 /// Puts the entries of an answer onto the path; where memory runs out, takes off again what it put there.
 pub(crate) fn extend_all(window: &mut Window, items: &[Tagged]) -> Result<(), NoMemory>
     requires spelled { AllByRecursion IsTagged items.now }
-    requires room { held_length window.old + length items.now ≤ 1048576 }
+    requires room { held_length window.old + length items.now ≤ MOST_ENTRIES }
     ensures length { OnOk result (held_length window.new ≡ held_length window.old + length items.now) }
     ensures ok { (g : Group) (s : Standing) → ShowsPath g s.path window.old → OnOk result (ShowsPath g (onto items.now s.path) window.new) }
     // What was put onto it can be taken off again.
@@ -135,7 +136,7 @@ pub(crate) fn take_reply(
     requires some { 0 < length entries.now }
     requires above { state.old.window.sealed ≤ seal.now.position }
     requires below { seal.now.position < held_length state.old.window + length entries.now }
-    requires room { held_length state.old.window + length entries.now ≤ 1048576 }
+    requires room { held_length state.old.window + length entries.now ≤ MOST_ENTRIES }
     ensures sound { IsSoundState state.new }
     ensures pending { (calls : ℕ) (p : APhase) → PhaseFits calls p → IfOk result (λ r. IsPendingIn state.old calls p r.effect state.new) }
     ensures fits { IfOk result (λ p. IfSome p.step.send FitsFrame) }
@@ -229,7 +230,7 @@ pub(crate) fn take_entries(
     requires spelled { AllByRecursion IsTagged entries.now }
     requires above { state.old.window.sealed ≤ seal.now.position }
     requires within { seal.now.position ≤ held_length state.old.window + length entries.now }
-    requires room { held_length state.old.window + length entries.now ≤ 1048576 }
+    requires room { held_length state.old.window + length entries.now ≤ MOST_ENTRIES }
     ensures sound { IsSoundState state.new }
     ensures pending { (calls : ℕ) (p : APhase) → PhaseFits calls p → IfOk result (λ r. IsPendingIn state.old calls p r.effect state.new) }
     ensures fits { IfOk result (λ p. IfSome p.step.send FitsFrame) }

@@ -2,6 +2,7 @@
 use Rattle.std.specs.Prelude.{◌≡◌, ℕ, ◌<◌, ◌≤◌, ◌⊎◌, List, [], ◌++◌, length, drop}
 use Rattle.std.specs.Int.{w32, to_be_bytes}
 use Rattle.std.specs.List.{concat}
+use Rattle.vic_dict.specs.declared.limits.TheConstants.{LONGEST_FRAME}
 use Rattle.vic_dict.specs.Lists.{AreBytes}
 use Rattle.vic_conn.specs.Frames.{Waits, Whole, Broken, front_of, frame_text, before, frames_within, frames_of, by_pieces}
 
@@ -29,7 +30,7 @@ pub record EndInside (bytes : List ℕ) : Type 0 where
   pub begun : List ℕ
   pub text : bytes ≡ to_be_bytes w32 size ++ begun
   pub some : 0 < size
-  pub most : size ≤ 16777216
+  pub most : size ≤ LONGEST_FRAME
   pub short : length begun < size
 
 -- what stands in front: a whole frame is its own bytes, a broken length is no payload's, and a stream waits in a length or in a payload,
@@ -37,12 +38,12 @@ pub record EndInside (bytes : List ℕ) : Type 0 where
 pub record FrontsAre : Type 0 where
   pub whole : (bytes p behind : List ℕ) → AreBytes bytes → front_of bytes ≡ Whole p behind → bytes ≡ frame_text p ++ behind
   pub some : (bytes p behind : List ℕ) → front_of bytes ≡ Whole p behind → 0 < length p
-  pub most : (bytes p behind : List ℕ) → front_of bytes ≡ Whole p behind → length p ≤ 16777216
+  pub most : (bytes p behind : List ℕ) → front_of bytes ≡ Whole p behind → length p ≤ LONGEST_FRAME
   pub broken : (bytes : List ℕ) (n : ℕ) → AreBytes bytes → front_of bytes ≡ Broken n → bytes ≡ to_be_bytes w32 n ++ drop 4 bytes
-  pub wrong : (bytes : List ℕ) (n : ℕ) → front_of bytes ≡ Broken n → (n ≡ 0) ⊎ (16777216 < n)
+  pub wrong : (bytes : List ℕ) (n : ℕ) → front_of bytes ≡ Broken n → (n ≡ 0) ⊎ (LONGEST_FRAME < n)
   pub waits : (bytes : List ℕ) → AreBytes bytes → front_of bytes ≡ Waits → (length bytes < 4) ⊎ EndInside bytes
   pub short : (bytes : List ℕ) → front_of bytes ≡ Waits → length bytes < 16777220
 
 -- a frame is read back, whatever stands behind it
 abbrev pub ReadsBack : Type 0
-ReadsBack = (p rest : List ℕ) → 0 < length p → length p ≤ 16777216 → front_of (frame_text p ++ rest) ≡ Whole p rest
+ReadsBack = (p rest : List ℕ) → 0 < length p → length p ≤ LONGEST_FRAME → front_of (frame_text p ++ rest) ≡ Whole p rest

@@ -1,6 +1,7 @@
 -- Frames in a stream of bytes: four bytes of length, the highest first, and a payload of that length.
 use Rattle.std.specs.Prelude.{◌≡◌, ℕ, zero, suc, ◌<◌, Bool, ◌&&◌, List, [], ◌∷◌, ◌++◌, length, Ok, Err, nat_lt, nat_le, if◌then◌else◌}
 use Rattle.std.specs.Int.{w32, to_be_bytes}
+use Rattle.vic_dict.specs.declared.limits.TheConstants.{LONGEST_FRAME}
 use Rattle.vic_conn.specs.declared.fault.FrameFault.{FrameFault}
 use Rattle.vic_conn.specs.declared.fault.FrameFault.TheVariants as fault
 use Rattle.vic_wire.specs.Reading.{Read, number_at, bytes_at}
@@ -19,7 +20,7 @@ IsBroken fault.NoMemory goes = ⊥
 
 -- a payload has 1 to 16,777,216 bytes
 abbrev pub is_length : ℕ → Bool
-is_length n = nat_lt 0 n && nat_le n 16777216
+is_length n = nat_lt 0 n && nat_le n LONGEST_FRAME
 
 -- how it goes on behind a length, from the bytes read as the payload
 abbrev pub on_payload : Read (List ℕ) → Goes

@@ -6,11 +6,9 @@ ghost use Rattle.vic_conn.specs.Frames.{Waits, Whole, Broken, IsBroken, front_of
 use crate::fault::FrameFault;
 use std::alloc::Global;
 use std::marker::Model;
+use vic_dict::limits::LONGEST_FRAME;
 use vic_dict::{Bytes, NoMemory};
 use vic_fields::Cut;
-
-/// The longest payload, in bytes.
-const LONGEST: u32 = 16_777_216;
 
 /// The bytes of a frame in front of its payload.
 const LENGTH_BYTES: usize = 4;
@@ -101,7 +99,7 @@ fn next_payload(bytes: &[u8]) -> Result<Option<&[u8]>, FrameFault>
     if size == 0 {
         return Err(FrameFault::Zero);
     }
-    if LONGEST < size {
+    if LONGEST_FRAME < size {
         return Err(FrameFault::TooLong(size));
     }
     match cut.take_bytes(size as usize) {

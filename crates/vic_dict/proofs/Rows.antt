@@ -177,17 +177,17 @@ spot_other k (e ∷ es) d =
 
 -- ---- limits
 
-pub fit_at : (es : List Row) (i : ℕ) (d : Row) → AreFit es → i < length es → IsKey (get_or es i d).0 × (length (get_or es i d).1 < 65)
+pub fit_at : (es : List Row) (i : ℕ) (d : Row) → AreFit es → i < length es → IsKey (get_or es i d).0 × (length (get_or es i d).1 ≤ 64)
 fit_at [] i d f h = absurd (omega arith)
 fit_at (e ∷ es) zero d f h = f.0
 fit_at (e ∷ es) (suc i) d f h = fit_at es i d f.1 (omega arith)
 
-fit_set : (es : List Row) (i : ℕ) (x : Row) → AreFit es → IsKey x.0 → length x.1 < 65 → AreFit (set es i x)
+fit_set : (es : List Row) (i : ℕ) (x : Row) → AreFit es → IsKey x.0 → length x.1 ≤ 64 → AreFit (set es i x)
 fit_set [] i x f a b = f
 fit_set (e ∷ es) zero x f a b = ((a, b), f.1)
 fit_set (e ∷ es) (suc i) x f a b = (f.0, fit_set es i x f.1 a b)
 
-pub fit_insert : (es : List Row) (i : ℕ) (x : Row) → AreFit es → IsKey x.0 → length x.1 < 65 → AreFit (insert es i x)
+pub fit_insert : (es : List Row) (i : ℕ) (x : Row) → AreFit es → IsKey x.0 → length x.1 ≤ 64 → AreFit (insert es i x)
 fit_insert es zero x f a b = ((a, b), f)
 fit_insert [] (suc i) x f a b = ((a, b), tt)
 fit_insert (e ∷ es) (suc i) x f a b = (f.0, fit_insert es i x f.1 a b)
@@ -220,14 +220,14 @@ fit_remove (e ∷ es) (suc i) f = (f.0, fit_remove es i f.1)
 
 -- ---- tables, and the dictionaries that they stand for
 
-set_table : (k v : List ℕ) (es : List Row) (i : ℕ) → IsTable es → IsAt k es i → length v < 65 → AreBytes k → AreBytes v → IsTable (set es i (k, v))
+set_table : (k v : List ℕ) (es : List Row) (i : ℕ) → IsTable es → IsAt k es i → length v ≤ 64 → AreBytes k → AreBytes v → IsTable (set es i (k, v))
 set_table k v es i t h b kb vb = record {
   rising = subst (λ l. is_sorted bytes_cmp l ≡ true) (h.puts v) (holds _ (is_sorted-put bytes_cmp nat_list_cmp_total k v es (passes _ t.rising)));
   fit = fit_set es i (k, v) t.fit (subst IsKey (h.key (k, v)) (fit_at es i (k, v) t.fit h.within).0) b;
   bytes = bytes_set es i (k, v) t.bytes kb vb;
 }
 
-insert_table : (k v : List ℕ) (es : List Row) (i : ℕ) → IsTable es → IsGap k es i → IsKey k → length v < 65 → AreBytes k → AreBytes v → IsTable (insert es i (k, v))
+insert_table : (k v : List ℕ) (es : List Row) (i : ℕ) → IsTable es → IsGap k es i → IsKey k → length v ≤ 64 → AreBytes k → AreBytes v → IsTable (insert es i (k, v))
 insert_table k v es i t h a b kb vb = record {
   rising = subst (λ l. is_sorted bytes_cmp l ≡ true) (h.puts v) (holds _ (is_sorted-put bytes_cmp nat_list_cmp_total k v es (passes _ t.rising)));
   fit = fit_insert es i (k, v) t.fit a b;
@@ -306,12 +306,12 @@ spot_within k es i t e = (at_spot k es i t e).within
 pub gap_within : (k : List ℕ) (es : List Row) (i : ℕ) → IsTable es → spot k es ≡ Err i → i ≤ length es
 gap_within k es i t e = (gap_spot k es i t e).within
 
-pub stores_over : (k v : List ℕ) (es : List Row) (i : ℕ) → IsTable es → spot k es ≡ Ok i → length v < 65 → AreBytes k → AreBytes v → Stores k v es (set es i (k, v))
+pub stores_over : (k v : List ℕ) (es : List Row) (i : ℕ) → IsTable es → spot k es ≡ Ok i → length v ≤ 64 → AreBytes k → AreBytes v → Stores k v es (set es i (k, v))
 stores_over k v es i t e b kb vb =
     let h = at_spot k es i t e in
     record { table = set_table k v es i t h b kb vb; is = ap map.from_sorted (sym (h.puts v)) ∙ put_is_insert k v es t }
 
-pub stores_new : (k v : List ℕ) (es : List Row) (i : ℕ) → IsTable es → spot k es ≡ Err i → IsKey k → length v < 65 → AreBytes k → AreBytes v → Stores k v es (insert es i (k, v))
+pub stores_new : (k v : List ℕ) (es : List Row) (i : ℕ) → IsTable es → spot k es ≡ Err i → IsKey k → length v ≤ 64 → AreBytes k → AreBytes v → Stores k v es (insert es i (k, v))
 stores_new k v es i t e a b kb vb =
     let h = gap_spot k es i t e in
     record { table = insert_table k v es i t h a b kb vb; is = ap map.from_sorted (sym (h.puts v)) ∙ put_is_insert k v es t }
@@ -376,14 +376,14 @@ past_puts k v (e ∷ es) h =
     let above : bytes_cmp k e.0 ≡ Greater = nat_list_cmp_total.antisymm k e.0 ∙ ap ordering_reverse (is_less _ parts.0) in
     ap (λ o. by_order o ((k, v) ∷ e ∷ es) ((e.0, v) ∷ es) (e ∷ put bytes_cmp k v es)) above ∙ ap (λ l. e ∷ l) (past_puts k v es parts.1)
 
-fit_push : (es : List Row) (x : Row) → AreFit es → IsKey x.0 → length x.1 < 65 → AreFit (es ++ x ∷ [])
+fit_push : (es : List Row) (x : Row) → AreFit es → IsKey x.0 → length x.1 ≤ 64 → AreFit (es ++ x ∷ [])
 fit_push [] x f a b = ((a, b), tt)
 fit_push (e ∷ es) x f a b = (f.0, fit_push es x f.1 a b)
 
 pub past_seen : {m : Dictionary} (k : List ℕ) (es : List Row) → map.from_sorted es ≡ m → IsTable es → is_past k (map.entries m) ≡ true → is_past k es ≡ true
 past_seen k es e t h = subst (λ l. is_past k l ≡ true) (rows_seen es e t) h
 
-pub stores_last : (k v : List ℕ) (es : List Row) → IsTable es → is_past k es ≡ true → IsKey k → length v < 65 → AreBytes k → AreBytes v → Stores k v es (es ++ (k, v) ∷ [])
+pub stores_last : (k v : List ℕ) (es : List Row) → IsTable es → is_past k es ≡ true → IsKey k → length v ≤ 64 → AreBytes k → AreBytes v → Stores k v es (es ++ (k, v) ∷ [])
 stores_last k v es t h a b kb vb = record {
   table = record {
     rising = subst (λ l. is_sorted bytes_cmp l ≡ true) (past_puts k v es h) (holds _ (is_sorted-put bytes_cmp nat_list_cmp_total k v es (passes _ t.rising)));

@@ -1,11 +1,12 @@
 -- Dictionaries, and what an operation answers and leaves.
-use Rattle.std.specs.Prelude.{◌≡◌, ℕ, ◌<◌, List, length, filter, Option, Some, None, nat_eq}
+use Rattle.std.specs.Prelude.{◌≤◌, ◌≡◌, ℕ, ◌<◌, List, length, filter, Option, Some, None, nat_eq}
 use Rattle.std.specs.Ordering.{nat_cmp}
 use Rattle.std.specs.Cmp.Lexicographic.{slice_cmp}
 use Rattle.std.specs.List.{starts_with}
 use Rattle.std.specs.FinMap.{FinMap}
 use Rattle.std.specs.FinMap as map
 use Rattle.std.specs.Coded.{Coded, coded_list, coded_ℕ}
+use Rattle.vic_dict.specs.declared.limits.TheConstants.{LONGEST_KEY, LONGEST_VALUE}
 use Rattle.vic_dict.specs.Lists.{AreBytes}
 use Rattle.vic_dict.specs.declared.op.Op.{Op}
 use Rattle.vic_dict.specs.declared.op.Op.TheVariants as op
@@ -22,14 +23,14 @@ nothing = map.empty
 
 -- the length of a key
 abbrev pub IsKey : List ℕ → Type 0
-IsKey k = (0 < length k) × (length k < 256)
+IsKey k = (0 < length k) × (length k ≤ LONGEST_KEY)
 
 -- the lengths of an operation's texts are within the limits
 abbrev pub Fits : Op → Type 0
-Fits (op.Put k v) = IsKey k × (length v < 65)
+Fits (op.Put k v) = IsKey k × (length v ≤ LONGEST_VALUE)
 Fits (op.Get k) = IsKey k
 Fits (op.Del k) = IsKey k
-Fits (op.List p) = length p < 256
+Fits (op.List p) = length p ≤ LONGEST_KEY
 
 -- the numbers of an operation's texts are bytes
 abbrev pub AreBytesIn : Op → Type 0
@@ -44,7 +45,7 @@ HasByteKeys d = (k v : List ℕ) → map.get d k ≡ Some v → IsKey k × AreBy
 
 -- each key is 1 to 255 bytes, and each value at most 64
 abbrev pub IsProper : Dictionary → Type 0
-IsProper d = (k v : List ℕ) → map.get d k ≡ Some v → (IsKey k × AreBytes k) × ((length v < 65) × AreBytes v)
+IsProper d = (k v : List ℕ) → map.get d k ≡ Some v → (IsKey k × AreBytes k) × ((length v ≤ LONGEST_VALUE) × AreBytes v)
 
 -- what a look-up answers, and what a removal does
 abbrev pub answer_of_get : Option (List ℕ) → Answer

@@ -1,10 +1,11 @@
 -- The rows of a dictionary in memory: pairs of a key and a value, their keys rising.
-use Rattle.std.specs.Prelude.{ℕ, suc, ◌<◌, Bool, true, ◌&&◌, List, [], ◌∷◌, length, IsTrue, Result, Ok, Err}
+use Rattle.std.specs.Prelude.{◌≤◌, ℕ, suc, ◌<◌, Bool, true, ◌&&◌, List, [], ◌∷◌, length, IsTrue, Result, Ok, Err}
 use Rattle.std.specs.Ordering.{nat_cmp, is_lt}
 use Rattle.std.specs.declared.cmp.Ordering.{Ordering}
 use Rattle.std.specs.Cmp.Lexicographic.{slice_cmp}
 use Rattle.std.specs.FinMap.{is_sorted}
 use Rattle.std.specs.FinMap.Entries.{by_order}
+use Rattle.vic_dict.specs.declared.limits.TheConstants.{LONGEST_VALUE}
 use Rattle.vic_dict.specs.Lists.{AreBytes}
 use Rattle.vic_dict.specs.Dictionary.{IsKey}
 
@@ -18,7 +19,7 @@ bytes_cmp = slice_cmp nat_cmp
 -- each key and each value is within the limits
 abbrev pub AreFit : List Row → Type 0
 AreFit [] = Unit {0}
-AreFit (e ∷ es) = (IsKey e.0 × (length e.1 < 65)) × AreFit es
+AreFit (e ∷ es) = (IsKey e.0 × (length e.1 ≤ LONGEST_VALUE)) × AreFit es
 
 -- the numbers of each key and each value are bytes
 abbrev pub AreByteRows : List Row → Type 0

@@ -4,6 +4,7 @@ ghost use Rattle.std.specs.Prelude.{◌≡◌, ◌↔◌, IsTrue, IfOk};
 ghost use Rattle.vic_dict.specs.Dictionary.{IsKey, Fits, AreBytesIn};
 
 use crate::bytes::{Bytes, Names, NoMemory};
+use crate::limits::{LONGEST_KEY, LONGEST_VALUE};
 use std::alloc::Global;
 
 /// What a client asks of the dictionary. A key has 1 to 255 bytes, a value 0 to 64, a prefix 0 to 255.
@@ -60,7 +61,7 @@ pub enum Mode {
 fn is_key(text: &Bytes) -> bool
     ensures { IsTrue result ↔ IsKey text.now }
 {
-    0 < text.len() && text.len() < 256
+    0 < text.len() && text.len() <= LONGEST_KEY
 }
 
 impl Op {
@@ -69,10 +70,10 @@ impl Op {
         ensures { IsTrue result ↔ Fits self.now }
     {
         match self {
-            Op::Put(key, value) => is_key(key) && value.len() < 65,
+            Op::Put(key, value) => is_key(key) && value.len() <= LONGEST_VALUE,
             Op::Get(key) => is_key(key),
             Op::Del(key) => is_key(key),
-            Op::List(prefix) => prefix.len() < 256,
+            Op::List(prefix) => prefix.len() <= LONGEST_KEY,
         }
     }
 

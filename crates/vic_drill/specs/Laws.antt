@@ -1,5 +1,6 @@
 -- What holds of every drill.
 use Rattle.std.specs.Prelude.{◌≡◌, ℕ, ◌<◌, ◌≤◌, length}
+use Rattle.vic_dict.specs.declared.limits.TheConstants.{MOST_CLIENTS}
 use Rattle.vic_order.specs.Order.{Server}
 use Rattle.vic_order.specs.Scenes.{standing_in}
 use Rattle.vic_order.specs.Honest.{IsHonestRun}
@@ -23,4 +24,4 @@ pub record IsHonestDrill (d : DrillState) : Type 0 where
   pub holds : IsHonestScene d.scene d.events server
 
 abbrev pub DrillsAreHonest : Type 0
-DrillsAreHonest = (number clients calls : ℕ) → 0 < clients → clients ≤ 64 → calls ≤ 100000 → IsHonestDrill (drill_of number clients calls)
+DrillsAreHonest = (number clients calls : ℕ) → 0 < clients → clients ≤ MOST_CLIENTS → calls ≤ 100000 → IsHonestDrill (drill_of number clients calls)

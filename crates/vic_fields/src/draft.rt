@@ -55,7 +55,7 @@ impl Draft {
 
     /// Puts a text last, behind its length.
     pub(crate) fn add_short(&mut self, text: &[u8])
-        requires short { length text.now < 256 }
+        requires short { length text.now ≤ 255 }
         requires room { length self.old + 1 + length text.now ≤ 327 }
         ensures { self.new ≡ self.old ++ short_text text.now }
     {

@@ -7,6 +7,7 @@ ghost use Rattle.vic_fields.specs.Giving.{Gives};
 
 use crate::cut::CutFault;
 use std::alloc::Global;
+use vic_dict::limits::{LONGEST_KEY, LONGEST_VALUE, MOST_CLIENTS};
 use vic_dict::{Bytes, Entry, Op};
 use vic_wire::Digest32;
 
@@ -81,8 +82,8 @@ fn short_of(least: u8, most: u8, bytes: &[u8]) -> Result<(&[u8], &[u8]), CutFaul
 fn put_of(alloc: Global, bytes: &[u8]) -> Result<(Op, &[u8]), CutFault>
     ensures { Gives (λ x. (x.0, x.1.now)) result (put_at bytes.now) }
 {
-    let (key, rest) = short_of(1, 255, bytes)?;
-    let (value, rest) = short_of(0, 64, rest)?;
+    let (key, rest) = short_of(1, LONGEST_KEY as u8, bytes)?;
+    let (value, rest) = short_of(0, LONGEST_VALUE as u8, rest)?;
     let key = Bytes::of(alloc, key)?;
     let value = Bytes::of(alloc, value)?;
     Ok((Op::Put(key, value), rest))
@@ -92,7 +93,7 @@ fn put_of(alloc: Global, bytes: &[u8]) -> Result<(Op, &[u8]), CutFault>
 fn get_of(alloc: Global, bytes: &[u8]) -> Result<(Op, &[u8]), CutFault>
     ensures { Gives (λ x. (x.0, x.1.now)) result (get_at bytes.now) }
 {
-    let (key, rest) = short_of(1, 255, bytes)?;
+    let (key, rest) = short_of(1, LONGEST_KEY as u8, bytes)?;
     Ok((Op::Get(Bytes::of(alloc, key)?), rest))
 }
 
@@ -100,7 +101,7 @@ fn get_of(alloc: Global, bytes: &[u8]) -> Result<(Op, &[u8]), CutFault>
 fn del_of(alloc: Global, bytes: &[u8]) -> Result<(Op, &[u8]), CutFault>
     ensures { Gives (λ x. (x.0, x.1.now)) result (del_at bytes.now) }
 {
-    let (key, rest) = short_of(1, 255, bytes)?;
+    let (key, rest) = short_of(1, LONGEST_KEY as u8, bytes)?;
     Ok((Op::Del(Bytes::of(alloc, key)?), rest))
 }
 
@@ -108,7 +109,7 @@ fn del_of(alloc: Global, bytes: &[u8]) -> Result<(Op, &[u8]), CutFault>
 fn list_of(alloc: Global, bytes: &[u8]) -> Result<(Op, &[u8]), CutFault>
     ensures { Gives (λ x. (x.0, x.1.now)) result (list_at bytes.now) }
 {
-    let (prefix, rest) = short_of(0, 255, bytes)?;
+    let (prefix, rest) = short_of(0, LONGEST_KEY as u8, bytes)?;
     Ok((Op::List(Bytes::of(alloc, prefix)?), rest))
 }
 
@@ -138,7 +139,7 @@ pub(crate) fn entry_of(alloc: Global, bytes: &[u8]) -> Result<(Entry, &[u8]), Cu
     ensures { Gives (λ x. (x.0, x.1.now)) result (entry_at bytes.now) }
 {
     let (client, rest) = u8_of(bytes)?;
-    if !(0 < client && client <= 64) {
+    if !(0 < client && client <= MOST_CLIENTS) {
         return Err(CutFault::Value);
     }
     let (seq, rest) = u32_of(rest)?;

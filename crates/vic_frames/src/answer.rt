@@ -1,6 +1,7 @@
 //! What the server answers.
 
 ghost use Rattle.std.specs.Prelude.{◌≡◌, ◌++◌, length, nat_le, Some, IfSome, OnOk, IfOk};
+ghost use Rattle.vic_dict.specs.declared.limits.TheConstants.{LONGEST_CONTENT};
 ghost use Rattle.vic_wire.specs.declared.message.ToClient.{ToClient as AnAnswer};
 ghost use Rattle.vic_wire.specs.declared.message.ToClient.TheVariants as say;
 ghost use Rattle.vic_wire.specs.Messages.{HasSpelling, answer_text};
@@ -8,10 +9,9 @@ ghost use Rattle.vic_wire.specs.Reading.{if_allowed, update_at, answer_of_kind, 
 ghost use Rattle.vic_fields.specs.Giving.{Gives};
 ghost use Rattle.vic_frames.specs.Kinds.{answer_at, reply_at, listed_at, refused_at};
 
-use crate::fields::{
-    CONTENT_LIMIT, found_or_none, put_entries, put_seal, take_entries, take_seal, whole,
-};
+use crate::fields::{found_or_none, put_entries, put_seal, take_entries, take_seal, whole};
 use std::alloc::Global;
+use vic_dict::limits::{LONGEST_CONTENT, MOST_TOLD};
 use vic_dict::{Bytes, NoMemory};
 use vic_fields::{Cut, CutFault, put_bytes, put_u8};
 use vic_wire::ToClient;
@@ -23,7 +23,7 @@ fn reply_from(alloc: Global, fields: &[u8]) -> Result<ToClient, CutFault>
 {
     let mut cut = Cut::new(fields);
     let seal = take_seal(&mut cut)?;
-    let entries = take_entries(alloc, 1, 8192, &mut cut)?;
+    let entries = take_entries(alloc, 1, MOST_TOLD as u16, &mut cut)?;
     let part = Bytes::of(alloc, cut.rest())?;
     Ok(ToClient::Reply {
         seal,
@@ -47,7 +47,7 @@ fn entries_from(alloc: Global, fields: &[u8]) -> Result<ToClient, CutFault>
 {
     let mut cut = Cut::new(fields);
     let seal = take_seal(&mut cut)?;
-    let entries = take_entries(alloc, 0, 8192, &mut cut)?;
+    let entries = take_entries(alloc, 0, MOST_TOLD as u16, &mut cut)?;
     whole(ToClient::Entries { seal, entries }, cut.rest())
 }
 
@@ -63,9 +63,9 @@ fn refused_from(fields: &[u8]) -> Result<ToClient, CutFault>
 }
 
 fn content_from(alloc: Global, fields: &[u8]) -> Result<ToClient, CutFault>
-    ensures { Gives (λ m. m) result (if_allowed (nat_le (length fields.now) 8388608) (say.Content fields.now)) }
+    ensures { Gives (λ m. m) result (if_allowed (nat_le (length fields.now) LONGEST_CONTENT) (say.Content fields.now)) }
 {
-    if !(fields.len() <= CONTENT_LIMIT) {
+    if !(fields.len() <= LONGEST_CONTENT) {
         return Err(CutFault::Value);
     }
     Ok(ToClient::Content(Bytes::of(alloc, fields)?))

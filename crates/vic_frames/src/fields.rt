@@ -2,18 +2,17 @@
 
 ghost use Rattle.std.specs.Prelude.{◌≡◌, ◌+◌, ◌<◌, ◌≤◌, [], ◌++◌, length, Result, OnOk, IfOk};
 ghost use Rattle.std.specs.List.{flat_map, AllByRecursion};
+ghost use Rattle.vic_dict.specs.declared.limits.TheConstants.{MOST_TOLD};
 ghost use Rattle.vic_dict.specs.Dictionary.{Fits};
 ghost use Rattle.vic_wire.specs.Messages.{IsTagged, seal_field, tagged_field, entries_field};
 ghost use Rattle.vic_wire.specs.Reading.{FieldFault, if_ended, some_read, seal_after, seal_at, tagged_at, tagged_list_at, entries_at};
 ghost use Rattle.vic_fields.specs.Giving.{Gives};
 
 use std::alloc::Global;
+use vic_dict::limits::LONGEST_CONTENT;
 use vic_dict::{Bytes, NoMemory};
 use vic_fields::{Cut, CutFault, put_digest, put_entry, put_u16, put_u32};
 use vic_wire::{Digest32, Seal, Tagged, TaggedList};
-
-/// The longest content that is kept.
-pub(crate) const CONTENT_LIMIT: usize = 8_388_608;
 
 /// The value, where nothing follows it.
 pub(crate) fn whole<T: Drop>(value: T, rest: &[u8]) -> Result<T, CutFault>
@@ -128,7 +127,7 @@ fn put_tagged(out: &mut Bytes, item: &Tagged) -> Result<(), NoMemory>
 }
 
 pub(crate) fn put_entries(out: &mut Bytes, items: &[Tagged]) -> Result<(), NoMemory>
-    requires count { length items.now ≤ 8192 }
+    requires count { length items.now ≤ MOST_TOLD }
     requires each { AllByRecursion IsTagged items.now }
     ensures { OnOk result (out.new ≡ out.old ++ entries_field items.now) }
 {

@@ -2,6 +2,7 @@
 
 ghost use Rattle.std.specs.Prelude.{◌≡◌, [], ◌∷◌, ◌++◌, length, nat_le, Some, IfSome, OnOk, IfOk};
 ghost use Rattle.std.specs.Int.{w32, to_be_bytes};
+ghost use Rattle.vic_dict.specs.declared.limits.TheConstants.{LONGEST_CONTENT};
 ghost use Rattle.vic_dict.specs.Dictionary.{Fits};
 ghost use Rattle.vic_wire.specs.declared.message.ToServer.{ToServer as ARequest};
 ghost use Rattle.vic_wire.specs.declared.message.ToServer.TheVariants as ask;
@@ -11,8 +12,9 @@ ghost use Rattle.vic_wire.specs.Reading.{if_allowed, mode_of, hello_at, invoke_a
 ghost use Rattle.vic_fields.specs.Giving.{Gives};
 ghost use Rattle.vic_frames.specs.Kinds.{request_at};
 
-use crate::fields::{CONTENT_LIMIT, found_or_none, whole};
+use crate::fields::{found_or_none, whole};
 use std::alloc::Global;
+use vic_dict::limits::LONGEST_CONTENT;
 use vic_dict::{Bytes, Mode, NoMemory, Op};
 use vic_fields::{Cut, CutFault, put_bytes, put_digest, put_op, put_u8, put_u32};
 use vic_wire::{Digest32, ToServer};
@@ -123,9 +125,9 @@ fn sync_from(fields: &[u8]) -> Result<ToServer, CutFault>
 }
 
 fn keep_from(alloc: Global, fields: &[u8]) -> Result<ToServer, CutFault>
-    ensures { Gives (λ m. m) result (if_allowed (nat_le (length fields.now) 8388608) (ask.Keep fields.now)) }
+    ensures { Gives (λ m. m) result (if_allowed (nat_le (length fields.now) LONGEST_CONTENT) (ask.Keep fields.now)) }
 {
-    if !(fields.len() <= CONTENT_LIMIT) {
+    if !(fields.len() <= LONGEST_CONTENT) {
         return Err(CutFault::Value);
     }
     Ok(ToServer::Keep(Bytes::of(alloc, fields)?))

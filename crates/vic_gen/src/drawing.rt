@@ -2,6 +2,7 @@
 
 ghost use Rattle.std.specs.Prelude.{◌≡◌, ◌<◌, ◌≤◌, ◌+◌, ◌/◌, ◌%◌, ◌∷◌, length, IfOk, OnOk, OnErr};
 ghost use Rattle.std.specs.Fmt.{decimal};
+ghost use Rattle.vic_dict.specs.declared.limits.TheConstants.{LONGEST_VALUE, MOST_CLIENTS};
 ghost use Rattle.vic_dict.specs.Dictionary.{Fits};
 ghost use Rattle.vic_gen.specs.Drawing.{drawing_from, next_of, number_drawn, next_drawing, client_drawn, key_drawn, prefix_drawn, op_drawn, act_of, drawing_after_act, FitsAct};
 
@@ -23,12 +24,13 @@ pub struct Gen {
 impl Model for Gen {
     ghost use Rattle.std.specs.Prelude.{◌<◌, ◌≤◌, vec_len};
     ghost use Rattle.vic_gen.specs.Drawing.{Drawing};
+    ghost use Rattle.vic_dict.specs.declared.limits.TheConstants.{MOST_CLIENTS};
 
     ghost Value = { Drawing };
 
     ghost view = { λ a. record { x = a.x; acts = a.acts.items } };
 
-    ghost invariant = { λ a. (0 < vec_len a.acts) × (vec_len a.acts ≤ 64) };
+    ghost invariant = { λ a. (0 < vec_len a.acts) × (vec_len a.acts ≤ MOST_CLIENTS) };
 }
 
 /// The number behind a number.
@@ -82,7 +84,7 @@ fn prefix(alloc: Global, x: u32) -> Result<Bytes, NoMemory>
 /// The value that a call of this number puts.
 fn value(alloc: Global, call: u32) -> Result<Bytes, NoMemory>
     ensures value { IfOk result (λ made. made ≡ 118 ∷ decimal call) }
-    ensures short { IfOk result (λ made. length made < 65) }
+    ensures short { IfOk result (λ made. length made ≤ LONGEST_VALUE) }
 {
     let text = call.to_string(alloc)?;
     let mut made = Bytes::of(alloc, b"v")?;
@@ -107,7 +109,7 @@ impl Gen {
     /// A generator from a number, for so many clients.
     pub fn new(alloc: Global, number: u32, clients: u8) -> Result<Gen, NoMemory>
         requires some { 0 < clients }
-        requires few { clients ≤ 64 }
+        requires few { clients ≤ MOST_CLIENTS }
         ensures { IfOk result (λ made. made ≡ drawing_from number clients) }
     {
         Ok(Gen {
@@ -122,7 +124,7 @@ impl Gen {
         ensures moved { self.new ≡ next_drawing self.old }
         ensures some { 0 < result }
         ensures known { result ≤ length self.old.acts }
-        ensures few { length self.old.acts ≤ 64 }
+        ensures few { length self.old.acts ≤ MOST_CLIENTS }
     {
         let clients = self.acts.len() as u32;
         let place = draw(self.x, clients);

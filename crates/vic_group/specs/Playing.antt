@@ -1,5 +1,6 @@
 -- What trying a line makes of a world, and what is then printed.
 use Rattle.std.specs.Prelude.{◌≡◌, ℕ, ◌+◌, ◌<◌, ◌≤◌, Bool, true, false, List, [], ◌++◌, map, Option, Some, None, nat_lt, if◌then◌else◌}
+use Rattle.vic_dict.specs.declared.limits.TheConstants.{MOST_CLIENTS}
 use Rattle.vic_attacks.specs.Hostile.{Hostile}
 use Rattle.vic_view.specs.declared.transcript.Transcript.{Transcript}
 use Rattle.vic_view.specs.Transcripts.{transcript_history, transcript_group}
@@ -53,7 +54,7 @@ progress_by (Some h) = Heads (header_by h)
 -- its group has 1 to 64 clients
 abbrev pub HasFew : Option Header → Type 0
 HasFew None = Unit {0}
-HasFew (Some h) = (0 < h.count) × (h.count ≤ 64)
+HasFew (Some h) = (0 < h.count) × (h.count ≤ MOST_CLIENTS)
 
 -- what a line came to before the first event: tried in its place it leads on there, or is bad; or it is the same in the scene that the
 -- header opens

@@ -1,6 +1,7 @@
 -- The scene that a world shows, and what its parts do.
 use Rattle.std.specs.Prelude.{◌≡◌, ℕ, ◌+◌, ◌<◌, ◌≤◌, ◌^◌, ◌⊎◌, Bool, true, false, List, [], ◌∷◌, ◌++◌, map, length, Option, Some, None, Result, Ok, Err, option_map, is_some, slice_get, ◌-◌}
 use Rattle.std.specs.List.{AllByRecursion}
+use Rattle.vic_dict.specs.declared.limits.TheConstants.{MOST_CLIENTS}
 use Rattle.vic_dict.specs.declared.bytes.NoMemory.{NoMemory}
 use Rattle.vic_dict.specs.Dictionary.{Fits, AreBytesIn}
 use Rattle.vic_dict.specs.declared.op.Mode.{Mode}
@@ -46,7 +47,7 @@ states state v = Some (state v.first) ∷ option_map state v.second ∷ option_m
 -- leaves it, and is served by a server that exists
 pub record ShowsParts {V : Type 0} (t : Transcript) (ms : List Member) (vs : List (Option V)) (s : SceneOf V) : Type 0 where
   pub count : length ms ≡ s.group.count
-  pub few : s.group.count ≤ 64
+  pub few : s.group.count ≤ MOST_CLIENTS
   pub group : transcript_group t ≡ s.group
   pub history : transcript_history t ≡ s.history
   pub up : map (λ m. m.up) ms ≡ s.up

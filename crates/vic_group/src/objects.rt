@@ -5,16 +5,14 @@ ghost use Rattle.vic_dict.specs.Dictionary.{IsKey};
 ghost use Rattle.vic_rules.specs.Objects.{FitsObject, AreBytesInObject};
 
 use std::alloc::Global;
+use vic_dict::limits::{LONGEST_CONTENT, LONGEST_KEY};
 use vic_dict::{Bytes, NoMemory};
 use vic_rules::ObjectCall;
-
-/// The most bytes of a content.
-const CONTENT_LIMIT: usize = 8_388_608;
 
 fn is_name(name: &Bytes) -> bool
     ensures { IsTrue result ↔ IsKey name.now }
 {
-    0 < name.len() && name.len() < 256
+    0 < name.len() && name.len() <= LONGEST_KEY
 }
 
 /// Whether the texts of a call are within the limits: a name has 1 to 255 bytes, a content at most 8,388,608, and a prefix at most 255.
@@ -22,9 +20,9 @@ pub fn fits(call: &ObjectCall) -> bool
     ensures { IsTrue result ↔ FitsObject call.now }
 {
     match call {
-        ObjectCall::Store(name, content) => is_name(name) && content.len() <= CONTENT_LIMIT,
+        ObjectCall::Store(name, content) => is_name(name) && content.len() <= LONGEST_CONTENT,
         ObjectCall::Load(name) | ObjectCall::Erase(name) => is_name(name),
-        ObjectCall::Names(prefix) => prefix.len() < 256,
+        ObjectCall::Names(prefix) => prefix.len() <= LONGEST_KEY,
     }
 }
 

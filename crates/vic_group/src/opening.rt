@@ -3,6 +3,7 @@
 ghost use Rattle.std.specs.Prelude.{◌≡◌, ◌<◌, ◌≤◌, [], length, map, replicate, IfOk, Some};
 ghost use Rattle.std.specs.Result.{result_ok};
 ghost use Rattle.hex.specs.Hex.{decode_of};
+ghost use Rattle.vic_dict.specs.declared.limits.TheConstants.{MOST_CLIENTS};
 ghost use Rattle.vic_group.specs.World.{MemberStands};
 ghost use Rattle.vic_group.specs.Members.{AllStand};
 
@@ -50,7 +51,7 @@ pub fn spelled_key(alloc: Global, digits: &[u8]) -> Result<GroupKey, NoMemory>
 fn entered(alloc: Global, id: u8, count: u8, mode: Mode, key: &GroupKey) -> Result<Member, NoMemory>
     requires some { 0 < id }
     requires member { id ≤ count }
-    requires few { count ≤ 64 }
+    requires few { count ≤ MOST_CLIENTS }
     ensures up { IfOk result (λ m. m.up ≡ []) }
     ensures down { IfOk result (λ m. m.down ≡ []) }
     ensures server { IfOk result (λ m. m.server ≡ 1) }
@@ -74,7 +75,7 @@ pub fn entered_all(
     mode: Mode,
     key: &GroupKey,
 ) -> Result<Vec<Member>, NoMemory>
-    requires few { count ≤ 64 }
+    requires few { count ≤ MOST_CLIENTS }
     ensures count { IfOk result (λ ms. length ms.items ≡ count) }
     ensures up { IfOk result (λ ms. map (λ m. m.up) ms.items ≡ replicate count []) }
     ensures down { IfOk result (λ ms. map (λ m. m.down) ms.items ≡ replicate count []) }

@@ -16,9 +16,10 @@ use crate::header::{Headed, Header, head_line, opened, without_steps};
 use crate::place::{first_line, line_end};
 use crate::world::{World, WorldFault};
 use std::alloc::Global;
+use vic_dict::limits::LONGEST_SCRIPT;
 use vic_dict::{Bytes, NoMemory};
 use vic_hostile::Hostile;
-use vic_text::{Line, LineFault, SCRIPT_LIMIT, put_bad_line, read_line};
+use vic_text::{Line, LineFault, put_bad_line, read_line};
 use vic_view::Transcript;
 
 /// How the run of a script ends.
@@ -77,10 +78,10 @@ pub(crate) fn run_script(alloc: Global, script: &[u8]) -> Result<Ran, NoMemory>
 fn known_of(script: &[u8]) -> &[u8]
     ensures { result.now ≡ take (script_limit + 1) script.now }
 {
-    if script.len() <= SCRIPT_LIMIT {
+    if script.len() <= LONGEST_SCRIPT {
         script
     } else {
-        &script[..SCRIPT_LIMIT + 1]
+        &script[..LONGEST_SCRIPT + 1]
     }
 }
 
@@ -96,7 +97,7 @@ fn run_known(alloc: Global, known: &[u8]) -> Result<Ran, NoMemory>
     while !rest.is_empty() {
         let (text, others) = first_line(rest);
         let behind = line_end(known.len(), before, text);
-        if SCRIPT_LIMIT < behind {
+        if LONGEST_SCRIPT < behind {
             return unopened(alloc, header, number, 7);
         }
         match head_line(alloc, header, text)? {
@@ -185,7 +186,7 @@ fn do_line(
     requires few { number + 1 < 2 ^ 32 }
     ensures { IfOk result (λ bad. Follows number (trial_at behind (Stands (scene_of world.old)) text.now) (scene_of world.old) world.new out.old out.new bad) }
 {
-    if SCRIPT_LIMIT < behind {
+    if LONGEST_SCRIPT < behind {
         return Ok(Some(BadLine { number, kind: 7 }));
     }
     match try_text(alloc, world, text, out)? {

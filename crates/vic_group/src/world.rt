@@ -1,6 +1,7 @@
 //! A world of clients and servers, in which a script's lines happen.
 
 ghost use Rattle.std.specs.Prelude.{◌≡◌, ◌≢◌, ◌<◌, ◌≤◌, ◌+◌, ◌++◌, ◌&&◌, ◌↔◌, ℕ, true, false, nat_lt, nat_le, [], ◌∷◌, length, OnOk, OnErr, IfOk, Ok, Err, Some, None, MatchOption, IsTrue, is_some, slice_get, ◌-◌};
+ghost use Rattle.vic_dict.specs.declared.limits.TheConstants.{MOST_CLIENTS};
 ghost use Rattle.vic_order.specs.Serving.{AnswersAs};
 ghost use Rattle.vic_rules.specs.declared.trace.Input.TheVariants as input;
 ghost use Rattle.vic_rules.specs.History.{IsLawful};
@@ -23,6 +24,7 @@ use crate::opening::entered_all;
 use crate::servers::Servers;
 use std::alloc::Global;
 use thiserror::Error;
+use vic_dict::limits::MOST_CLIENTS;
 use vic_dict::{Bytes, Mode, NoMemory, Op};
 use vic_rules::ObjectCall;
 use vic_script::Line;
@@ -97,6 +99,7 @@ fn line_bytes(line: &Line)
 impl<S: Serve + Drop> World<S> {
     ghost use Rattle.vic_group.specs.World.{ShowsScene, MayDo, CanAsk, DoesLine, LeftWithoutMemory, TurnsLeftWithoutMemory, Makes, MakesIf, StandsHonestly};
     ghost use Rattle.vic_view.specs.Transcripts.{transcript_history, transcript_group};
+    ghost use Rattle.vic_dict.specs.declared.limits.TheConstants.{MOST_CLIENTS};
 
     /// A world of so many clients, all come in, which this server serves.
     pub fn new(
@@ -107,7 +110,7 @@ impl<S: Serve + Drop> World<S> {
         server: S,
     ) -> Result<World<S>, NoMemory>
         requires some { 0 < count }
-        requires few { count ≤ 64 }
+        requires few { count ≤ MOST_CLIENTS }
         ensures shows { IfOk result (λ w. ShowsScene S.state w (opening_with (record { mode = mode; count = count; key = key }) (S.state server))) }
         // Where the server answers as one that follows the rule and has them all ready, they are clients with one honest server.
         ensures honest { AnswersAs S.rule (S.state server) (fresh_server mode count ready_member) → IfOk result (λ w. StandsHonestly S.state S.rule w 0) }
@@ -124,9 +127,9 @@ impl<S: Serve + Drop> World<S> {
 
     // The place and the number of a client, if there is such a client.
     fn place(&self, who: u32) -> Option<(usize, u8)>
-        ensures { MatchOption result (length self.now.members.items ≤ 64 → (nat_lt 0 who && nat_le who (length self.now.members.items)) ≡ false) (λ p. (p.1 ≡ who) × ((p.1 ≡ p.0 + 1) × (p.0 < length self.now.members.items))) }
+        ensures { MatchOption result (length self.now.members.items ≤ MOST_CLIENTS → (nat_lt 0 who && nat_le who (length self.now.members.items)) ≡ false) (λ p. (p.1 ≡ who) × ((p.1 ≡ p.0 + 1) × (p.0 < length self.now.members.items))) }
     {
-        if who == 0 || who > 64 {
+        if who == 0 || who > MOST_CLIENTS {
             return None;
         }
         let place = who as usize - 1;

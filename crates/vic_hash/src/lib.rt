@@ -3,7 +3,8 @@
 //! The texts are those of `specs/Texts.antt` of `vic_wire`, and each function's contract names its own.
 #![tactic(auto)]
 
-ghost use Rattle.std.specs.Prelude.{◌≡◌, ◌<◌, length};
+ghost use Rattle.std.specs.Prelude.{◌≤◌, ◌≡◌, ◌<◌, length};
+ghost use Rattle.vic_dict.specs.declared.limits.TheConstants.{LONGEST_VALUE};
 ghost use Rattle.vic_dict.specs.Dictionary.{IsKey};
 ghost use Rattle.vic_wire.specs.Hashes.{hash, empty_root};
 ghost use Rattle.vic_wire.specs.Texts.{leaf_text, inner_text, content_text};
@@ -30,7 +31,7 @@ pub fn empty() -> Digest32
 /// It costs one or more blocks of 64 bytes, as the text is long.
 pub fn leaf(key: &[u8], value: &[u8]) -> Digest32
     requires key { IsKey key.now }
-    requires value { length value.now < 65 }
+    requires value { length value.now ≤ LONGEST_VALUE }
     ensures { result.bytes ≡ hash (leaf_text key.now value.now) }
 {
     let mut hasher = Sha256::new();

@@ -1,5 +1,5 @@
 -- The parts that an honest server sends are cuts of its dictionary's tree; they are read again, and are bytes.
-use Rattle.std.specs.Prelude.{◌≡◌, ℕ, ◌<◌, Bool, true, false, not, ◌&&◌, ◌||◌, List, length, Some, if◌then◌else◌}
+use Rattle.std.specs.Prelude.{◌≤◌, ◌≡◌, ℕ, ◌<◌, Bool, true, false, not, ◌&&◌, ◌||◌, List, length, Some, if◌then◌else◌}
 use Rattle.std.proofs.Common.{refl, sym, subst, inl}
 use Rattle.vic_dict.specs.declared.op.Op.{Op}
 use Rattle.vic_dict.specs.Lists.{IsIn, AreBytes}
@@ -25,7 +25,7 @@ use Rattle.vic_tree.proofs.Alike.{byte_entries}
 -- ---- the leaves of a proper dictionary's tree
 
 abbrev AreProper : Tree → Type 0
-AreProper t = (p : Pair) → IsIn (pairs_of t) p → ((0 < length p.0) × (length p.0 < 256)) × (AreBytes p.0 × ((length p.1 < 65) × AreBytes p.1))
+AreProper t = (p : Pair) → IsIn (pairs_of t) p → ((0 < length p.0) × (length p.0 ≤ 255)) × (AreBytes p.0 × ((length p.1 ≤ 64) × AreBytes p.1))
 
 leaves_fit : (t : Tree) → AreProper t → LeavesFit t
 leaves_fit Empty h = tt

@@ -1,5 +1,5 @@
 -- What the server says is bytes.
-use Rattle.std.proofs.Common.{ℕ, ◌<◌, true, false, List, [], ◌∷◌, ◌++◌, length, arith}
+use Rattle.std.proofs.Common.{◌≤◌, ℕ, ◌<◌, true, false, List, [], ◌∷◌, ◌++◌, length, arith}
 use Rattle.std.specs.Prelude.{if◌then◌else◌, nat_eq}
 use Rattle.std.specs.List.{AllByRecursion, flat_map}
 use Rattle.std.specs.Int.{w16, w32, to_be_bytes}
@@ -18,7 +18,7 @@ use Rattle.vic_spellings.proofs.Bytes.{bytes-cons, bytes-append, bytes-w16, byte
 
 -- ---- fields
 
-pub short_bytes : (text : List ℕ) → length text < 256 → AreBytes text → AreBytes (short_text text)
+pub short_bytes : (text : List ℕ) → length text ≤ 255 → AreBytes text → AreBytes (short_text text)
 short_bytes text few h = bytes-cons (length text) text few h
 
 op_bytes : (o : Op) → Fits o → AreBytesIn o → AreBytes (op_text o)

@@ -1,6 +1,7 @@
 -- The laws of honest runs, one by one.
 use Rattle.std.specs.Prelude.{◌≡◌, ◌≢◌, ◌↔◌, ℕ, ◌+◌, ◌-◌, ◌<◌, ◌≤◌, ◌⊎◌, Bool, true, false, not, ◌&&◌, ◌||◌, List, [], ◌∷◌, ◌++◌, length, Option, Some, None, nat_eq, nat_le, min}
 use Rattle.std.specs.List.{sum_by}
+use Rattle.vic_dict.specs.declared.limits.TheConstants.{MOST_CONTENTS, MOST_CONTENT_BYTES, MOST_ENTRIES, MOST_TOLD, MOST_UNSEALED, MOST_WEIGHT}
 use Rattle.vic_dict.specs.declared.op.Op.{Op}
 use Rattle.vic_dict.specs.declared.op.Op.TheVariants as op
 use Rattle.vic_dict.specs.declared.op.Answer.TheVariants as answer
@@ -76,8 +77,8 @@ pub record ReturnsItsFate (g : Group) (log : List Ordered) (past : List TraceSte
 -- the number of the limit that a call would pass: entries in all, entries that aren't sealed, weight, entries that its client hasn't seen
 abbrev pub passed_limit : Server → ℕ → Op → Option ℕ
 passed_limit s known o = first_failing (
-    (4, not (nat_eq (size s) 1048576)) ∷ (2, not (nat_eq (size s - sealed_count s) 1024)) ∷ (3, not (is_put o) || nat_le (weight s + op_weight o) 8388608)
-    ∷ (1, nat_le ((size s + 1) - known) 8192) ∷ [])
+    (4, not (nat_eq (size s) MOST_ENTRIES)) ∷ (2, not (nat_eq (size s - sealed_count s) MOST_UNSEALED)) ∷ (3, not (is_put o) || nat_le (weight s + op_weight o) MOST_WEIGHT)
+    ∷ (1, nat_le ((size s + 1) - known) MOST_TOLD) ∷ [])
 
 -- a request that is refused was a call, and would have passed that limit
 pub record RefusedAtLimit (s : Server) (payload : List ℕ) (r : ℕ) : Type 0 where
@@ -90,7 +91,7 @@ pub record RefusedAtLimit (s : Server) (payload : List ℕ) (r : ℕ) : Type 0 w
 
 -- there is room for one content more: contents in all, and bytes in all
 abbrev pub has_room_for : Server → List ℕ → Bool
-has_room_for s content = not (nat_le 1048576 (length s.contents)) && nat_le (sum_by length s.contents + length content) 1073741824
+has_room_for s content = not (nat_le MOST_CONTENTS (length s.contents)) && nat_le (sum_by length s.contents + length content) MOST_CONTENT_BYTES
 
 -- a request that is refused was a content to be kept, in a group with objects: it is new, and there is no room for it
 pub record ContentRefused (g : Group) (s : Server) (payload : List ℕ) (r : ℕ) : Type 0 where
@@ -274,7 +275,7 @@ pub record IsSyncedSo (server : Server) (known : ℕ) (answer : ToClient) : Type
   pub seal : Seal
   pub told : List Tagged
   pub is : answer ≡ say.Entries seal told
-  pub gives : onto told (front known (entries server.log)) ≡ entries (front (min (size server) (known + 8192)) server.log)
+  pub gives : onto told (front known (entries server.log)) ≡ entries (front (min (size server) (known + MOST_TOLD)) server.log)
 
 -- requests by which a client asks for its turn
 abbrev pub AsksTurn : ToServer → Type 0

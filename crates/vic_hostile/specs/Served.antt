@@ -1,5 +1,6 @@
 -- What a server in memory has, as the rule of its kind sees it.
 use Rattle.std.specs.Prelude.{◌≡◌, ℕ, List, Option, Some, None, replicate}
+use Rattle.vic_dict.specs.declared.limits.TheConstants.{MOST_CLIENTS}
 use Rattle.vic_order.specs.Order.{Server}
 use Rattle.vic_server.specs.Replay.{KeptServer}
 use Rattle.vic_attacks.specs.Hostile.{Hostile}
@@ -16,4 +17,4 @@ server_in None = None
 -- the answers of the clients; none before the first is kept
 abbrev pub places_in : Option (List (Option (List ℕ))) → List (Option (List ℕ))
 places_in (Some told) = told
-places_in None = replicate 64 None
+places_in None = replicate MOST_CLIENTS None

@@ -1,6 +1,7 @@
 //! What each client was answered last.
 
 ghost use Rattle.std.specs.Prelude.{◌≡◌, None, replicate, IfOk, option_copied};
+ghost use Rattle.vic_dict.specs.declared.limits.TheConstants.{MOST_CLIENTS};
 ghost use Rattle.vic_attacks.specs.Hostile.{told_to, with_told};
 
 use std::alloc::Global;
@@ -18,18 +19,19 @@ pub(crate) struct Places {
 
 impl Model for Places {
     ghost use Rattle.std.specs.Prelude.{◌≡◌, ℕ, List, Option, length};
+    ghost use Rattle.vic_dict.specs.declared.limits.TheConstants.{MOST_CLIENTS};
 
     ghost Value = { List (Option (List ℕ)) };
 
     ghost view = { λ a. a.answers.items };
 
-    ghost invariant = { λ a. length a.answers.items ≡ 64 };
+    ghost invariant = { λ a. length a.answers.items ≡ MOST_CLIENTS };
 }
 
 impl Places {
     /// Places in which no answer stands.
     pub(crate) fn new(alloc: Global) -> Result<Places, NoMemory>
-        ensures { IfOk result (λ made. made ≡ replicate 64 None) }
+        ensures { IfOk result (λ made. made ≡ replicate MOST_CLIENTS None) }
     {
         let mut answers = Vec::new(alloc);
         for _ in 0..PLACES {

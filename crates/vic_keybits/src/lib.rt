@@ -6,6 +6,7 @@
 
 ghost use Rattle.std.specs.Prelude.{◌≡◌, ℕ, ◌+◌, ◌/◌, ◌^◌, ◌<◌, ◌≤◌, Bool, List, ◌++◌, length, MatchOption, IfSome, nat_eq};
 ghost use Rattle.std.specs.List.{starts_with};
+ghost use Rattle.vic_dict.specs.declared.limits.TheConstants.{LONGEST_KEY};
 ghost use Rattle.vic_wire.specs.Bits.{is_odd, key_bits, key_bit, shared_front, shared_bits};
 ghost use Rattle.vic_keybits.specs.LowBits.{low_bits};
 ghost use Rattle.vic_keybits.specs.Apart.{AreApartAt};
@@ -28,7 +29,7 @@ pub fn bit(key: &[u8], i: u32) -> bool
 
 /// How many bits the key has.
 pub fn bit_count(key: &[u8]) -> u32
-    requires { length key.now < 256 }
+    requires { length key.now ≤ LONGEST_KEY }
     ensures { result ≡ length (key_bits key.now) }
 {
     9 * key.len() as u32 + 1
@@ -62,8 +63,8 @@ fn bit_apart(x: u8, y: u8, left: u32) -> u32
 
 /// The first bit at which the keys differ, where they do.
 pub fn first_difference(a: &[u8], b: &[u8]) -> Option<u32>
-    requires first { length a.now < 256 }
-    requires second { length b.now < 256 }
+    requires first { length a.now ≤ LONGEST_KEY }
+    requires second { length b.now ≤ LONGEST_KEY }
     ensures first { MatchOption result (a.now ≡ b.now) (λ i. (a.now ≡ b.now → ⊥) × (i ≡ shared_bits a.now b.now)) }
     ensures few { IfSome result (λ i. i < 2296) }
 {

@@ -406,7 +406,7 @@ part_bytes b before part h e = are_bytes_after before part (subst AreBytes e h)
 reference_bytes : (h : List ℕ) (len : ℕ) → AreBytes h → AreBytes (reference_text h len)
 reference_bytes h len a = bytes-append h (to_be_bytes w32 len) a (bytes-w32 len)
 
-reference_length : (h : List ℕ) (len : ℕ) → length h ≡ 32 → length (reference_text h len) < 65
+reference_length : (h : List ℕ) (len : ℕ) → length h ≡ 32 → length (reference_text h len) ≤ 64
 reference_length h len e = let l : length (h ++ to_be_bytes w32 len) ≡ length h + length (to_be_bytes w32 len) = length-append h (to_be_bytes w32 len) in omega (arith, l)
 
 -- a store that is told that its content is kept calls its put; else nobody awaits that

@@ -55,7 +55,7 @@ IsDigestText bytes = (length bytes ≡ 32) × AreBytes bytes
 -- the end of a walk, and of a leaf there its key and value are within the limits
 abbrev FitsEnd : Tree → Type 0
 FitsEnd Empty = Unit {0}
-FitsEnd (Leaf k v) = (IsKey k × AreBytes k) × ((length v < 65) × AreBytes v)
+FitsEnd (Leaf k v) = (IsKey k × AreBytes k) × ((length v ≤ 64) × AreBytes v)
 FitsEnd (Inner i l r) = ⊥
 FitsEnd (Stub root) = Unit {0}
 
@@ -76,7 +76,7 @@ part_end k (Inner i l r) is holds = node_end k 0 (Inner i l r) is holds
 part_end k (Stub root) is holds = tt
 
 abbrev FitsPair : Pair → Type 0
-FitsPair p = (IsKey p.0 × AreBytes p.0) × ((length p.1 < 65) × AreBytes p.1)
+FitsPair p = (IsKey p.0 × AreBytes p.0) × ((length p.1 ≤ 64) × AreBytes p.1)
 
 gathered_proper : (ps : List Pair) (d : Dictionary) → AllByRecursion FitsPair ps → IsProper d → IsProper (dictionary_with_pairs d ps)
 gathered_proper [] d all proper = proper

@@ -3,6 +3,7 @@ use Rattle.std.specs.Prelude.{ℕ, ◌+◌, ◌-◌, Bool, true, false, not, ◌
 use Rattle.std.specs.List.{sum_by, find, list_any}
 use Rattle.std.specs.Str.{bytes_eq}
 use Rattle.std.specs.FinMap as map
+use Rattle.vic_dict.specs.declared.limits.TheConstants.{MOST_CONTENTS, MOST_CONTENT_BYTES, MOST_ENTRIES, MOST_TOLD, MOST_UNSEALED, MOST_WEIGHT}
 use Rattle.vic_dict.specs.declared.op.Op.{Op}
 use Rattle.vic_dict.specs.declared.op.Op.TheVariants as op
 use Rattle.vic_dict.specs.declared.op.Entry.{Entry}
@@ -10,6 +11,7 @@ use Rattle.vic_dict.specs.declared.op.Mode.{Mode}
 use Rattle.vic_dict.specs.declared.op.Mode.TheVariants as mode
 use Rattle.vic_dict.specs.Lists.{front, newest}
 use Rattle.vic_dict.specs.Dictionary.{Dictionary, nothing, after}
+use Rattle.vic_wire.specs.declared.refusal.TheConstants.{BEHIND, PENDING_FULL, WEIGHT_FULL, HISTORY_FULL, OUT_OF_ORDER, NOT_MEMBER, CONTENT_FULL}
 use Rattle.vic_wire.specs.declared.message.Digest32.{Digest32}
 use Rattle.vic_wire.specs.declared.message.Seal.{Seal}
 use Rattle.vic_wire.specs.declared.message.Tagged.{Tagged}
@@ -219,49 +221,49 @@ ordered_next s who seq o tag =
 
 -- a request of a client that has come in
 abbrev pub on_request : Server → ℕ → ToServer → Answered
-on_request s who (ask.Hello kind client) = answer_alone s (say.Refused 5)
+on_request s who (ask.Hello kind client) = answer_alone s (say.Refused OUT_OF_ORDER)
 on_request s who (ask.Invoke known seq o tag) =
     let m = member s who in
     let t = size s + 1 in
     answer_by_tests s (
-    (5, is_ready m.stage && (nat_lt m.last seq && nat_le known (size s)))
-    ∷ (4, not (nat_eq (size s) 1048576))
-    ∷ (2, not (nat_eq (size s - sealed_count s) 1024))
-    ∷ (3, not (is_put o) || nat_le (weight s + op_weight o) 8388608)
-    ∷ (1, nat_le (t - known) 8192) ∷ [])
+    (OUT_OF_ORDER, is_ready m.stage && (nat_lt m.last seq && nat_le known (size s)))
+    ∷ (HISTORY_FULL, not (nat_eq (size s) MOST_ENTRIES))
+    ∷ (PENDING_FULL, not (nat_eq (size s - sealed_count s) MOST_UNSEALED))
+    ∷ (WEIGHT_FULL, not (is_put o) || nat_le (weight s + op_weight o) MOST_WEIGHT)
+    ∷ (BEHIND, nat_le (t - known) MOST_TOLD) ∷ [])
     (let next = ordered_next s who seq o tag in answer_with_change next (say.Reply (top_seal s) (entries_above known next.log) (part_for s.dictionary o)))
 on_request s who (ask.Commit position done tag) =
-    answer_by_tests s ((5, is_open_at position (member s who).stage) ∷ [])
+    answer_by_tests s ((OUT_OF_ORDER, is_open_at position (member s who).stage) ∷ [])
     (let next = set_stage (with_commit s position done tag) who stage.Ready in answer_with_change next (turn next who))
-on_request s who ask.Poll = answer_by_tests s ((5, is_ready (member s who).stage) ∷ []) (answer_alone s (turn s who))
+on_request s who ask.Poll = answer_by_tests s ((OUT_OF_ORDER, is_ready (member s who).stage) ∷ []) (answer_alone s (turn s who))
 on_request s who (ask.Seal position root tag) =
-    answer_by_tests s ((5, is_ready (member s who).stage && (nat_eq position (sealed_count s + 1) && owns_committed who (ordered_at s position) (commit_at s position))) ∷ [])
+    answer_by_tests s ((OUT_OF_ORDER, is_ready (member s who).stage && (nat_eq position (sealed_count s + 1) && owns_committed who (ordered_at s position) (commit_at s position))) ∷ [])
     (let next = with_seal s (record { position = position; root = root; tag = tag }) in answer_with_change next (turn next who))
 on_request s who (ask.Sync known) =
-    let e = min (size s) (known + 8192) in
-    answer_by_tests s ((5, is_ready (member s who).stage && nat_le known (size s)) ∷ [])
+    let e = min (size s) (known + MOST_TOLD) in
+    answer_by_tests s ((OUT_OF_ORDER, is_ready (member s who).stage && nat_le known (size s)) ∷ [])
     (answer_alone s (say.Entries (seal_at_position s (min (sealed_count s) e)) (entries_above known (front e s.log))))
 on_request s who (ask.Keep content) =
-    answer_by_tests s ((5, is_ready (member s who).stage && same_mode s.mode mode.Objects) ∷ [])
+    answer_by_tests s ((OUT_OF_ORDER, is_ready (member s who).stage && same_mode s.mode mode.Objects) ∷ [])
     (if is_kept s.contents (hash (content_text content)) then answer_alone s say.Kept
-    else answer_by_tests s ((7, not (nat_le 1048576 (length s.contents)) && nat_le (sum_by length s.contents + length content) 1073741824) ∷ [])
+    else answer_by_tests s ((CONTENT_FULL, not (nat_le MOST_CONTENTS (length s.contents)) && nat_le (sum_by length s.contents + length content) MOST_CONTENT_BYTES) ∷ [])
     (answer_with_change (record s { contents = content ∷ s.contents }) say.Kept))
 on_request s who (ask.Fetch h) =
-    answer_by_tests s ((5, is_ready (member s who).stage && same_mode s.mode mode.Objects) ∷ []) (answer_alone s (content_with s.contents h.bytes))
-on_request s who ask.Bye = answer_by_tests s ((5, is_ready (member s who).stage) ∷ []) (answer_with_change (set_stage s who stage.Left) say.Gone)
+    answer_by_tests s ((OUT_OF_ORDER, is_ready (member s who).stage && same_mode s.mode mode.Objects) ∷ []) (answer_alone s (content_with s.contents h.bytes))
+on_request s who ask.Bye = answer_by_tests s ((OUT_OF_ORDER, is_ready (member s who).stage) ∷ []) (answer_with_change (set_stage s who stage.Left) say.Gone)
 
 abbrev pub on_hello : Server → ℕ → Mode → ℕ → Answered
 on_hello s who kind client =
-    answer_by_tests s ((5, nat_eq who 0) ∷ (6, nat_lt 0 client && (nat_le client (length s.members) && (same_mode kind s.mode && is_away (member s client).stage))) ∷ [])
+    answer_by_tests s ((OUT_OF_ORDER, nat_eq who 0) ∷ (NOT_MEMBER, nat_lt 0 client && (nat_le client (length s.members) && (same_mode kind s.mode && is_away (member s client).stage))) ∷ [])
     (answer_with_change (set_stage s client stage.Ready) say.Hi)
 
 abbrev pub is_member : Server → ℕ → Bool
 is_member s who = nat_lt 0 who && (nat_le who (length s.members) && is_inside (member s who).stage)
 
 abbrev pub serve_read : Server → ℕ → Option ToServer → Answered
-serve_read s who None = answer_alone s (say.Refused 5)
+serve_read s who None = answer_alone s (say.Refused OUT_OF_ORDER)
 serve_read s who (Some (ask.Hello kind client)) = on_hello s who kind client
-serve_read s who (Some r) = answer_by_tests s ((6, is_member s who) ∷ []) (on_request s who r)
+serve_read s who (Some r) = answer_by_tests s ((NOT_MEMBER, is_member s who) ∷ []) (on_request s who r)
 
 -- one request served
 unfoldable pub serve : Server → ℕ → List ℕ → Answered

@@ -62,7 +62,7 @@ const FAULTS: [(&'static [u8], ProofFault); 20] = [
 
 fn put(trie: &mut Trie, key: &[u8], value: &[u8]) -> Result<(), NoMemory>
     requires key { IsKey key.now }
-    requires value { length value.now < 65 }
+    requires value { length value.now ≤ 64 }
 {
     if trie.weight() > 1000 {
         return Err(NoMemory);
@@ -169,7 +169,7 @@ fn lowest(alloc: Global, key: &[u8]) -> Result<Bytes, NoMemory> {
 
 // Whether the part reaches a get of the key, which finds its value at the bottom.
 fn finds(alloc: Global, part: &Pruned, key: &[u8]) -> Result<bool, NoMemory>
-    requires key { length key.now < 256 }
+    requires key { length key.now ≤ 255 }
     requires part { IsPart (part_in part.now) }
 {
     let get = Op::Get(Bytes::of(alloc, key)?);
@@ -188,7 +188,7 @@ fn finds(alloc: Global, part: &Pruned, key: &[u8]) -> Result<bool, NoMemory>
 
 // Whether a list of the key's names meets the stub on the right.
 fn list_stops(alloc: Global, part: &Pruned, key: &[u8]) -> Result<bool, NoMemory>
-    requires key { length key.now < 256 }
+    requires key { length key.now ≤ 255 }
     requires part { IsPart (part_in part.now) }
 {
     let list = Op::List(Bytes::of(alloc, key)?);
@@ -214,7 +214,7 @@ fn leaves(part: &Pruned, op: &Op, root: &[u8; 32]) -> bool
 
 // Whether a put of another value and a del rehash the whole way up.
 fn changes(alloc: Global, part: &Pruned, key: &[u8]) -> Result<bool, NoMemory>
-    requires key { length key.now < 256 }
+    requires key { length key.now ≤ 255 }
     requires part { IsPart (part_in part.now) }
 {
     let put = Op::Put(Bytes::of(alloc, key)?, Bytes::of(alloc, b"y")?);

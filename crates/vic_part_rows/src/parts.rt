@@ -1,4 +1,4 @@
-ghost use Rattle.std.specs.Prelude.{◌≡◌, ◌<◌, length, IfOk};
+ghost use Rattle.std.specs.Prelude.{◌≤◌, ◌≡◌, ◌<◌, length, IfOk};
 ghost use Rattle.vic_dict.specs.Dictionary.{Fits, IsKey};
 
 use std::alloc::Global;
@@ -32,7 +32,7 @@ const NOTHING: [u8; 32] = [
 
 fn put<R: Abort>(rt: &R, trie: &mut Trie, key: &[u8], value: &[u8]) -> Result<(), NoMemory>
     requires key { IsKey key.now }
-    requires value { length value.now < 65 }
+    requires value { length value.now ≤ 64 }
 {
     assert!(rt; trie.weight() < 1000);
     trie.put(key, value)
@@ -47,7 +47,7 @@ fn pair<R: Abort>(rt: &R, alloc: Global) -> Result<Trie, NoMemory> {
 }
 
 fn key_of(alloc: Global, key: &[u8]) -> Result<Bytes, NoMemory>
-    requires { length key.now < 256 }
+    requires { length key.now ≤ 255 }
     ensures { IfOk result (λ b. b ≡ key.now) }
 {
     Bytes::of(alloc, key)

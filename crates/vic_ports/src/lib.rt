@@ -29,7 +29,7 @@ pub use memory_doors::{Lines, MemoryDoors};
 pub use memory_link::MemoryLink;
 pub use never::{NeverFails, Planned};
 pub use ports::{Got, Put, Sink, Source};
-pub use reading::{InputRead, LIMIT, read_input};
+pub use reading::{InputRead, read_input};
 pub use sending::send;
 pub use system::{ReadSource, StdSink, StdSource, WriteSink};
 pub use tcp::{TcpDoors, TcpLine};

@@ -6,9 +6,7 @@ ghost use Rattle.vic_ports.specs.InputGives.{InputGives, TakesAtMost, most_taken
 use crate::ports::{Got, Source};
 use std::alloc::Global;
 use vic_dict::Bytes;
-
-/// The most bytes that an input may have.
-pub const LIMIT: usize = 16_777_216;
+use vic_dict::limits::LONGEST_SCRIPT;
 
 /// The most bytes that one read takes.
 const ONE_READ: usize = 4096;
@@ -35,7 +33,7 @@ pub fn read_input<S: Source>(alloc: Global, source: &mut S) -> InputRead
 {
     let mut all = Bytes::new(alloc);
     let mut buffer = [0u8; ONE_READ];
-    while all.len() <= LIMIT {
+    while all.len() <= LONGEST_SCRIPT {
         match source.read(&mut buffer) {
             Got::Bytes(n) => {
                 if all.append(&buffer[..n]).is_err() {

@@ -1,6 +1,7 @@
 //! The bytes of the parts of a dictionary, straight from its tree: no pruned tree is made in between.
 
 ghost use Rattle.std.specs.Prelude.{◌≡◌, ◌++◌, ◌<◌, ◌≤◌, ◌+◌, ◌∷◌, [], length, OnOk, IfOk};
+ghost use Rattle.vic_dict.specs.declared.limits.TheConstants.{LONGEST_KEY};
 ghost use Rattle.vic_dict.specs.Dictionary.{Fits};
 ghost use Rattle.vic_wire.specs.Trees.{root_of};
 ghost use Rattle.vic_wire.specs.Cuts.{cut_at as at_cut, cut_least as least_cut, cut_below as below_cut, cut_for as for_cut};
@@ -50,7 +51,7 @@ fn put_whole(out: &mut Bytes, node: &Node) -> Result<(), NoMemory>
 // The nodes of a key's walk.
 fn put_at(out: &mut Bytes, node: &Node, key: &[u8]) -> Result<(), NoMemory>
     requires sound { IsSound node.now }
-    requires fits { length key.now < 256 }
+    requires fits { length key.now ≤ LONGEST_KEY }
     ensures { OnOk result (out.new ≡ out.old ++ node_field (at_cut key.now (tree node.now))) }
 {
     match node {
@@ -86,7 +87,7 @@ fn put_least(out: &mut Bytes, node: &Node) -> Result<(), NoMemory>
 // The nodes of a list's walk.
 fn put_below(out: &mut Bytes, node: &Node, prefix: &[u8]) -> Result<(), NoMemory>
     requires sound { IsSound node.now }
-    requires fits { length prefix.now < 256 }
+    requires fits { length prefix.now ≤ LONGEST_KEY }
     ensures { OnOk result (out.new ≡ out.old ++ node_field (below_cut prefix.now (tree node.now))) }
 {
     match node {

@@ -10,6 +10,7 @@ ghost use Rattle.vic_proof.specs.Nodes.{node_from, inner_from, after_byte};
 
 use std::alloc::Global;
 use thiserror::Error;
+use vic_dict::limits::{LONGEST_KEY, LONGEST_VALUE};
 use vic_dict::{Bytes, NoMemory as OutOfMemory};
 use vic_fields::{Cut, CutFault};
 use vic_prune::Pruned;
@@ -104,8 +105,8 @@ fn take_text<'a>(cut: &mut Cut<'a>, all: usize, low: u8, high: u8) -> Result<&'a
 fn take_leaf(alloc: Global, cut: &mut Cut, all: usize) -> Result<Pruned, ProofFault>
     ensures { GivesPart (λ p. (part p, cut.new)) result (leaf_at all cut.old) }
 {
-    let key = take_text(cut, all, 1, 255)?;
-    let value = take_text(cut, all, 0, 64)?;
+    let key = take_text(cut, all, 1, LONGEST_KEY as u8)?;
+    let value = take_text(cut, all, 0, LONGEST_VALUE as u8)?;
     let key = Bytes::of(alloc, key)?;
     let value = Bytes::of(alloc, value)?;
     Ok(Pruned::Leaf(key, value))

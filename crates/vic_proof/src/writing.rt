@@ -1,6 +1,7 @@
 //! Parts are written.
 
-ghost use Rattle.std.specs.Prelude.{◌≡◌, ◌++◌, ◌<◌, ◌∷◌, [], length, OnOk, IfOk};
+ghost use Rattle.std.specs.Prelude.{◌≤◌, ◌≡◌, ◌++◌, ◌<◌, ◌∷◌, [], length, OnOk, IfOk};
+ghost use Rattle.vic_dict.specs.declared.limits.TheConstants.{LONGEST_KEY, LONGEST_VALUE};
 ghost use Rattle.vic_dict.specs.Dictionary.{IsKey};
 ghost use Rattle.vic_wire.specs.Texts.{short_text};
 ghost use Rattle.vic_wire.specs.Parts.{IsPart, node_field, part_text};
@@ -13,7 +14,7 @@ use vic_prune::Pruned;
 
 // A key or a value behind its length.
 fn put_text(out: &mut Bytes, text: &[u8]) -> Result<(), NoMemory>
-    requires { length text.now < 256 }
+    requires { length text.now ≤ LONGEST_KEY }
     ensures { OnOk result (out.new ≡ out.old ++ short_text text.now) }
 {
     put_u8(out, text.len() as u8)?;
@@ -23,7 +24,7 @@ fn put_text(out: &mut Bytes, text: &[u8]) -> Result<(), NoMemory>
 // A leaf. Where memory runs out, some of it may have been put.
 pub(crate) fn put_leaf(out: &mut Bytes, key: &[u8], value: &[u8]) -> Result<(), NoMemory>
     requires key { IsKey key.now }
-    requires value { length value.now < 65 }
+    requires value { length value.now ≤ LONGEST_VALUE }
     ensures { OnOk result (out.new ≡ out.old ++ 1 ∷ short_text key.now ++ short_text value.now) }
 {
     put_u8(out, 1)?;

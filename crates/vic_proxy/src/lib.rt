@@ -6,6 +6,7 @@
 ghost use Rattle.std.specs.Prelude.{◌≡◌, ◌↔◌, ◌<◌, ◌≤◌, ◌+◌, IsTrue, IfOk, OnErr, OnOk, length, Some, None};
 ghost use Rattle.std.specs.Prelude.{option_map};
 ghost use Rattle.std.specs.Int.{w32, from_be_bytes};
+ghost use Rattle.vic_dict.specs.declared.limits.TheConstants.{LONGEST_CONTENT};
 ghost use Rattle.vic_dict.specs.Dictionary.{IsKey};
 ghost use Rattle.vic_dict.specs.declared.op.Answer.TheVariants as answer;
 ghost use Rattle.vic_dict.specs.declared.op.Outcome.{Outcome as AnOutcome};
@@ -15,6 +16,7 @@ ghost use Rattle.vic_rules.specs.Objects.{FitsObject, AreBytesInObject, first_st
 
 use std::alloc::Global;
 use std::marker::Model;
+use vic_dict::limits::{LONGEST_CONTENT, LONGEST_KEY};
 use vic_dict::{Answer, Bytes, NoMemory, Op, Outcome};
 use vic_rules::Phase;
 pub use vic_rules::{Next, ObjectCall, ObjectOutcome};
@@ -40,7 +42,7 @@ impl Model for Proxy {
 fn is_key(text: &Bytes) -> bool
     ensures { IsTrue result ↔ IsKey text.now }
 {
-    0 < text.len() && text.len() < 256
+    0 < text.len() && text.len() <= LONGEST_KEY
 }
 
 /// Whether the lengths of the texts of a call on objects are within the limits.
@@ -48,9 +50,9 @@ pub fn fits(call: &ObjectCall) -> bool
     ensures { IsTrue result ↔ FitsObject call.now }
 {
     match call {
-        ObjectCall::Store(name, content) => is_key(name) && content.len() <= 8_388_608,
+        ObjectCall::Store(name, content) => is_key(name) && content.len() <= LONGEST_CONTENT,
         ObjectCall::Load(name) | ObjectCall::Erase(name) => is_key(name),
-        ObjectCall::Names(prefix) => prefix.len() < 256,
+        ObjectCall::Names(prefix) => prefix.len() <= LONGEST_KEY,
     }
 }
 
@@ -106,7 +108,7 @@ impl Proxy {
 
     /// A content is sent that is to be kept under a name. It costs the hash of the content.
     pub fn keeping(alloc: Global, name: &Bytes, content: &[u8]) -> Result<Proxy, NoMemory>
-        requires { length content.now ≤ 8388608 }
+        requires { length content.now ≤ LONGEST_CONTENT }
         ensures { IfOk result (λ p. p ≡ phase.Keeping name.now (record { bytes = content_hash content.now }) (length content.now)) }
     {
         let hash = vic_hash::content(content);

@@ -1,4 +1,5 @@
-ghost use Rattle.std.specs.Prelude.{◌≡◌, ◌<◌, length, IfOk, true};
+ghost use Rattle.std.specs.Prelude.{◌≤◌, ◌≡◌, ◌<◌, length, IfOk, true};
+ghost use Rattle.vic_dict.specs.declared.limits.TheConstants.{LONGEST_KEY};
 ghost use Rattle.vic_dict.specs.Dictionary.{Fits};
 ghost use Rattle.vic_wire.specs.Cuts.{IsCut, cut_at, cut_least, cut_below, cut_for, cut_none};
 ghost use Rattle.vic_wire.specs.Trees.{tree_of};
@@ -87,7 +88,7 @@ fn whole(alloc: Global, node: &Node) -> Result<Pruned, NoMemory>
 
 fn cut_at(alloc: Global, node: &Node, key: &[u8]) -> Result<Pruned, NoMemory>
     requires sound { IsSound node.now }
-    requires fits { length key.now < 256 }
+    requires fits { length key.now ≤ LONGEST_KEY }
     ensures part { IfOk result (λ p. part p ≡ cut_at key.now (tree node.now)) }
     ensures keys { IfOk result KeysFit }
 {
@@ -132,7 +133,7 @@ fn cut_least(alloc: Global, node: &Node) -> Result<Pruned, NoMemory>
 
 fn cut_below(alloc: Global, node: &Node, prefix: &[u8]) -> Result<Pruned, NoMemory>
     requires sound { IsSound node.now }
-    requires fits { length prefix.now < 256 }
+    requires fits { length prefix.now ≤ LONGEST_KEY }
     ensures part { IfOk result (λ p. part p ≡ cut_below prefix.now (tree node.now)) }
     ensures keys { IfOk result KeysFit }
 {

@@ -1,4 +1,5 @@
-ghost use Rattle.std.specs.Prelude.{◌≡◌, ◌<◌, ◌↔◌, length, false, true, IfOk, IfErr, MatchOption, OnOk, option_copied, Err, ◌++◌, List, ℕ, ◌⊎◌};
+ghost use Rattle.std.specs.Prelude.{◌≤◌, ◌≡◌, ◌<◌, ◌↔◌, length, false, true, IfOk, IfErr, MatchOption, OnOk, option_copied, Err, ◌++◌, List, ℕ, ◌⊎◌};
+ghost use Rattle.vic_dict.specs.declared.limits.TheConstants.{LONGEST_KEY, LONGEST_VALUE};
 ghost use Rattle.vic_dict.specs.Dictionary.{Dictionary, IsKey, Fits, AreBytesIn, HasByteKeys, nothing, reply, after};
 ghost use Rattle.vic_dict.specs.Lists.{AreBytes};
 ghost use Rattle.vic_tree.specs.Binding.{Collides};
@@ -66,7 +67,7 @@ impl Pruned {
     // The pair at the end of the key's walk: None at a stub, Some(None) at nothing.
     fn end(&self, key: &[u8]) -> Option<Option<(&Bytes, &Bytes)>>
         requires keys { KeysFit self.now }
-        requires fits { length key.now < 256 }
+        requires fits { length key.now ≤ LONGEST_KEY }
         ensures { MatchOption result (is_stub (end_at key.now (part self.now)) ≡ true)
             (λ pair. MatchOption pair (end_at key.now (part self.now) ≡ Empty)
             (λ p. (end_at key.now (part self.now) ≡ Leaf p.0.now p.1.now) × IsKey p.0.now)) }
@@ -87,7 +88,7 @@ impl Pruned {
 
     fn below(&self, prefix: &[u8]) -> &Pruned
         requires keys { KeysFit self.now }
-        requires fits { length prefix.now < 256 }
+        requires fits { length prefix.now ≤ LONGEST_KEY }
         ensures tree { part result.now ≡ below prefix.now (part self.now) }
         ensures keys { KeysFit result.now }
     {
@@ -230,7 +231,7 @@ impl Pruned {
     // The node at the end of the key's walk.
     fn end_node(&self, key: &[u8]) -> &Pruned
         requires keys { KeysFit self.now }
-        requires fits { length key.now < 256 }
+        requires fits { length key.now ≤ LONGEST_KEY }
         ensures tree { part result.now ≡ end_at key.now (part self.now) }
         ensures keys { KeysFit result.now }
     {
@@ -272,7 +273,7 @@ impl Pruned {
     #[tactic(auto, using(crate::proofs::Gathered::least_whole))]
     fn listed(&self, prefix: &[u8]) -> &Pruned
         requires keys { KeysFit self.now }
-        requires fits { length prefix.now < 256 }
+        requires fits { length prefix.now ≤ LONGEST_KEY }
         ensures leaves { pairs_of (part result.now) ≡ pairs_of_walk (part self.now) (Op.List prefix.now) }
         ensures whole { is_whole (part result.now) ≡ reaches (part self.now) (Op.List prefix.now) }
         ensures keys { KeysFit result.now }
@@ -359,7 +360,7 @@ impl Pruned {
     fn revalued_root(&self, key: &[u8], value: &[u8]) -> Digest32
         requires keys { KeysFit self.now }
         requires fits { IsKey key.now }
-        requires value { length value.now < 65 }
+        requires value { length value.now ≤ LONGEST_VALUE }
         ensures { result.bytes ≡ root_of (tree_with_value key.now value.now (part self.now)) }
     {
         match self {
@@ -381,7 +382,7 @@ impl Pruned {
     fn forked_root(&self, index: u16, key: &[u8], value: &[u8]) -> Digest32
         requires keys { KeysFit self.now }
         requires fits { IsKey key.now }
-        requires value { length value.now < 65 }
+        requires value { length value.now ≤ LONGEST_VALUE }
         ensures { result.bytes ≡ root_of (fork_of index key.now value.now (part self.now)) }
     {
         let old = self.node_root();
@@ -396,7 +397,7 @@ impl Pruned {
     fn planted_root(&self, index: u16, key: &[u8], value: &[u8]) -> Digest32
         requires keys { KeysFit self.now }
         requires fits { IsKey key.now }
-        requires value { length value.now < 65 }
+        requires value { length value.now ≤ LONGEST_VALUE }
         ensures { result.bytes ≡ root_of (tree_with_fork index key.now value.now (part self.now)) }
     {
         match self {
@@ -455,7 +456,7 @@ impl Pruned {
     #[tactic(auto, using(vic_tree::proofs::Grammar::part_fits))]
     fn list(&self, alloc: Global, prefix: &Bytes) -> Result<Answer, PruneFault>
         requires part { IsPart (part self.now) }
-        requires fits { length prefix.now < 256 }
+        requires fits { length prefix.now ≤ LONGEST_KEY }
         ensures answer { IfOk result (λ a. a ≡ reply (walked (part self.now) (Op.List prefix.now)) (Op.List prefix.now)) }
         ensures reached { IfOk result (λ a. reaches (part self.now) (Op.List prefix.now) ≡ true) }
         ensures stub { (result ≡ Err PruneFault.Stub) ↔ (reaches (part self.now) (Op.List prefix.now) ≡ false) }
@@ -543,7 +544,7 @@ impl Pruned {
     fn put_root(&self, key: &[u8], value: &[u8]) -> Digest32
         requires keys { KeysFit self.now }
         requires fits { IsKey key.now }
-        requires value { length value.now < 65 }
+        requires value { length value.now ≤ LONGEST_VALUE }
         ensures root { is_stub (end_at key.now (part self.now)) ≡ false → result.bytes ≡ root_of (put_in key.now value.now (part self.now)) }
         ensures bytes { AreBytes key.now }
     {

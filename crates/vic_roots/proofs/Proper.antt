@@ -1,5 +1,5 @@
 -- Proper dictionaries stay proper.
-use Rattle.std.proofs.Common.{inl, inr, ℕ, ◌<◌, List, length, sym, subst}
+use Rattle.std.proofs.Common.{◌≤◌, inl, inr, ℕ, ◌<◌, List, length, sym, subst}
 use Rattle.std.specs.FinMap as map
 use Rattle.vic_dict.specs.declared.op.Op.{Op}
 use Rattle.vic_dict.specs.declared.op.Op.TheVariants as op
@@ -14,7 +14,7 @@ proper-nothing k v e = absurd (none_in-nothing k v e)
 
 -- the words of `IsProper` at one pair
 abbrev pub IsProperPair : List ℕ → List ℕ → Type 0
-IsProperPair k v = (IsKey k × AreBytes k) × ((length v < 65) × AreBytes v)
+IsProperPair k v = (IsKey k × AreBytes k) × ((length v ≤ 64) × AreBytes v)
 
 -- a dictionary stays proper where a proper pair is put
 pub proper-insert : (d : Dictionary) (k v : List ℕ) → IsProper d → IsProperPair k v → IsProper (map.insert d k v)

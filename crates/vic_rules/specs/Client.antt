@@ -2,6 +2,7 @@
 use Rattle.std.specs.Prelude.{◌≡◌, ℕ, ◌+◌, ◌-◌, ◌<◌, ◌^◌, Bool, true, false, not, ◌&&◌, ◌||◌, List, [], ◌∷◌, ◌++◌, length, Option, Some, None, is_some, is_none, nat_eq, nat_lt, nat_le, if◌then◌else◌, IsTrue}
 use Rattle.std.specs.List.{list_all, filter, fold}
 use Rattle.std.specs.Str.{bytes_eq}
+use Rattle.vic_dict.specs.declared.limits.TheConstants.{MOST_ENTRIES, MOST_UNSEALED}
 use Rattle.vic_dict.specs.declared.op.Op.{Op}
 use Rattle.vic_dict.specs.declared.op.Op.TheVariants as op
 use Rattle.vic_dict.specs.declared.op.Outcome.{Outcome}
@@ -23,6 +24,7 @@ use Rattle.vic_wire.specs.Conflict.{conflicts}
 use Rattle.vic_wire.specs.Messages.{request_text}
 use Rattle.vic_wire.specs.Reading.{read_answer}
 use Rattle.vic_dict.specs.declared.op.Answer.TheVariants as answer
+use Rattle.vic_rules.specs.declared.check.TheConstants.{FORM, MEMBERS, INVOKE_TAG, BASE_BACK, SEAL_TAG, OWN_UNSETTLED, PROOF, TURN, CONTENT}
 use Rattle.vic_rules.specs.declared.object.ObjectCall.{ObjectCall}
 use Rattle.vic_rules.specs.declared.object.ObjectCall.TheVariants as object
 use Rattle.vic_rules.specs.declared.object.ObjectOutcome.{ObjectOutcome}
@@ -132,16 +134,16 @@ is_awaited (awaits.Content hash len) (say.Content c) = true
 is_awaited (awaits.Content hash len) say.Absent = true
 is_awaited _ _ = false
 
--- 1: the kind is awaited, the part is one, and the lengths are within the limits
+-- FORM: the kind is awaited, the part is one, and the lengths are within the limits
 abbrev pub has_form : Standing → ToClient → Bool
 has_form s (say.Reply seal entries part) =
     let n = length s.path + length entries in
-    is_awaited s.awaiting (say.Reply seal entries part) && (is_some (read_part part) && (nat_le n 1048576 && (nat_lt seal.position n && nat_le (n - seal.position) 1024)))
+    is_awaited s.awaiting (say.Reply seal entries part) && (is_some (read_part part) && (nat_le n MOST_ENTRIES && (nat_lt seal.position n && nat_le (n - seal.position) MOST_UNSEALED)))
 has_form s (say.Update seal part) =
-    is_awaited s.awaiting (say.Update seal part) && (is_some (read_part part) && (nat_le (length s.path) 1048576 && nat_le seal.position (length s.path)))
+    is_awaited s.awaiting (say.Update seal part) && (is_some (read_part part) && (nat_le (length s.path) MOST_ENTRIES && nat_le seal.position (length s.path)))
 has_form s (say.Entries seal entries) =
     let n = length s.path + length entries in
-    is_awaited s.awaiting (say.Entries seal entries) && (nat_le n 1048576 && (nat_le seal.position n && nat_le (n - seal.position) 1024))
+    is_awaited s.awaiting (say.Entries seal entries) && (nat_le n MOST_ENTRIES && (nat_le seal.position n && nat_le (n - seal.position) MOST_UNSEALED))
 has_form s m = is_awaited s.awaiting m
 
 -- the entry that the client awaits a Reply to
@@ -156,7 +158,7 @@ abbrev pub is_reply_to : ℕ → ℕ → Awaiting → List Entry → Bool
 is_reply_to count me a [] = false
 is_reply_to count me a (e ∷ others) = nat_le e.client count && (is_open me a e && list_all (is_other count me) others)
 
--- 2: the last entry of a Reply is the open call, and every other entry is another member's
+-- MEMBERS: the last entry of a Reply is the open call, and every other entry is another member's
 abbrev pub has_members : Group → ℕ → Standing → ToClient → Bool
 has_members g me s (say.Reply seal entries part) = is_reply_to g.count me s.awaiting (newest_first entries)
 has_members g me s (say.Entries seal entries) = list_all (is_other g.count me) (newest_first entries)
@@ -176,11 +178,11 @@ seal_of (say.Update seal part) = Some seal
 seal_of (say.Entries seal entries) = Some seal
 seal_of m = None
 
--- 3: the tag of each entry holds
+-- INVOKE_TAG: the tag of each entry holds
 abbrev pub has_tags : Group → ToClient → Bool
 has_tags g m = list_all (is_tagged g.key) (entries_of m)
 
--- 4: the seal isn't older than the highest one
+-- BASE_BACK: the seal isn't older than the highest one
 abbrev pub is_not_older : Standing → Option Seal → Bool
 is_not_older s None = true
 is_not_older s (Some seal) = nat_le s.sealed seal.position
@@ -189,12 +191,12 @@ is_not_older s (Some seal) = nat_le s.sealed seal.position
 unfoldable pub seal_text_on : Group → List Entry → ℕ → List ℕ → List ℕ
 seal_text_on g path position root = seal_text position (chain g (front position path)) root
 
--- 5: the tag of the seal holds on this client's path
+-- SEAL_TAG: the tag of the seal holds on this client's path
 abbrev pub is_sealed : Group → List Entry → Option Seal → Bool
 is_sealed g path None = true
 is_sealed g path (Some seal) = nat_eq seal.position 0 || bytes_eq seal.tag.bytes (tag_of g.key (seal_text_on g path seal.position seal.root.bytes))
 
--- 6: no own unsealed call stands at or below the seal
+-- OWN_UNSETTLED: no own unsealed call stands at or below the seal
 abbrev pub keeps_own : Standing → Option Seal → Bool
 keeps_own s None = true
 keeps_own s (Some seal) = list_all (λ o. nat_lt seal.position o.position) s.own
@@ -215,7 +217,7 @@ abbrev pub has_own_op : Option Part → List Own → Bool
 has_own_op part [] = true
 has_own_op part (o ∷ others) = not (o.done && is_write o.op) || has_walk part o.op
 
--- 7: the part has the seal's root, and shows what the operation walks over
+-- PROOF: the part has the seal's root, and shows what the operation walks over
 abbrev pub is_proved : Standing → ToClient → Bool
 is_proved s (say.Reply seal entries part) = has_root (read_part part) seal.root.bytes && has_open_op (read_part part) s.awaiting
 is_proved s (say.Update seal part) = has_root (read_part part) seal.root.bytes && has_own_op (read_part part) s.own
@@ -225,7 +227,7 @@ abbrev pub is_next : ℕ → List Own → Bool
 is_next position [] = false
 is_next position (o ∷ others) = nat_eq o.position position
 
--- 8: in an Update the first own unsealed call stands just above the seal
+-- TURN: in an Update the first own unsealed call stands just above the seal
 abbrev pub has_turn : Standing → ToClient → Bool
 has_turn s (say.Update seal part) = is_next (seal.position + 1) s.own
 has_turn s m = true
@@ -243,7 +245,7 @@ abbrev pub is_wanted : Awaiting → List ℕ → Bool
 is_wanted (awaits.Content h len) c = is_content_of h.bytes len c
 is_wanted _ c = false
 
--- 9: what a load found is a reference, and the content is the one that it names
+-- CONTENT: what a load found is a reference, and the content is the one that it names
 abbrev pub has_content : ℕ → Standing → ToClient → Bool
 has_content me s (say.Reply seal entries part) = loads_reference me s seal (path_with_entries s entries) (read_part part) s.awaiting
 has_content me s (say.Content c) = is_wanted s.awaiting c
@@ -256,11 +258,11 @@ first_failing [] = None
 first_failing (c ∷ cs) = if c.1 then first_failing cs else Some c.0
 
 abbrev pub verdict_on : Group → ℕ → Standing → Option ToClient → Option ℕ
-verdict_on g me s None = Some 1
+verdict_on g me s None = Some FORM
 verdict_on g me s (Some m) = first_failing (
-    (1, has_form s m) ∷ (2, has_members g me s m) ∷ (3, has_tags g m) ∷ (4, is_not_older s (seal_of m))
-    ∷ (5, is_sealed g (path_with_entries s (entries_of m)) (seal_of m)) ∷ (6, keeps_own s (seal_of m))
-    ∷ (7, is_proved s m) ∷ (8, has_turn s m) ∷ (9, has_content me s m) ∷ [])
+    (FORM, has_form s m) ∷ (MEMBERS, has_members g me s m) ∷ (INVOKE_TAG, has_tags g m) ∷ (BASE_BACK, is_not_older s (seal_of m))
+    ∷ (SEAL_TAG, is_sealed g (path_with_entries s (entries_of m)) (seal_of m)) ∷ (OWN_UNSETTLED, keeps_own s (seal_of m))
+    ∷ (PROOF, is_proved s m) ∷ (TURN, has_turn s m) ∷ (CONTENT, has_content me s m) ∷ [])
 
 -- the check at which the client halts on a payload, if it doesn't pass
 unfoldable pub verdict : Group → ℕ → Standing → List ℕ → Option ℕ

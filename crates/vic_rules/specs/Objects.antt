@@ -2,6 +2,7 @@
 use Rattle.std.specs.Prelude.{ℕ, ◌≤◌, Bool, true, false, ◌&&◌, List, ◌++◌, length, take, drop, Option, Some, None, nat_eq, if◌then◌else◌}
 use Rattle.std.specs.Int.{w32, to_be_bytes, from_be_bytes}
 use Rattle.std.specs.Str.{bytes_eq}
+use Rattle.vic_dict.specs.declared.limits.TheConstants.{LONGEST_CONTENT, LONGEST_KEY}
 use Rattle.vic_dict.specs.Lists.{AreBytes}
 use Rattle.vic_dict.specs.Dictionary.{IsKey}
 use Rattle.vic_dict.specs.declared.op.Op.{Op}
@@ -23,10 +24,10 @@ use Rattle.vic_rules.specs.declared.object.Next.TheVariants as next
 
 -- the texts of a call on objects are within the limits, and their numbers are bytes
 abbrev pub FitsObject : ObjectCall → Type 0
-FitsObject (object.Store k c) = IsKey k × (length c ≤ 8388608)
+FitsObject (object.Store k c) = IsKey k × (length c ≤ LONGEST_CONTENT)
 FitsObject (object.Load k) = IsKey k
 FitsObject (object.Erase k) = IsKey k
-FitsObject (object.Names p) = length p ≤ 255
+FitsObject (object.Names p) = length p ≤ LONGEST_KEY
 
 abbrev pub AreBytesInObject : ObjectCall → Type 0
 AreBytesInObject (object.Store k c) = AreBytes k × AreBytes c

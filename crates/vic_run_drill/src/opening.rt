@@ -1,6 +1,7 @@
 //! The clients with which a drill opens, and its key.
 
 ghost use Rattle.std.specs.Prelude.{◌≡◌, ◌<◌, ◌≤◌, ◌+◌, ℕ, Some, [], length, replicate, slice_get, IfOk};
+ghost use Rattle.vic_dict.specs.declared.limits.TheConstants.{MOST_CLIENTS};
 ghost use Rattle.vic_drill.specs.Drills.{drill_group};
 ghost use Rattle.vic_run_drill.specs.declared.seat.Seat.{Seat as ASeat};
 ghost use Rattle.vic_run_drill.specs.Running.{SeatStands, HaveComeIn};
@@ -28,7 +29,7 @@ fn zero_key(alloc: Global) -> Result<GroupKey, NoMemory>
 fn entered(alloc: Global, id: u8, count: u8) -> Result<Seat, NoMemory>
     requires some { 0 < id }
     requires member { id ≤ count }
-    requires few { count ≤ 64 }
+    requires few { count ≤ MOST_CLIENTS }
     ensures nothing { IfOk result (λ m. m.under_way ≡ UnderWay.Nothing) }
     ensures stands { IfOk result (λ m. SeatStands (drill_group count) [] m id) }
 {
@@ -41,7 +42,7 @@ fn entered(alloc: Global, id: u8, count: u8) -> Result<Seat, NoMemory>
 
 /// So many clients of one group, with their numbers in order.
 pub fn entered_all(alloc: Global, count: u8) -> Result<Vec<Seat>, NoMemory>
-    requires few { count ≤ 64 }
+    requires few { count ≤ MOST_CLIENTS }
     ensures { IfOk result (λ ms. HaveComeIn count count ms.items) }
 {
     let mut made = Vec::new(alloc);

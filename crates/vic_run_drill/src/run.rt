@@ -1,6 +1,7 @@
 //! The run of a drill, and its summary.
 
 ghost use Rattle.std.specs.Prelude.{◌≡◌, ◌<◌, ◌≤◌, ◌+◌, ◌^◌, ◌++◌, ℕ, false, length, IfOk, OnOk};
+ghost use Rattle.vic_dict.specs.declared.limits.TheConstants.{MOST_CLIENTS};
 ghost use Rattle.vic_drill.specs.Drills.{DrillState, drill_at_start, waits_for, drill_after_next_act, drill_after_turn, drill_after_turn_below, drill_after_repeats, first_waiting, drill_after_closing, most_turns as most_turns_by, most_events as most_events_by, drill_of, line, print_of_drill};
 ghost use Rattle.vic_drill.specs.Laws.{IsHonestDrill};
 ghost use Rattle.vic_run_drill.specs.Running.{calls_of, summary_lines};
@@ -53,11 +54,12 @@ fn put_line(out: &mut Bytes, alloc: Global, name: &[u8], number: u64) -> Result<
 
 impl Drill {
     ghost use Rattle.vic_run_drill.specs.Running.{Stands, WentOn, Closes, IsGoing, IsAtRest};
+    ghost use Rattle.vic_dict.specs.declared.limits.TheConstants.{MOST_CLIENTS};
 
     /// A drill that begins: all clients have come in, and nothing has happened.
     fn begun(alloc: Global, number: u32, clients: u8) -> Result<Drill, NoMemory>
         requires some { 0 < clients }
-        requires few { clients ≤ 64 }
+        requires few { clients ≤ MOST_CLIENTS }
         ensures { IfOk result (λ r. Stands r (drill_at_start number clients) 0) }
     {
         Ok(Drill {
@@ -213,7 +215,7 @@ fn calls_in(act: &Act) -> u32
 /// the one serving or the one step costs; each event of the closing phase a look at each client as well.
 pub fn summary_of(alloc: Global, number: u32, clients: u8, calls: u32) -> Result<Bytes, NoMemory>
     requires some { 0 < clients }
-    requires few { clients ≤ 64 }
+    requires few { clients ≤ MOST_CLIENTS }
     requires bound { calls ≤ 100000 }
     ensures text { IfOk result (λ text. text ≡ print_of_drill number clients calls) }
     ensures honest { IsHonestDrill (drill_of number clients calls) }

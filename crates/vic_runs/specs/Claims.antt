@@ -1,6 +1,7 @@
 -- The laws of scripts, one by one.
 use Rattle.std.specs.Prelude.{◌≡◌, ℕ, ◌<◌, ◌≤◌, ◌↔◌, true, false, List, [], ◌∷◌, ◌++◌, reverse, Some, IsSome}
 use Rattle.std.specs.List.{flat_map}
+use Rattle.vic_dict.specs.declared.limits.TheConstants.{MOST_CLIENTS}
 use Rattle.vic_dict.specs.Lists.{IsIn, AreBytes}
 use Rattle.vic_dict.specs.Dictionary.{Fits, AreBytesIn}
 use Rattle.vic_wire.specs.Hashes.{Group}
@@ -29,8 +30,8 @@ use Rattle.vic_runs.specs.Reached.{GoesAs}
 -- the texts of a call are within their lengths and are bytes, a group has 1 to 64 clients, its key is spelled by as many digits as it
 -- may have, a server misbehaves in a way that has a name, after at most 1,000,000 requests, and a payload is bytes
 abbrev pub FitsLine : Line → Type 0
-FitsLine (line.Clients n) = (0 < n) × (n ≤ 64)
-FitsLine (line.Objects n) = (0 < n) × (n ≤ 64)
+FitsLine (line.Clients n) = (0 < n) × (n ≤ MOST_CLIENTS)
+FitsLine (line.Objects n) = (0 < n) × (n ≤ MOST_CLIENTS)
 FitsLine (line.Key digits) = is_key_digits digits ≡ true
 FitsLine (line.Hostile name n) = IsSome (kind_named name) × (n ≤ 1000000)
 FitsLine (line.Call i o) = Fits o × AreBytesIn o

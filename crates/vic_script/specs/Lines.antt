@@ -3,6 +3,7 @@ use Rattle.std.specs.Prelude.{ℕ, ◌%◌, Bool, true, ◌&&◌, List, [], ◌�
 use Rattle.std.specs.List.{list_all, starts_with}
 use Rattle.std.specs.Str.{bytes_eq}
 use Rattle.hex.specs.Hex.{is_hex_digit}
+use Rattle.vic_dict.specs.declared.limits.TheConstants.{LONGEST_CONTENT, LONGEST_KEY, LONGEST_VALUE, MOST_CLIENTS}
 use Rattle.vic_dict.specs.declared.op.Op.{Op}
 use Rattle.vic_dict.specs.declared.op.Op.TheVariants as op
 use Rattle.vic_dict.specs.declared.op.Mode.{Mode}
@@ -36,13 +37,13 @@ word_within least most None = None
 word_within least most (Some bytes) = if nat_le least (length bytes) && nat_le (length bytes) most then Some bytes else None
 
 abbrev pub key_of : List ℕ → Option (List ℕ)
-key_of word = word_within 1 255 (word_bytes word)
+key_of word = word_within 1 LONGEST_KEY (word_bytes word)
 
 abbrev pub value_of : List ℕ → Option (List ℕ)
-value_of word = word_within 0 64 (word_bytes word)
+value_of word = word_within 0 LONGEST_VALUE (word_bytes word)
 
 abbrev pub prefix_of : List ℕ → Option (List ℕ)
-prefix_of word = word_within 0 255 (word_bytes word)
+prefix_of word = word_within 0 LONGEST_KEY (word_bytes word)
 
 abbrev pub put_of : Option (List ℕ) → Option (List ℕ) → Option Op
 put_of (Some k) (Some v) = Some (op.Put k v)
@@ -67,7 +68,7 @@ call_of None o = None
 -- a header's first line, of a group with so many clients
 abbrev pub group_line : (ℕ → Line) → Option ℕ → Option Line
 group_line make None = None
-group_line make (Some n) = if nat_lt 0 n && nat_le n 64 then Some (make n) else None
+group_line make (Some n) = if nat_lt 0 n && nat_le n MOST_CLIENTS then Some (make n) else None
 
 -- ---- calls on objects
 
@@ -77,12 +78,12 @@ at_most most (Some n) = if nat_le n most then Some n else None
 
 -- so many zero bytes
 abbrev pub zeros_of : List ℕ → Option (List ℕ)
-zeros_of digits = option_map (λ n. replicate n 0) (at_most 8388608 (word_number digits))
+zeros_of digits = option_map (λ n. replicate n 0) (at_most LONGEST_CONTENT (word_number digits))
 
 -- a content: so many zero bytes, or a byte word
 abbrev pub content_of : List ℕ → Option (List ℕ)
 content_of word =
-    if starts_with nat_eq word (codes "zeros:") then zeros_of (drop 6 word) else word_within 0 8388608 (word_bytes word)
+    if starts_with nat_eq word (codes "zeros:") then zeros_of (drop 6 word) else word_within 0 LONGEST_CONTENT (word_bytes word)
 
 abbrev pub store_of : Option (List ℕ) → Option (List ℕ) → Option ObjectCall
 store_of (Some k) (Some c) = Some (object.Store k c)

@@ -3,6 +3,7 @@ use Rattle.std.specs.Prelude.{ℕ, ◌+◌, Bool, true, ◌&&◌, List, [], ◌�
 use Rattle.std.specs.List.{list_all}
 use Rattle.std.specs.Result.{result_ok}
 use Rattle.hex.specs.Hex.{decode_of}
+use Rattle.vic_dict.specs.declared.limits.TheConstants.{LONGEST_SCRIPT}
 use Rattle.vic_dict.specs.declared.op.Mode.{Mode}
 use Rattle.vic_dict.specs.declared.op.Mode.TheVariants as mode
 use Rattle.vic_wire.specs.Hashes.{Group}
@@ -19,7 +20,7 @@ use Rattle.vic_script.specs.Scenes.{PrintedSceneOf, done_line, bad_kind, is_hone
 
 -- the most bytes that a script may have
 abbrev pub script_limit : ℕ
-script_limit = 16777216
+script_limit = LONGEST_SCRIPT
 
 -- a bad line: its number, from 1 on, and its kind
 pub record Bad : Type 0 where

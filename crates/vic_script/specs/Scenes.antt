@@ -1,6 +1,7 @@
 -- What the lines of a script do, and what is printed of it.
 use Rattle.std.specs.Prelude.{ℕ, zero, suc, Bool, true, false, ◌&&◌, List, [], ◌∷◌, ◌++◌, length, Option, Some, None, is_none, is_some, nat_eq, nat_lt, nat_le, if◌then◌else◌, codes}
 use Rattle.std.specs.Fmt.{decimal}
+use Rattle.vic_dict.specs.declared.limits.TheConstants.{LONGEST_CONTENT, LONGEST_KEY, LONGEST_VALUE}
 use Rattle.vic_dict.specs.declared.op.Op.{Op}
 use Rattle.vic_dict.specs.declared.op.Op.TheVariants as op
 use Rattle.vic_dict.specs.declared.op.Mode.TheVariants as mode
@@ -110,24 +111,24 @@ done_line rule s l = printed_scene_after rule s (events_of rule s l)
 
 -- a key has 1 to 255 bytes
 abbrev pub is_key : List ℕ → Bool
-is_key k = nat_lt 0 (length k) && nat_le (length k) 255
+is_key k = nat_lt 0 (length k) && nat_le (length k) LONGEST_KEY
 
 -- the lengths of an operation's texts are within the limits: keys as above, a value of at most 64 bytes, a prefix of at most 255
 abbrev pub fits_op : Op → Bool
-fits_op (op.Put k v) = is_key k && nat_le (length v) 64
+fits_op (op.Put k v) = is_key k && nat_le (length v) LONGEST_VALUE
 fits_op (op.Get k) = is_key k
 fits_op (op.Del k) = is_key k
-fits_op (op.List p) = nat_le (length p) 255
+fits_op (op.List p) = nat_le (length p) LONGEST_KEY
 
 -- of a call: the group has no objects, and the operation is within its lengths
 abbrev pub is_plain_call : {V : Type 0} → SceneOf V → Op → Bool
 is_plain_call s o = same_mode s.group.mode mode.Plain && fits_op o
 
 abbrev pub fits_object : ObjectCall → Bool
-fits_object (object.Store k c) = is_key k && nat_le (length c) 8388608
+fits_object (object.Store k c) = is_key k && nat_le (length c) LONGEST_CONTENT
 fits_object (object.Load k) = is_key k
 fits_object (object.Erase k) = is_key k
-fits_object (object.Names p) = nat_le (length p) 255
+fits_object (object.Names p) = nat_le (length p) LONGEST_KEY
 
 -- of a call on objects: the group has objects, and the texts are within the limits
 abbrev pub is_object_call : {V : Type 0} → SceneOf V → ObjectCall → Bool

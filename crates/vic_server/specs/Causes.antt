@@ -1,5 +1,6 @@
 -- The causes of the server's answers, each by a condition of its own on the request that a payload spells, if it spells one.
 use Rattle.std.specs.Prelude.{◌≡◌, ℕ, ◌+◌, ◌-◌, ◌<◌, ◌≤◌, ◌↔◌, Bool, List, length, Option, Some, None}
+use Rattle.vic_dict.specs.declared.limits.TheConstants.{MOST_ENTRIES, MOST_TOLD, MOST_UNSEALED, MOST_WEIGHT}
 use Rattle.vic_dict.specs.declared.op.Op.{Op}
 use Rattle.vic_dict.specs.declared.op.Op.TheVariants as op
 use Rattle.vic_dict.specs.declared.op.Mode.{Mode}
@@ -74,10 +75,10 @@ IsNoMember s who (Some m) = HasComeIn s who → ⊥
 
 -- the log is full; as many entries aren't sealed as may be
 abbrev pub IsLogFull : Server → Type 0
-IsLogFull s = size s ≡ 1048576
+IsLogFull s = size s ≡ MOST_ENTRIES
 
 abbrev pub IsPendingFull : Server → Type 0
-IsPendingFull s = size s - sealed_count s ≡ 1024
+IsPendingFull s = size s - sealed_count s ≡ MOST_UNSEALED
 
 -- with this put the weight would be too large
 abbrev pub IsPut : Op → Type 0
@@ -85,11 +86,11 @@ IsPut (op.Put k v) = Unit {0}
 IsPut _ = ⊥
 
 abbrev pub IsTooHeavy : Server → Op → Type 0
-IsTooHeavy s o = IsPut o × (8388608 < weight s + op_weight o)
+IsTooHeavy s o = IsPut o × (MOST_WEIGHT < weight s + op_weight o)
 
 -- a client that knows so many entries would be told too many
 abbrev pub IsTooFar : Server → ℕ → Type 0
-IsTooFar s known = 8192 < size s + 1 - known
+IsTooFar s known = MOST_TOLD < size s + 1 - known
 
 -- the request is a call of a client that has come in, in its order, and of what it knows and its operation this holds
 abbrev pub OfCall : Server → ℕ → Option ToServer → (ℕ → Op → Type 0) → Type 0

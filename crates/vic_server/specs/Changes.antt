@@ -1,5 +1,6 @@
 -- What a request changes, once it was accepted.
 use Rattle.std.specs.Prelude.{◌≡◌, ℕ, ◌+◌, ◌<◌, ◌≤◌, ◌∷◌, length, Some, None, Bool, true, false}
+use Rattle.vic_dict.specs.declared.limits.TheConstants.{LONGEST_CONTENT, MOST_ENTRIES, MOST_WEIGHT}
 use Rattle.vic_wire.specs.declared.message.ToClient.TheVariants as say
 use Rattle.vic_wire.specs.Messages.{HasSpelling, IsSeal}
 use Rattle.vic_bounds.specs.Bounds.{HasShortPart}
@@ -38,10 +39,10 @@ IsSeat s who = (0 < who) × (who ≤ length s.members)
 abbrev pub IsPossible : Server → Change → Type 0
 IsPossible s change.Nothing = Unit {0}
 IsPossible s (change.Enters client) = IsSeat s client
-IsPossible s (change.Orders who row) = IsSeat s who × ((size s < 1048576) × (weight s + op_weight row.entry.op ≤ 8388608))
+IsPossible s (change.Orders who row) = IsSeat s who × ((size s < MOST_ENTRIES) × (weight s + op_weight row.entry.op ≤ MOST_WEIGHT))
 IsPossible s (change.Commits who position done tag) = IsSeat s who × ((0 < position) × (position ≤ size s))
 IsPossible s (change.Seals seal done) = (seal.position ≡ sealed_count s + 1) × ((seal.position ≤ size s) × ((commit_at s seal.position ≡ Some done) × IsSeal seal))
-IsPossible s (change.Keeps hash content) = (hash.bytes ≡ content_hash content) × ((kept_under s.contents hash.bytes ≡ None) × (IsRoom s.contents content × (length content ≤ 8388608)))
+IsPossible s (change.Keeps hash content) = (hash.bytes ≡ content_hash content) × ((kept_under s.contents hash.bytes ≡ None) × (IsRoom s.contents content × (length content ≤ LONGEST_CONTENT)))
 IsPossible s (change.Leaves who) = IsSeat s who
 
 -- a plan is what the rule says: the server that it leaves, and the answer, which has a spelling

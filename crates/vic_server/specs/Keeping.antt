@@ -2,6 +2,7 @@
 use Rattle.std.specs.Prelude.{◌≡◌, ℕ, suc, ◌<◌, ◌≤◌, ◌+◌, ◌-◌, Bool, not, ◌&&◌, ◌||◌, List, [], ◌∷◌, length, reverse, Option, Some, None, nat_eq, nat_lt, nat_le, slice_get, if◌then◌else◌}
 use Rattle.std.specs.List.{sum_by, AllByRecursion}
 use Rattle.std.specs.FinMap as map
+use Rattle.vic_dict.specs.declared.limits.TheConstants.{MOST_CLIENTS, MOST_ENTRIES, MOST_TOLD, MOST_UNSEALED, MOST_WEIGHT}
 use Rattle.vic_dict.specs.declared.op.Op.{Op}
 use Rattle.vic_dict.specs.declared.op.Op.TheVariants as op
 use Rattle.std.specs.Coded.{Coded}
@@ -52,14 +53,14 @@ weight_freed d (op.List p) = 0
 
 -- what a server in memory keeps true
 pub record IsSound (rows : List Ordered) (commits : List Committed) (index : List (Option Bool)) (seals : List Seal) (d : Dictionary) (members : List Member) (counted : ℕ) : Type 0 where
-  pub room : length rows ≤ 1048576
+  pub room : length rows ≤ MOST_ENTRIES
   pub sealed : length seals ≤ length rows
   pub indexed : length rows ≤ length index
   pub statuses : (place : ℕ) → commit_in (reverse commits) (suc place) ≡ status_in index place
-  pub count : (0 < length members) × (length members ≤ 64)
+  pub count : (0 < length members) × (length members ≤ MOST_CLIENTS)
   pub stages : AreWithin (length rows) members
   pub weight : counted ≡ pairs_weight d + unsealed_weight (length seals) (reverse rows)
-  pub light : counted ≤ 8388608
+  pub light : counted ≤ MOST_WEIGHT
 
 -- the turn, from the seal below it, the sealed dictionary, and the first entry that isn't sealed with its commit
 abbrev pub turn_from : Seal → Dictionary → ℕ → Option Ordered → Option Bool → ToClient
@@ -70,17 +71,17 @@ turn_from seal d who o status = say.Wait
 abbrev pub invoke_tests : Server → ℕ → ℕ → ℕ → Op → List (ℕ × Bool)
 invoke_tests s who known seq o =
     (5, is_ready (member s who).stage && (nat_lt (member s who).last seq && nat_le known (size s)))
-    ∷ (4, not (nat_eq (size s) 1048576))
-    ∷ (2, not (nat_eq (size s - sealed_count s) 1024))
-    ∷ (3, not (is_put o) || nat_le (weight s + op_weight o) 8388608)
-    ∷ (1, nat_le (size s + 1 - known) 8192) ∷ []
+    ∷ (4, not (nat_eq (size s) MOST_ENTRIES))
+    ∷ (2, not (nat_eq (size s - sealed_count s) MOST_UNSEALED))
+    ∷ (3, not (is_put o) || nat_le (weight s + op_weight o) MOST_WEIGHT)
+    ∷ (1, nat_le (size s + 1 - known) MOST_TOLD) ∷ []
 
 -- an Invoke that passes them
 pub record IsAllowed (s : Server) (from : ℕ) (o : Op) : Type 0 where
   pub known : from ≤ size s
-  pub room : size s < 1048576
-  pub light : weight s + op_weight o ≤ 8388608
-  pub near : size s + 1 ≤ from + 8192
+  pub room : size s < MOST_ENTRIES
+  pub light : weight s + op_weight o ≤ MOST_WEIGHT
+  pub near : size s + 1 ≤ from + MOST_TOLD
 
 -- dictionaries as data
 abbrev pub dictionary_code : Coded Dictionary

@@ -5,6 +5,7 @@ ghost use Rattle.std.specs.Prelude.{map as map_list};
 ghost use Rattle.std.specs.Option.{option_map};
 ghost use Rattle.std.specs.List.{AllByRecursion, sum_by};
 ghost use Rattle.std.specs.FinMap as map;
+ghost use Rattle.vic_dict.specs.declared.limits.TheConstants.{LONGEST_CONTENT, MOST_CLIENTS, MOST_CONTENTS, MOST_CONTENT_BYTES, MOST_ENTRIES, MOST_WEIGHT};
 ghost use Rattle.vic_dict.specs.Lists.{front};
 ghost use Rattle.vic_dict.specs.Dictionary.{Fits, after};
 ghost use Rattle.vic_wire.specs.Messages.{IsSeal, IsTagged, HasSpelling};
@@ -97,7 +98,7 @@ pub(crate) fn is_write(op: &Op) -> bool
 /// The part that an Update carries.
 fn part_of_update(alloc: Global, dictionary: &Trie, op: &Op, done: bool) -> Result<Bytes, NoMemory>
     requires fits { Fits op.now }
-    requires light { pairs_weight dictionary.now ≤ 8388608 }
+    requires light { pairs_weight dictionary.now ≤ MOST_WEIGHT }
     ensures is { IfOk result (λ b. b ≡ update_part dictionary.now op.now done) }
     ensures short { IfOk result (λ b. length b ≤ LONGEST_PART) }
 {
@@ -116,7 +117,7 @@ fn turn_of(
     row: Option<&Row>,
     status: Option<bool>,
 ) -> Result<ToClient, NoMemory>
-    requires light { pairs_weight dictionary.now ≤ 8388608 }
+    requires light { pairs_weight dictionary.now ≤ MOST_WEIGHT }
     requires seal { IsSeal seal }
     ensures is { IfOk result (λ a. a ≡ turn_from seal dictionary.now who (option_copied row.entry) status) }
     ensures spelled { IfOk result (λ a. HasSpelling a) }
@@ -145,7 +146,7 @@ fn turn_over(
     status: bool,
 ) -> Result<ToClient, NoMemory>
     requires fits { Fits op.now }
-    requires light { pairs_weight dictionary.old + op_weight op.now ≤ 8388608 }
+    requires light { pairs_weight dictionary.old + op_weight op.now ≤ MOST_WEIGHT }
     requires seal { IsSeal seal }
     ensures is { IfOk result (λ a. a ≡ turn_from seal (if done then after dictionary.old op.now else dictionary.old) who (Some row.now) (Some status)) }
     ensures spelled { IfOk result (λ a. HasSpelling a) }
@@ -188,7 +189,7 @@ pub(crate) fn op_weight(op: &Op) -> u64
 /// Does a put or del.
 fn change(dictionary: &mut Trie, op: &Op) -> Result<(), NoMemory>
     requires fits { Fits op.now }
-    requires light { pairs_weight dictionary.old ≤ 8388608 }
+    requires light { pairs_weight dictionary.old ≤ MOST_WEIGHT }
     ensures after { OnOk result (dictionary.new ≡ after dictionary.old op.now) }
     ensures weighs { OnOk result (pairs_weight dictionary.new ≤ pairs_weight dictionary.old + op_weight op.now) }
     ensures err { OnErr result (dictionary.new ≡ dictionary.old) }
@@ -206,7 +207,7 @@ fn change(dictionary: &mut Trie, op: &Op) -> Result<(), NoMemory>
 /// Applies an entry to the sealed dictionary where it was done, and tells what the weight loses by that.
 fn apply(dictionary: &mut Trie, op: &Op, done: bool) -> Result<u64, NoMemory>
     requires fits { Fits op.now }
-    requires light { pairs_weight dictionary.old ≤ 8388608 }
+    requires light { pairs_weight dictionary.old ≤ MOST_WEIGHT }
     ensures after { OnOk result (dictionary.new ≡ (if done then after dictionary.old op.now else dictionary.old)) }
     ensures freed { IfOk result (λ n. pairs_weight dictionary.new + n ≡ pairs_weight dictionary.old + op_weight op.now) }
     ensures err { OnErr result (dictionary.new ≡ dictionary.old) }
@@ -284,7 +285,7 @@ fn seats(alloc: Global, count: u8, stage: Stage) -> Result<Vec<Seat>, NoMemory>
 
 impl Machine {
     fn fresh(alloc: Global, mode: Mode, count: u8, stage: Stage) -> Result<Machine, NoMemory>
-        requires count { (0 < count) × (count ≤ 64) }
+        requires count { (0 < count) × (count ≤ MOST_CLIENTS) }
         requires stage { IsWithin 0 stage }
         ensures { IfOk result (λ s. s ≡ fresh_server mode count (record { last = 0; stage = stage })) }
     {
@@ -304,7 +305,7 @@ impl Machine {
 
     /// A server of so many clients, of which none has come in.
     pub fn new(alloc: Global, mode: Mode, count: u8) -> Result<Machine, NoMemory>
-        requires count { (0 < count) × (count ≤ 64) }
+        requires count { (0 < count) × (count ≤ MOST_CLIENTS) }
         ensures { IfOk result (λ s. s ≡ fresh_server mode count away_member) }
     {
         Machine::fresh(alloc, mode, count, Stage::Away)
@@ -312,7 +313,7 @@ impl Machine {
 
     /// A server of so many clients, all of which have come in.
     pub fn gathered(alloc: Global, mode: Mode, count: u8) -> Result<Machine, NoMemory>
-        requires count { (0 < count) × (count ≤ 64) }
+        requires count { (0 < count) × (count ≤ MOST_CLIENTS) }
         ensures { IfOk result (λ s. s ≡ fresh_server mode count ready_member) }
     {
         Machine::fresh(alloc, mode, count, Stage::Ready)
@@ -321,7 +322,7 @@ impl Machine {
     /// How many entries were ordered.
     pub fn length(&self) -> u32
         ensures is { result ≡ size self.now }
-        ensures room { result ≤ 1048576 }
+        ensures room { result ≤ MOST_ENTRIES }
     {
         self.rows.len() as u32
     }
@@ -330,7 +331,7 @@ impl Machine {
     pub fn sealed(&self) -> u32
         ensures is { result ≡ sealed_count self.now }
         ensures within { result ≤ size self.now }
-        ensures room { result ≤ 1048576 }
+        ensures room { result ≤ MOST_ENTRIES }
     {
         self.seals.len() as u32
     }
@@ -344,7 +345,7 @@ impl Machine {
 
     pub(crate) fn dict(&self) -> &Trie
         ensures is { result.now ≡ self.now.dictionary }
-        ensures light { pairs_weight result.now ≤ 8388608 }
+        ensures light { pairs_weight result.now ≤ MOST_WEIGHT }
     {
         &self.dictionary
     }
@@ -362,7 +363,7 @@ impl Machine {
     /// The bytes of the sealed pairs and of the puts that aren't sealed, with 16 more for each.
     pub fn weight(&self) -> u64
         ensures is { result ≡ weight self.now }
-        ensures light { result ≤ 8388608 }
+        ensures light { result ≤ MOST_WEIGHT }
     {
         self.weight
     }
@@ -461,7 +462,7 @@ impl Machine {
 
     pub(crate) fn count(&self) -> u8
         ensures is { result ≡ length self.now.members }
-        ensures bounds { (0 < result) × (result ≤ 64) }
+        ensures bounds { (0 < result) × (result ≤ MOST_CLIENTS) }
     {
         self.members.len() as u8
     }
@@ -563,9 +564,9 @@ impl Machine {
 
     /// Whether there is room for a content of so many bytes.
     pub(crate) fn has_room(&self, len: usize) -> bool
-        requires { len ≤ 8388608 }
+        requires { len ≤ LONGEST_CONTENT }
         ensures is { (content : List ℕ) → length content ≡ len
-            → result ≡ (not (nat_le 1048576 (length self.now.contents)) && nat_le (sum_by length self.now.contents + length content) 1073741824) }
+            → result ≡ (not (nat_le MOST_CONTENTS (length self.now.contents)) && nat_le (sum_by length self.now.contents + length content) MOST_CONTENT_BYTES) }
         ensures room { (content : List ℕ) → length content ≡ len → IsTrue result → IsRoom self.now.contents content }
     {
         self.blobs.has_room(len)
@@ -595,8 +596,8 @@ impl Machine {
 
     /// Puts an entry onto the log.
     pub(crate) fn add_row(&mut self, row: Row) -> Result<(), NoMemory>
-        requires room { size self.old < 1048576 }
-        requires light { weight self.old + op_weight row.entry.op ≤ 8388608 }
+        requires room { size self.old < MOST_ENTRIES }
+        requires light { weight self.old + op_weight row.entry.op ≤ MOST_WEIGHT }
         ensures ok { OnOk result (self.new ≡ record self.old { log = row ∷ self.old.log }) }
         ensures err { OnErr result (self.new ≡ self.old) }
     {
@@ -627,7 +628,7 @@ impl Machine {
     pub(crate) fn add_content(&mut self, hash: &Digest32, content: Bytes) -> Result<(), NoMemory>
         requires hash { hash.now.bytes ≡ content_hash content }
         requires new { kept_under self.old.contents hash.now.bytes ≡ None }
-        requires small { length content ≤ 8388608 }
+        requires small { length content ≤ LONGEST_CONTENT }
         requires room { IsRoom self.old.contents content }
         ensures ok { OnOk result (self.new ≡ record self.old { contents = content ∷ self.old.contents }) }
         ensures err { OnErr result (self.new ≡ self.old) }

@@ -1,6 +1,7 @@
 //! One function for each kind of request: the tests in the order of the rule, what changes, and the answer.
 
 ghost use Rattle.std.specs.Prelude.{◌≡◌, ℕ, ◌&&◌, ◌||◌, not, nat_lt, nat_le, ◌∷◌, ◌<◌, ◌≤◌, ◌+◌, true, false, None, length, Ok, Some, IfNone, IfSome, IfOk, IsOk, OnOk, OnErr, IsTrue};
+ghost use Rattle.vic_dict.specs.declared.limits.TheConstants.{LONGEST_CONTENT, MOST_CLIENTS, MOST_WEIGHT};
 ghost use Rattle.vic_dict.specs.Dictionary.{Fits};
 ghost use Rattle.vic_wire.specs.declared.message.ToServer.TheVariants as ask;
 ghost use Rattle.vic_wire.specs.Messages.{HasRequestSpelling, HasSpelling, IsSeal, IsTagged};
@@ -20,6 +21,7 @@ use crate::change::{Change, Plan};
 use crate::machine::{Machine, op_weight};
 use crate::rows::{Row, Seat};
 use std::alloc::Global;
+use vic_dict::limits::{MOST_ENTRIES, MOST_TOLD, MOST_UNSEALED, MOST_WEIGHT};
 use vic_dict::{Bytes, Entry, Mode, NoMemory, Op};
 use vic_frames::decode_request;
 use vic_order::Stage;
@@ -82,12 +84,12 @@ fn is_in_order(stage: Stage, last: u32, seq: u32, known: u32, length: u32) -> bo
 /// Whether an operation keeps the weight within its limit.
 fn is_light(weight: u64, op: &Op) -> bool
     requires fits { Fits op.now }
-    requires light { weight ≤ 8388608 }
-    ensures is { result ≡ (not (is_put op.now) || nat_le (weight + op_weight op.now) 8388608) }
-    ensures light { IsTrue result → weight + op_weight op.now ≤ 8388608 }
+    requires light { weight ≤ MOST_WEIGHT }
+    ensures is { result ≡ (not (is_put op.now) || nat_le (weight + op_weight op.now) MOST_WEIGHT) }
+    ensures light { IsTrue result → weight + op_weight op.now ≤ MOST_WEIGHT }
 {
     match op {
-        Op::Put(_, _) => weight + op_weight(op) <= 8_388_608,
+        Op::Put(_, _) => weight + op_weight(op) <= MOST_WEIGHT,
         _ => true,
     }
 }
@@ -115,7 +117,7 @@ impl Machine {
     /// Whether this client has come in and not left.
     fn is_member(&self, who: u8) -> bool
         ensures is { result ≡ is_member self.now who }
-        ensures bounds { IsTrue result → IsSeat self.now who × (who ≤ 64) }
+        ensures bounds { IsTrue result → IsSeat self.now who × (who ≤ MOST_CLIENTS) }
     {
         0 < who && (who <= self.count() && is_inside(self.stage_of(who)))
     }
@@ -192,7 +194,7 @@ impl Machine {
         if !(is_ready(self.stage_of(who)) && known <= length) {
             return Ok(refused(5));
         }
-        let end = length.min(known + 8192);
+        let end = length.min(known + MOST_TOLD);
         let entries = self.told(alloc, known, end)?;
         let seal = self.seal_at(self.sealed().min(end));
         Ok(only(ToClient::Entries { seal, entries }))
@@ -257,16 +259,16 @@ impl Machine {
         if !is_in_order(self.stage_of(who), self.last_of(who), seq, known, length) {
             return Some(5);
         }
-        if length == 1_048_576 {
+        if length == MOST_ENTRIES {
             return Some(4);
         }
-        if length - self.sealed() == 1024 {
+        if length - self.sealed() == MOST_UNSEALED {
             return Some(2);
         }
         if !is_light(self.weight(), op) {
             return Some(3);
         }
-        if !(length + 1 - known <= 8192) {
+        if !(length + 1 - known <= MOST_TOLD) {
             return Some(1);
         }
         None
@@ -300,7 +302,7 @@ impl Machine {
         op: Op,
         tag: Digest32,
     ) -> Result<Plan, NoMemory>
-        requires seat { IsSeat self.now who × (who ≤ 64) }
+        requires seat { IsSeat self.now who × (who ≤ MOST_CLIENTS) }
         requires spelled { HasRequestSpelling (ToServer.Invoke known seq op tag) }
         ensures { IfOk result (λ p. Follows (on_request self.now who (ask.Invoke known seq op tag)) self.now p) }
     {
@@ -332,7 +334,7 @@ impl Machine {
     /// A content is kept, unless it is already, or there is no room. It costs the content's hash, which is computed here and nowhere
     /// else.
     fn on_keep(&self, who: u8, content: Bytes) -> Plan
-        requires { length content ≤ 8388608 }
+        requires { length content ≤ LONGEST_CONTENT }
         ensures { Follows (on_request self.now who (ask.Keep content)) self.now result }
     {
         if !self.may_ask(who) {
@@ -363,7 +365,7 @@ impl Machine {
     }
 
     fn on_request(&mut self, alloc: Global, who: u8, request: ToServer) -> Result<Plan, NoMemory>
-        requires seat { IsSeat self.old who × (who ≤ 64) }
+        requires seat { IsSeat self.old who × (who ≤ MOST_CLIENTS) }
         requires spelled { HasRequestSpelling request }
         ensures follows { IfOk result (λ p. Follows (on_request self.old who request) self.old p) }
         ensures waits { request ≡ ask.Poll → (on_request self.old who request).answer ≡ say.Wait → result ≡ Ok to_wait }

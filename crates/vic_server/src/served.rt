@@ -3,6 +3,7 @@
 ghost use Rattle.std.specs.Prelude.{◌≡◌, ◌+◌, ◌≢◌, ◌<◌, ◌≤◌, ◌++◌, ◌∷◌, ℕ, [], length, Ok, Some, IfOk, IfSome, IsOk, OnOk, OnErr, false, true, option_copied};
 ghost use Rattle.std.specs.FinMap as map;
 ghost use Rattle.std.specs.Option.{option_map};
+ghost use Rattle.vic_dict.specs.declared.limits.TheConstants.{MOST_CLIENTS, MOST_ENTRIES, MOST_WEIGHT};
 ghost use Rattle.vic_wire.specs.declared.message.ToServer.TheVariants as ask;
 ghost use Rattle.vic_wire.specs.declared.message.ToClient.TheVariants as say;
 ghost use Rattle.vic_wire.specs.Messages.{HasSpelling, answer_text};
@@ -66,7 +67,7 @@ impl Served {
     /// A server of so many clients, of which none has come in.
     #[tactic(auto, unfolding(crate::specs::Replay::replay))]
     pub fn new(alloc: Global, mode: Mode, count: u8) -> Result<Served, NoMemory>
-        requires count { (0 < count) × (count ≤ 64) }
+        requires count { (0 < count) × (count ≤ MOST_CLIENTS) }
         ensures { IfOk result (λ s. s ≡ kept_with (opening_server mode count false) [] (opening_server mode count false)) }
     {
         let machine = Machine::new(alloc, mode, count)?;
@@ -82,7 +83,7 @@ impl Served {
     /// A server of so many clients, all of which have come in.
     #[tactic(auto, unfolding(crate::specs::Replay::replay))]
     pub fn gathered(alloc: Global, mode: Mode, count: u8) -> Result<Served, NoMemory>
-        requires count { (0 < count) × (count ≤ 64) }
+        requires count { (0 < count) × (count ≤ MOST_CLIENTS) }
         ensures { IfOk result (λ s. s ≡ kept_with (opening_server mode count true) [] (opening_server mode count true)) }
     {
         let machine = Machine::gathered(alloc, mode, count)?;
@@ -112,7 +113,7 @@ impl Served {
     /// How many entries were ordered.
     pub fn length(&self) -> u32
         ensures is { result ≡ size self.now.server }
-        ensures room { result ≤ 1048576 }
+        ensures room { result ≤ MOST_ENTRIES }
     {
         self.machine.length()
     }
@@ -121,7 +122,7 @@ impl Served {
     pub fn sealed(&self) -> u32
         ensures is { result ≡ sealed_count self.now.server }
         ensures within { result ≤ size self.now.server }
-        ensures room { result ≤ 1048576 }
+        ensures room { result ≤ MOST_ENTRIES }
     {
         self.machine.sealed()
     }
@@ -136,7 +137,7 @@ impl Served {
     /// The sealed dictionary. Its pairs weigh at most 8,388,608 bytes, so a part of it fits an answer.
     pub fn dict(&self) -> &Trie
         ensures is { result.now ≡ self.now.server.dictionary }
-        ensures light { pairs_weight result.now ≤ 8388608 }
+        ensures light { pairs_weight result.now ≤ MOST_WEIGHT }
     {
         self.machine.dict()
     }
@@ -179,7 +180,7 @@ impl Served {
     /// The bytes of the sealed pairs and of the puts that aren't sealed, with 16 more for each.
     pub fn weight(&self) -> u64
         ensures is { result ≡ weight self.now.server }
-        ensures light { result ≤ 8388608 }
+        ensures light { result ≤ MOST_WEIGHT }
     {
         self.machine.weight()
     }

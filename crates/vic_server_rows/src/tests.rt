@@ -1,4 +1,4 @@
-ghost use Rattle.std.specs.Prelude.{◌+◌, ◌<◌, ◌^◌, length};
+ghost use Rattle.std.specs.Prelude.{◌≤◌, ◌+◌, ◌<◌, ◌^◌, length};
 
 use std::alloc::Global;
 use std::test::*;
@@ -256,8 +256,8 @@ fn put_from(
     value: &[u8],
 ) -> Result<ToClient, NoMemory>
     requires known { known < 2 ^ 31 }
-    requires key { length key.now < 256 }
-    requires value { length value.now < 256 }
+    requires key { length key.now ≤ 255 }
+    requires value { length value.now ≤ 255 }
 {
     let mut payload = Bytes::of(alloc, b"\x22")?;
     payload.append(known.to_be_bytes().as_slice())?;

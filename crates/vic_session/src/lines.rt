@@ -15,12 +15,11 @@ use crate::place::{At, Place, first_line, line_end};
 use crate::stepping::{Given, make_step, request_for};
 use std::alloc::Global;
 use vic_client::{Client, Step};
+use vic_dict::limits::LONGEST_SCRIPT;
 use vic_dict::{Bytes, NoMemory, Outcome};
 use vic_hash::content;
 use vic_rules::ObjectOutcome;
-use vic_text::{
-    ClientLine, LineFault, SCRIPT_LIMIT, object_text, outcome_text, put_number, read_client_line,
-};
+use vic_text::{ClientLine, LineFault, object_text, outcome_text, put_number, read_client_line};
 
 /// What beginning a line comes to.
 #[derive(Debug, Drop)]
@@ -160,7 +159,7 @@ fn do_line(
     place.behind = line_end(place.total, place.behind, text);
     place.number += 1;
     place.rest = others;
-    if SCRIPT_LIMIT < place.behind {
+    if LONGEST_SCRIPT < place.behind {
         place.doing = At::Bad(7);
         return Ok(Begun::Bad);
     }

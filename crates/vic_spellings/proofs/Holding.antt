@@ -1,5 +1,5 @@
 -- The spelling of a message whose digests, part and content are bytes is bytes.
-use Rattle.std.proofs.Common.{ℕ, ◌<◌, Bool, true, false, cond, eqb, List, [], ◌∷◌, ◌++◌, length, arith}
+use Rattle.std.proofs.Common.{◌≤◌, ℕ, ◌<◌, Bool, true, false, cond, eqb, List, [], ◌∷◌, ◌++◌, length, arith}
 use Rattle.std.specs.List.{flat_map, AllByRecursion}
 use Rattle.std.specs.Int.{w16, w32, to_be_bytes}
 use Rattle.vic_dict.specs.Lists.{AreBytes}
@@ -21,8 +21,8 @@ use Rattle.vic_spellings.specs.Spellings.{HasBytes, HaveByteTags, HoldsBytes, Re
 use Rattle.vic_spellings.proofs.Steps.{bytes-nil}
 use Rattle.vic_spellings.proofs.Bytes.{bytes-cons, bytes-append, bytes-w16, bytes-w32}
 
-pub bytes-short : (text : List ℕ) → length text < 256 → AreBytes text → AreBytes (short_text text)
-bytes-short text lt h = bytes-cons (length text) text lt h
+pub bytes-short : (text : List ℕ) → length text ≤ 255 → AreBytes text → AreBytes (short_text text)
+bytes-short text lt h = bytes-cons (length text) text (omega (arith, lt)) h
 
 pub bytes-op : (o : Op) → Fits o → AreBytesIn o → AreBytes (op_text o)
 bytes-op (op.Put k v) fits h = bytes-cons 1 (short_text k ++ short_text v) (omega arith) (bytes-append (short_text k) (short_text v) (bytes-short k fits.0.1 h.0) (bytes-short v (omega (arith, fits.1)) h.1))

@@ -76,7 +76,7 @@ leaf_takes all low bytes x fits e =
     subst (λ (y : Tree × List ℕ). Takes (1 ∷ bytes) (node_field y.0) y.1 × IsNodeFrom low y.0) (done_is made x b.2)
     (both, ((omega (arith, key.1.0), omega (arith, key.1.1)), omega (arith, value.1.1)))
 
-pub leaf_again : (all : ℕ) (k v rest : List ℕ) → IsKey k → length v < 65 → leaf_at all (short_text k ++ short_text v ++ rest) ≡ Ok (Leaf k v, rest)
+pub leaf_again : (all : ℕ) (k v rest : List ℕ) → IsKey k → length v ≤ 64 → leaf_at all (short_text k ++ short_text v ++ rest) ≡ Ok (Leaf k v, rest)
 unfolding leaf_at
 leaf_again all k v rest key value =
     let first : text_at all 1 255 (short_text k ++ short_text v ++ rest) ≡ Ok (k, short_text v ++ rest) =
@@ -245,7 +245,7 @@ pub node_in_bytes : (low : ℕ) (t : Tree) → IsNodeFrom low t → PartHoldsByt
 node_in_bytes low Empty h b = absurd h
 node_in_bytes low (Leaf k v) h b =
     bytes-cons 1 (short_text k ++ short_text v) (omega arith)
-    (bytes-append (short_text k) (short_text v) (bytes-cons (length k) k h.0.1 b.0) (bytes-cons (length v) v (omega (arith, h.1)) b.1))
+    (bytes-append (short_text k) (short_text v) (bytes-cons (length k) k (omega (arith, h.0.1)) b.0) (bytes-cons (length v) v (omega (arith, h.1)) b.1))
 node_in_bytes low (Inner i l r) h b =
     bytes-cons 2 (to_be_bytes w16 i ++ node_field l ++ node_field r) (omega arith)
     (bytes-append (to_be_bytes w16 i ++ node_field l) (node_field r) (bytes-append (to_be_bytes w16 i) (node_field l) (bytes-w16 i) (node_in_bytes (i + 1) l h.2 b.0)) (node_in_bytes (i + 1) r h.3 b.1))

@@ -3,6 +3,7 @@
 ghost use Rattle.std.specs.Prelude.{◌≡◌, ◌≢◌, ℕ, ◌+◌, ◌<◌, ◌≤◌, ◌↔◌, not, IsTrue, IfOk, MatchOption, MatchResult, [], ◌∷◌, ◌++◌, length, position, chars, map, replicate, bit_xor, ◌-◌, List};
 ghost use Rattle.sha2.specs.Hashers.{Holds256};
 ghost use Rattle.hex.specs.Hex.{is_hex_digit, decode_of};
+ghost use Rattle.vic_dict.specs.declared.limits.TheConstants.{LONGEST_GROUP_KEY};
 ghost use Rattle.vic_wire.specs.Hashes.{tag_of, masked_key};
 ghost use Rattle.vic_tag.specs.Keys.{fault_in};
 
@@ -38,12 +39,13 @@ impl Model for GroupKey {
     ghost use Rattle.std.specs.Prelude.{ℕ, List, ◌<◌, ◌≤◌, length};
     ghost use Rattle.sha2.specs.Hashers.{Holds256};
     ghost use Rattle.vic_wire.specs.Hashes.{masked_key};
+    ghost use Rattle.vic_dict.specs.declared.limits.TheConstants.{LONGEST_GROUP_KEY};
 
     ghost Value = { List ℕ };
 
     ghost view = { λ a. a.items.items };
 
-    ghost invariant = { λ a. (0 < length a.items.items) × ((length a.items.items ≤ 64) × (Holds256 a.inner (masked_key 0x36 a.items.items) × Holds256 a.outer (masked_key 0x5c a.items.items))) };
+    ghost invariant = { λ a. (0 < length a.items.items) × ((length a.items.items ≤ LONGEST_GROUP_KEY) × (Holds256 a.inner (masked_key 0x36 a.items.items) × Holds256 a.outer (masked_key 0x5c a.items.items))) };
 }
 
 // The number of characters.
@@ -62,7 +64,7 @@ fn first_bad(text: &str) -> Option<usize>
 
 // The key filled up to a block with zeros, each byte joined with the mask.
 fn masked(key: &[u8], mask: u8) -> [u8; 64]
-    requires { length key.now ≤ 64 }
+    requires { length key.now ≤ LONGEST_GROUP_KEY }
     ensures { result ≡ masked_key mask key.now }
 {
     let mut block = [mask; 64];
@@ -73,7 +75,7 @@ fn masked(key: &[u8], mask: u8) -> [u8; 64]
 }
 
 fn keyed(key: &[u8], mask: u8) -> Sha256
-    requires { length key.now ≤ 64 }
+    requires { length key.now ≤ LONGEST_GROUP_KEY }
     ensures { Holds256 result (masked_key mask key.now) }
 {
     let block = masked(key, mask);
@@ -95,7 +97,7 @@ fn again(hasher: &Sha256) -> Sha256
 // The key of these bytes, with both hashers begun.
 fn from_bytes(items: Vec<u8>) -> GroupKey
     requires some { 0 < length items.items }
-    requires block { length items.items ≤ 64 }
+    requires block { length items.items ≤ LONGEST_GROUP_KEY }
     ensures { result ≡ items.items }
 {
     let inner = keyed(items.as_slice(), 0x36);
@@ -132,7 +134,7 @@ impl GroupKey {
     pub fn len(&self) -> usize
         ensures value { result ≡ length self.now }
         ensures some { 0 < result }
-        ensures block { result ≤ 64 }
+        ensures block { result ≤ LONGEST_GROUP_KEY }
     {
         self.items.len()
     }
@@ -141,7 +143,7 @@ impl GroupKey {
     pub fn as_slice(&self) -> &[u8]
         ensures value { result.now ≡ self.now }
         ensures some { 0 < length self.now }
-        ensures block { length self.now ≤ 64 }
+        ensures block { length self.now ≤ LONGEST_GROUP_KEY }
     {
         self.items.as_slice()
     }

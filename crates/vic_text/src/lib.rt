@@ -13,11 +13,10 @@ pub mod status;
 pub mod word;
 
 pub use client_line::{ClientLine, read_client_line};
-pub use object::CONTENT_LIMIT;
 pub use print::{
     object_text, op_text, outcome_text, put_bad_line, put_number, put_object, put_op, put_outcome,
 };
-pub use read::{HOSTILE_LIMIT, LineFault, SCRIPT_LIMIT, kind_named, read_line};
+pub use read::{HOSTILE_LIMIT, LineFault, kind_named, read_line};
 pub use status::Status;
 pub use vic_script::Line;
 pub use word::split_line;

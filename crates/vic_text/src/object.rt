@@ -7,11 +7,9 @@ ghost use Rattle.vic_script.specs.Lines.{words_of, object_of, content_of, zeros_
 use crate::read::{key_word, prefix_word, within};
 use crate::word::{bytes_of, is_name, number_of, split_word};
 use std::alloc::Global;
+use vic_dict::limits::LONGEST_CONTENT;
 use vic_dict::{Bytes, NoMemory};
 use vic_rules::ObjectCall;
-
-/// The most bytes that a content may have.
-pub const CONTENT_LIMIT: u32 = 8_388_608;
 
 /// What stands before the number of zero bytes that are a content.
 const ZEROS: &[u8] = b"zeros:";
@@ -83,7 +81,7 @@ fn content_word(alloc: Global, word: &[u8]) -> Result<Option<Bytes>, NoMemory>
     if word.starts_with(ZEROS) {
         zeros_word(alloc, &word[ZEROS.len()..])
     } else {
-        Ok(within(0, CONTENT_LIMIT as usize, bytes_of(alloc, word)?))
+        Ok(within(0, LONGEST_CONTENT, bytes_of(alloc, word)?))
     }
 }
 
@@ -94,7 +92,7 @@ fn zeros_word(alloc: Global, digits: &[u8]) -> Result<Option<Bytes>, NoMemory>
     match number_of(digits) {
         None => Ok(None),
         Some(count) => {
-            if count <= CONTENT_LIMIT {
+            if count as usize <= LONGEST_CONTENT {
                 Ok(Some(zeros(alloc, count as usize)?))
             } else {
                 Ok(None)

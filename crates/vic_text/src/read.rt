@@ -9,11 +9,9 @@ use crate::word::{are_key_digits, bytes_of, is_name, number_of, split_word};
 use std::alloc::Global;
 use thiserror::Error;
 use vic_attacks::HostileKind;
+use vic_dict::limits::{LONGEST_KEY, LONGEST_SCRIPT, LONGEST_VALUE, MOST_CLIENTS};
 use vic_dict::{Bytes, Mode, NoMemory, Op};
 use vic_script::Line;
-
-/// The most bytes that a script may have.
-pub const SCRIPT_LIMIT: usize = 16_777_216;
 
 /// The most requests after which a script may have its server misbehave.
 pub const HOSTILE_LIMIT: u32 = 1_000_000;
@@ -183,7 +181,7 @@ fn clients_line(number: &[u8]) -> Option<Line>
     match number_of(number) {
         None => None,
         Some(count) => {
-            if 0 < count && count <= 64 {
+            if 0 < count && count <= MOST_CLIENTS as u32 {
                 Some(Line::Clients(count as u8))
             } else {
                 None
@@ -198,7 +196,7 @@ fn objects_line(number: &[u8]) -> Option<Line>
     match number_of(number) {
         None => None,
         Some(count) => {
-            if 0 < count && count <= 64 {
+            if 0 < count && count <= MOST_CLIENTS as u32 {
                 Some(Line::Objects(count as u8))
             } else {
                 None
@@ -470,17 +468,17 @@ pub(crate) fn within(least: usize, most: usize, bytes: Option<Bytes>) -> Option<
 pub(crate) fn key_word(alloc: Global, word: &[u8]) -> Result<Option<Bytes>, NoMemory>
     ensures { IfOk result (λ o. o ≡ key_of word.now) }
 {
-    Ok(within(1, 255, bytes_of(alloc, word)?))
+    Ok(within(1, LONGEST_KEY, bytes_of(alloc, word)?))
 }
 
 fn value_word(alloc: Global, word: &[u8]) -> Result<Option<Bytes>, NoMemory>
     ensures { IfOk result (λ o. o ≡ value_of word.now) }
 {
-    Ok(within(0, 64, bytes_of(alloc, word)?))
+    Ok(within(0, LONGEST_VALUE, bytes_of(alloc, word)?))
 }
 
 pub(crate) fn prefix_word(alloc: Global, word: &[u8]) -> Result<Option<Bytes>, NoMemory>
     ensures { IfOk result (λ o. o ≡ prefix_of word.now) }
 {
-    Ok(within(0, 255, bytes_of(alloc, word)?))
+    Ok(within(0, LONGEST_KEY, bytes_of(alloc, word)?))
 }

@@ -1,5 +1,5 @@
 -- A part of a dictionary's root is a cut of its tree, or two different node texts have one hash.
-use Rattle.std.proofs.Common.{◌≡◌, ℕ, ◌^◌, ◌<◌, Bool, true, false, List, [], ◌∷◌, ◌++◌, length, take, drop, refl, sym, ap, subst, ◌∙◌, arith, inl, inr, ◌⊎◌}
+use Rattle.std.proofs.Common.{◌≤◌, ◌≡◌, ℕ, ◌^◌, ◌<◌, Bool, true, false, List, [], ◌∷◌, ◌++◌, length, take, drop, refl, sym, ap, subst, ◌∙◌, arith, inl, inr, ◌⊎◌}
 use Rattle.std.specs.Int.{w16, to_be_bytes, from_be_bytes}
 use Rattle.std.proofs.lemmas.List.{take_at, drop_at}
 use Rattle.std.proofs.lemmas.Nat.{from_be_bytes-to_be_bytes_2}
@@ -117,7 +117,7 @@ grown_whole (Leaf k v) g = tt
 grown_whole (Inner i l r) g = (grown_whole l g.0, grown_whole r g.1)
 grown_whole (Stub root) g = absurd g
 
-pub grown_spelled : (t : Tree) → IsGrown t → ((k : List ℕ) → HasKey (pairs_of t) k → length k < 256) → IsSpelled t
+pub grown_spelled : (t : Tree) → IsGrown t → ((k : List ℕ) → HasKey (pairs_of t) k → length k ≤ 255) → IsSpelled t
 unfolding IsGrown
 grown_spelled Empty g h = tt
 grown_spelled (Leaf k v) g h = tt
@@ -137,14 +137,14 @@ tree_whole (Leaf k v) g = tt
 tree_whole (Inner i l r) g = grown_whole (Inner i l r) g
 tree_whole (Stub root) g = absurd g
 
-tree_spelled : (t : Tree) → IsTree t → ((k : List ℕ) → HasKey (pairs_of t) k → length k < 256) → IsSpelled t
+tree_spelled : (t : Tree) → IsTree t → ((k : List ℕ) → HasKey (pairs_of t) k → length k ≤ 255) → IsSpelled t
 tree_spelled Empty g h = tt
 tree_spelled (Leaf k v) g h = tt
 tree_spelled (Inner i l r) g h = grown_spelled (Inner i l r) g h
 tree_spelled (Stub root) g h = absurd g
 
 -- a part of a dictionary's root is a cut of its tree, or two node texts collide
-pub part_is_bound : (c : Tree) (d : Dictionary) → IsSpelled c → HasByteEntries d → ((k : List ℕ) → HasKey (map.entries d) k → length k < 256)
+pub part_is_bound : (c : Tree) (d : Dictionary) → IsSpelled c → HasByteEntries d → ((k : List ℕ) → HasKey (map.entries d) k → length k ≤ 255)
     → root_of c ≡ dictionary_root d → IsCut c (tree_of d) ⊎ Collides (node_texts c ++ node_texts (tree_of d))
 unfolding dictionary_root
 part_is_bound c d s b small e =

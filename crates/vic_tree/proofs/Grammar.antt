@@ -80,7 +80,7 @@ right_rises i l (Inner j m s) g =
     above i j a.0 b.0 (grown_agree i l r g a.0 b.0 (HasKey-right (pairs_of l) (pairs_of r) a.0 ha) (HasKey-right (pairs_of l) (pairs_of r) b.0 hb))
     (right_bit i l r g a.0 ha ∙ sym (right_bit i l r g b.0 hb)) (grown_parts j m s gr a.0 b.0 a.1 b.1)
 
-pub short_key : (t : Tree) → LeavesFit t → (k : List ℕ) → HasKey (pairs_of t) k → length k < 256
+pub short_key : (t : Tree) → LeavesFit t → (k : List ℕ) → HasKey (pairs_of t) k → length k ≤ 255
 short_key Empty f k h = absurd h
 short_key (Leaf q v) f k (inl e) = omega (arith, f.0, ap length e)
 short_key (Leaf q v) f k (inr h) = absurd h

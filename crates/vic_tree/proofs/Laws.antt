@@ -1,5 +1,5 @@
 -- The laws, by the lemmas of the other files.
-use Rattle.std.proofs.Common.{◌≡◌, ℕ, ◌<◌, Bool, true, false, cond, List, [], length, Option, Some, None, refl, sym, ap, ◌∙◌}
+use Rattle.std.proofs.Common.{◌≤◌, ◌≡◌, ℕ, ◌<◌, Bool, true, false, cond, List, [], length, Option, Some, None, refl, sym, ap, ◌∙◌}
 use Rattle.std.specs.FinMap as map
 use Rattle.std.specs.FinMap.{get-entries}
 use Rattle.vic_dict.specs.declared.op.Op.{Op}
@@ -20,7 +20,7 @@ use Rattle.vic_tree.proofs.Alike.{byte_entries, short_entries, byte_words, alike
 -- ---- the leaves of a proper dictionary's tree are within the limits
 
 abbrev AreFit : Tree → Type 0
-AreFit t = (k v : List ℕ) → found k (pairs_of t) ≡ Some v → IsKey k × (length v < 65)
+AreFit t = (k v : List ℕ) → found k (pairs_of t) ≡ Some v → IsKey k × (length v ≤ 64)
 
 grown_fits : (t : Tree) → IsGrown t → AreFit t → LeavesFit t
 grown_fits Empty g h = tt
@@ -32,14 +32,14 @@ grown_fits (Inner i l r) g h = (grown_fits l (grown_left i l r g) on_left, grown
 
     on_left : AreFit l
     on_left k v e =
-        elim (key_bit k i) as (λ b. key_bit k i ≡ b → IsKey k × (length v < 65)) [
+        elim (key_bit k i) as (λ b. key_bit k i ≡ b → IsKey k × (length v ≤ 64)) [
           | true ↦ λ b. absurd (none_found (pairs_of l) k v (found-none k (pairs_of l) (not_left i l r k g b)) e)
           | false ↦ λ b. h k v (found-append k (pairs_of l) (pairs_of r) ∙ or_else-left k (pairs_of l) (pairs_of r) (not_right i l r k g b) ∙ e)
         ] refl
 
     on_right : AreFit r
     on_right k v e =
-        elim (key_bit k i) as (λ b. key_bit k i ≡ b → IsKey k × (length v < 65)) [
+        elim (key_bit k i) as (λ b. key_bit k i ≡ b → IsKey k × (length v ≤ 64)) [
           | true ↦ λ b. h k v (found-append k (pairs_of l) (pairs_of r) ∙ or_else-right k (pairs_of l) (pairs_of r) (not_left i l r k g b) ∙ e)
           | false ↦ λ b. absurd (none_found (pairs_of r) k v (found-none k (pairs_of r) (not_right i l r k g b)) e)
         ] refl

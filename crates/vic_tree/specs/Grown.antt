@@ -1,8 +1,9 @@
 -- The trees that dictionaries have.
-use Rattle.std.specs.Prelude.{◌≡◌, ℕ, ◌<◌, ◌^◌, Bool, true, false, List, [], ◌∷◌, length, ◌⊎◌}
+use Rattle.std.specs.Prelude.{◌≤◌, ◌≡◌, ℕ, ◌<◌, ◌^◌, Bool, true, false, List, [], ◌∷◌, length, ◌⊎◌}
 use Rattle.std.specs.declared.cmp.Ordering.{Ordering}
 use Rattle.std.specs.declared.cmp.Ordering.TheVariants.{Less, Equal, Greater}
 use Rattle.std.specs.FinMap as map
+use Rattle.vic_dict.specs.declared.limits.TheConstants.{LONGEST_KEY, LONGEST_VALUE}
 use Rattle.vic_dict.specs.Lists.{AreBytes}
 use Rattle.vic_dict.specs.Dictionary.{Dictionary, IsKey}
 use Rattle.vic_dict.specs.declared.op.Op.{Op}
@@ -56,7 +57,7 @@ HasByteEntries d = (k : List ℕ) → HasKey (map.entries d) k → AreBytes k
 
 -- and have at most 255 of them
 abbrev pub HasShortEntries : Dictionary → Type 0
-HasShortEntries d = (k : List ℕ) → HasKey (map.entries d) k → length k < 256
+HasShortEntries d = (k : List ℕ) → HasKey (map.entries d) k → length k ≤ LONGEST_KEY
 
 -- the words of an operation are bytes
 abbrev pub HasByteWords : Op → Type 0
@@ -75,7 +76,7 @@ IsKeyed (op.List p) = ⊥
 -- keys and values are within the limits
 abbrev pub LeavesFit : Tree → Type 0
 LeavesFit Empty = Unit {0}
-LeavesFit (Leaf k v) = IsKey k × (length v < 65)
+LeavesFit (Leaf k v) = IsKey k × (length v ≤ LONGEST_VALUE)
 LeavesFit (Inner i l r) = LeavesFit l × LeavesFit r
 LeavesFit (Stub root) = Unit {0}
 

@@ -169,7 +169,7 @@ module _ (top new : Option Node) (w c : ℕ) (kept : IsKept top w c) where
   pub room_for : w ≤ 4294967295 → c + 1 < 2 ^ 32
   room_for h = omega (arith, few_pairs)
 
-  pub kept_grown : (k v : List ℕ) → IsKey k → length v < 65 → w ≤ 4294967295 → IsTree (top_tree new) → IsTopSound new → Grows (top_tree top) (top_tree new) k v → IsKept new (w + (16 + length k + length v)) (c + 1)
+  pub kept_grown : (k v : List ℕ) → IsKey k → length v ≤ 64 → w ≤ 4294967295 → IsTree (top_tree new) → IsTopSound new → Grows (top_tree top) (top_tree new) k v → IsKept new (w + (16 + length k + length v)) (c + 1)
   kept_grown k v kf vf room tree sound g = record {
     tree = tree;
     sound = sound;
@@ -178,7 +178,7 @@ module _ (top new : Option Node) (w c : ℕ) (kept : IsKept top w c) where
     room = omega (arith, kf.1);
   }
 
-  pub kept_changed : (k v : List ℕ) (n : ℕ) → IsKey k → length v < 65 → w ≤ 4294967295 → IsTree (top_tree new) → IsTopSound new → Keeps (top_tree top) (top_tree new) v n → IsKept new (w + length v - n) c
+  pub kept_changed : (k v : List ℕ) (n : ℕ) → IsKey k → length v ≤ 64 → w ≤ 4294967295 → IsTree (top_tree new) → IsTopSound new → Keeps (top_tree top) (top_tree new) v n → IsKept new (w + length v - n) c
   kept_changed k v n kf vf room tree sound g = record {
     tree = tree;
     sound = sound;
@@ -198,7 +198,7 @@ module _ (top new : Option Node) (w c : ℕ) (kept : IsKept top w c) where
 
 -- a key that isn't found below the limit isn't there
 pub absent_top : (top : Option Node) (d : Dictionary) (k : List ℕ) → IsTree (top_tree top) → IsTopSound top → dictionary_of (top_tree top) ≡ d
-    → (length k < 256 → value_at k (end_at k (top_tree top)) ≡ None) → finmap.get d k ≡ None
+    → (length k ≤ 255 → value_at k (end_at k (top_tree top)) ≡ None) → finmap.get d k ≡ None
 absent_top None d k g s view h = get_missing Empty d tt view k (λ x. x)
 absent_top (Some n) d k g s view h = elim (small_or (length k)) [
   | inl a ↦ get_at (tree n) d g view k ∙ h a

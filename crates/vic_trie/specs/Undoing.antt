@@ -1,6 +1,7 @@
 -- What is made ready, and what takes a change back.
-use Rattle.std.specs.Prelude.{◌≡◌, ℕ, ◌<◌, length}
+use Rattle.std.specs.Prelude.{◌≤◌, ◌≡◌, ℕ, ◌<◌, length}
 use Rattle.std.specs.FinMap as map
+use Rattle.vic_dict.specs.declared.limits.TheConstants.{LONGEST_VALUE}
 use Rattle.vic_dict.specs.Dictionary.{Dictionary, IsKey}
 use Rattle.vic_wire.specs.Trees.{Leaf}
 use Rattle.vic_trie.specs.declared.ready.Ready.{Ready}
@@ -11,7 +12,7 @@ use Rattle.vic_trie.specs.Nodes.{tree, IsSound}
 -- the fresh leaf is that of the pair
 pub record IsReady (r : Ready) : Type 0 where
   pub key : IsKey r.key
-  pub value : length r.value < 65
+  pub value : length r.value ≤ LONGEST_VALUE
   pub sound : IsSound r.fresh.value
   pub leaf : tree r.fresh.value ≡ Leaf r.key r.value
 

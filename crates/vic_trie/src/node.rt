@@ -1,5 +1,6 @@
 ghost use Rattle.std.specs.Prelude.{◌≡◌, ◌<◌, ◌≤◌, length, List, ℕ, MatchBool, option_copied, IfOk, OnErr, OnOk, Some, ◌++◌, map, MatchOption};
 ghost use Rattle.std.specs.Bool.{OnTrue};
+ghost use Rattle.vic_dict.specs.declared.limits.TheConstants.{LONGEST_KEY, LONGEST_VALUE};
 ghost use Rattle.vic_dict.specs.Dictionary.{IsKey};
 ghost use Rattle.vic_wire.specs.Trees.{Tree, Empty, Leaf, root_of, pairs_of};
 ghost use Rattle.vic_wire.specs.Walks.{end_at, below, least, tree_with_value, fork_of, tree_with_fork, put_in, del_in};
@@ -34,9 +35,9 @@ impl Node {
     /// The leaf at the end of the key's walk.
     pub(crate) fn end(&self, key: &[u8]) -> (&Bytes, &Bytes)
         requires sound { IsSound self.now }
-        requires fits { length key.now < 256 }
+        requires fits { length key.now ≤ LONGEST_KEY }
         ensures leaf { end_at key.now (tree self.now) ≡ Leaf result.0.now result.1.now }
-        ensures fits { IsKey result.0.now × (length result.1.now < 65) }
+        ensures fits { IsKey result.0.now × (length result.1.now ≤ LONGEST_VALUE) }
     {
         match self {
             Node::Leaf(key, value, _) => (key, value),
@@ -54,7 +55,7 @@ impl Node {
     pub(crate) fn revalue(&mut self, key: &[u8], value: Bytes)
         requires sound { IsSound self.old }
         requires key { IsKey key.now }
-        requires value { length value < 65 }
+        requires value { length value ≤ LONGEST_VALUE }
         requires at_key { (w : List ℕ) × (end_at key.now (tree self.old) ≡ Leaf key.now w) }
         ensures tree { tree self.new ≡ tree_with_value key.now value (tree self.old) }
         ensures sound { IsSound self.new }
@@ -167,7 +168,7 @@ impl Node {
     /// The first node on the way of the prefix's bits that is no Inner of an index among them.
     pub(crate) fn below(&self, prefix: &[u8]) -> &Node
         requires sound { IsSound self.now }
-        requires fits { length prefix.now < 256 }
+        requires fits { length prefix.now ≤ LONGEST_KEY }
         ensures tree { tree result.now ≡ below prefix.now (tree self.now) }
         ensures sound { IsSound result.now }
     {
@@ -187,7 +188,7 @@ impl Node {
     pub fn least(&self) -> &Bytes
         requires sound { IsSound self.now }
         ensures leaf { (w : List ℕ) × (least (tree self.now) ≡ Leaf result.now w) }
-        ensures fits { length result.now < 256 }
+        ensures fits { length result.now ≤ LONGEST_KEY }
     {
         match self {
             Node::Leaf(key, _, _) => key,
@@ -240,11 +241,11 @@ impl Node {
     ) -> Result<Option<usize>, NoMemory>
         requires sound { IsSound self.old }
         requires key { IsKey key.now }
-        requires value { length value.now < 65 }
+        requires value { length value.now ≤ LONGEST_VALUE }
         ensures tree { OnOk result (tree self.new ≡ put_in key.now value.now (tree self.old)) }
         ensures sound { IsSound self.new }
         ensures change { IfOk result (λ before. MatchOption before (Grows (tree self.old) (tree self.new) key.now value.now)
-            (λ old. Keeps (tree self.old) (tree self.new) value.now old × (old ≤ 64))) }
+            (λ old. Keeps (tree self.old) (tree self.new) value.now old × (old ≤ LONGEST_VALUE))) }
         ensures err { OnErr result (self.new ≡ self.old) }
     {
         let held = Bytes::of(alloc, value)?;
@@ -277,12 +278,12 @@ impl Node {
     ) -> Option<usize>
         requires sound { IsSound self.old }
         requires key { IsKey key.now }
-        requires value { length value < 65 }
+        requires value { length value ≤ LONGEST_VALUE }
         requires fresh { IsSound fresh.value × (tree fresh.value ≡ Leaf key.now value) }
         ensures tree { tree self.new ≡ put_in key.now value (tree self.old) }
         ensures sound { IsSound self.new }
         ensures change { MatchOption result (Grows (tree self.old) (tree self.new) key.now value)
-            (λ old. Keeps (tree self.old) (tree self.new) value old × (old ≤ 64)) }
+            (λ old. Keeps (tree self.old) (tree self.new) value old × (old ≤ LONGEST_VALUE)) }
     {
         let (end, old) = self.end(key);
         match vic_keybits::first_difference(key, end.as_slice()) {

@@ -1,6 +1,7 @@
 ghost use Rattle.std.specs.Prelude.{◌≡◌, ◌≤◌, ◌<◌, ◌+◌, length, filter, nat_eq, IsNone, IsTrue, ◌↔◌, IfSome, IfOk, OnOk, OnErr, IsSome, Some, None, IfNone, option_copied, MatchOption};
 ghost use Rattle.std.specs.List.{starts_with};
 ghost use Rattle.std.specs.FinMap as map;
+ghost use Rattle.vic_dict.specs.declared.limits.TheConstants.{LONGEST_VALUE};
 ghost use Rattle.vic_dict.specs.Dictionary.{Dictionary, IsKey, Fits, after};
 ghost use Rattle.vic_wire.specs.Trees.{Leaf, dictionary_root, pairs_of, tree_of};
 ghost use Rattle.vic_tree.specs.Grown.{IsTree};
@@ -14,6 +15,7 @@ use crate::ready::{Ready, Undo};
 use crate::top::{put_into, put_ready_into, take_from};
 use std::alloc::Global;
 use std::marker::Model;
+use vic_dict::limits::LONGEST_KEY;
 use vic_dict::{Bytes, Names, NoMemory, Op};
 use vic_hash::Digest32;
 
@@ -97,12 +99,12 @@ impl Trie {
     /// What stands under a key, and None exactly where nothing does. It costs the depth of the key's place, and takes no memory.
     pub fn get(&self, key: &[u8]) -> Option<&Bytes>
         ensures value { option_copied result ≡ map.get self.now key.now }
-        ensures fits { IfSome (option_copied result) (λ v. length v < 65) }
+        ensures fits { IfSome (option_copied result) (λ v. length v ≤ LONGEST_VALUE) }
     {
         match &self.top {
             None => None,
             Some(node) => {
-                if key.len() > 255 {
+                if key.len() > LONGEST_KEY {
                     return None;
                 }
                 let (end, value) = node.end(key);
@@ -119,7 +121,7 @@ impl Trie {
     /// changed.
     pub fn put(&mut self, key: &[u8], value: &[u8]) -> Result<(), NoMemory>
         requires key { IsKey key.now }
-        requires value { length value.now < 65 }
+        requires value { length value.now ≤ LONGEST_VALUE }
         requires room { weight_of self.old ≤ 4294967295 }
         ensures ok { OnOk result (self.new ≡ map.insert self.old key.now value.now) }
         ensures weighs { OnOk result (weight_of self.new ≤ weight_of self.old + (length key.now + length value.now + 16)) }
@@ -141,7 +143,7 @@ impl Trie {
     /// Takes the memory that putting a key and a value takes.
     pub fn ready(&self, key: &[u8], value: &[u8]) -> Result<Ready, NoMemory>
         requires key { IsKey key.now }
-        requires value { length value.now < 65 }
+        requires value { length value.now ≤ LONGEST_VALUE }
         ensures ready { IfOk result IsReady }
         ensures key { IfOk result (λ r. r.key ≡ key.now) }
         ensures value { IfOk result (λ r. r.value ≡ value.now) }
@@ -265,7 +267,7 @@ impl Trie {
         match &self.top {
             None => Ok(names),
             Some(node) => {
-                if prefix.len() > 255 {
+                if prefix.len() > LONGEST_KEY {
                     return Ok(names);
                 }
                 let node = node.below(prefix);

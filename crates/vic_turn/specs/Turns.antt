@@ -5,6 +5,7 @@ use mathlib.Core.Option.{some, none}
 use mathlib.Core.List.{IsPrefix}
 use lib.ListN.{get_elem?}
 use Rattle.atomic_table.specs.Table.{State}
+use Rattle.vic_dict.specs.declared.limits.TheConstants.{MOST_CLIENTS}
 use Rattle.vic_change.specs.declared.Change.{Change}
 use Rattle.vic_turn.specs.declared.view.View.{View}
 use Rattle.vic_change.specs.Changes.{of_seat}
@@ -62,7 +63,7 @@ pub record Kept {X F : Type 0} (fixed_of : X → F) (changes_of : X → List Cha
   pub words : s.words ≡ (m.next % 2 ^ 64) ∷ (m.now % 2 ^ 64) ∷ []
   pub tickets : m.next ≡ m.now + sum_by tickets_of s.views
   pub passes : sum_by passes_of s.views ≡ m.made
-  pub few : (m.made ≤ count) × (count ≤ 64)
+  pub few : (m.made ≤ count) × (count ≤ MOST_CLIENTS)
   pub fits : (id : ℕ) (v : View F) → get_elem? s.views id ≡ some v → Fits m id v
   pub seats : Each (λ c. (0 < c.seat) × (c.seat ≤ m.made)) m.log
   pub home : m.away ≡ false → (y : X) × (s.homes ≡ some y ∷ []) × (fixed_of y ≡ m.fixed) × (changes_of y ≡ m.log)

@@ -2,6 +2,7 @@
 ghost use Rattle.std.specs.Prelude.{◌≡◌, ◌+◌, ◌%◌, ◌^◌, ◌<◌, ◌≤◌, [], ◌∷◌, ◌++◌, length, None, Some, List, ◌≢◌, IfOk, OnErr, All, map, vec_capacity};
 ghost use Rattle.std.specs.List.{range_with_len};
 ghost use mathlib.Core.List.{IsPrefix};
+ghost use Rattle.vic_dict.specs.declared.limits.TheConstants.{MOST_CLIENTS};
 ghost use Rattle.vic_change.specs.Changes.{of_seat};
 ghost use Rattle.vic_turn.specs.Changes.{Each};
 ghost use Rattle.vic_change.specs.declared.Change.{Change};
@@ -174,7 +175,7 @@ impl<V: Recorded> TurnLock<V> {
     fn deal(&self, maker: &mut Seat<V, View<V::Fixed>>, made: u32) -> Pass<V>
         requires own { maker.old.table_id ≡ self.now.id }
         requires maker { maker.old.me ≡ (maker_at self.now.fixed made, []) }
-        requires room { (made < self.now.count) × (self.now.count ≤ 64) }
+        requires room { (made < self.now.count) × (self.now.count ≤ MOST_CLIENTS) }
         ensures own { maker.new.table_id ≡ maker.old.table_id }
         ensures maker { maker.new.me ≡ (maker_at self.now.fixed (made + 1), []) }
         ensures number { result.number ≡ made + 1 }
@@ -195,7 +196,7 @@ impl<V: Recorded> TurnLock<V> {
     ) -> Vec<Pass<V>>
         requires own { maker.table_id ≡ self.now.id }
         requires maker { maker.me ≡ (maker_at self.now.fixed 0, []) }
-        requires room { (count ≡ self.now.count) × (count ≤ 64) × (count ≤ vec_capacity passes) × (passes.items ≡ []) }
+        requires room { (count ≡ self.now.count) × (count ≤ MOST_CLIENTS) × (count ≤ vec_capacity passes) × (passes.items ≡ []) }
         ensures numbers { map (λ p. p.number) result.items ≡ range_with_len 1 count }
         ensures passes { All (IsFresh self.now) result.items }
     {
@@ -243,7 +244,7 @@ impl<V: Recorded + Drop> TurnLock<V> {
     /// passes and for a table of two words and one slot; after `NoMemory` the value is gone.
     pub fn new(alloc: Global, value: V, count: u32) -> Result<(TurnLock<V>, Passes<V>), NoMemory>
         requires empty { V.changes value ≡ [] }
-        requires count { (0 < count) × (count ≤ 64) }
+        requires count { (0 < count) × (count ≤ MOST_CLIENTS) }
         ensures lock { IfOk result (λ r. (r.0.fixed ≡ V.fixed value) × (r.0.count ≡ count)) }
         ensures numbers { IfOk result (λ r. map (λ p. p.number) r.1 ≡ range_with_len 1 count) }
         ensures passes { IfOk result (λ r. All (IsFresh r.0) r.1) }

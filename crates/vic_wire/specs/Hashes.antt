@@ -1,6 +1,7 @@
 -- The hash of a text, the tag of a text under a key, the group, and the hashes along a path.
 use Rattle.std.specs.Prelude.{ℕ, ◌-◌, ◌<◌, ◌≤◌, List, [], ◌∷◌, ◌++◌, length, map, replicate, bit_xor}
 use Rattle.sha2.specs.Sha256.{sha256}
+use Rattle.vic_dict.specs.declared.limits.TheConstants.{LONGEST_GROUP_KEY, MOST_CLIENTS}
 use Rattle.vic_dict.specs.declared.op.Entry.{Entry}
 use Rattle.vic_dict.specs.declared.op.Mode.{Mode}
 use Rattle.vic_wire.specs.Texts.{chain_text, genesis_text, empty_text}
@@ -25,8 +26,8 @@ pub record Group : Type 0 where
 
 -- a group has 1 to 64 clients and a key of 1 to 64 bytes
 pub record IsGroup (g : Group) : Type 0 where
-  pub count : (0 < g.count) × (g.count ≤ 64)
-  pub key : (0 < length g.key) × (length g.key ≤ 64)
+  pub count : (0 < g.count) × (g.count ≤ MOST_CLIENTS)
+  pub key : (0 < length g.key) × (length g.key ≤ LONGEST_GROUP_KEY)
 
 -- the hash of a path, which has its newest entry first
 unfoldable pub chain : Group → List Entry → List ℕ

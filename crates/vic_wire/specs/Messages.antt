@@ -2,6 +2,7 @@
 use Rattle.std.specs.Prelude.{◌≡◌, ℕ, ◌<◌, ◌≤◌, ◌^◌, List, [], ◌∷◌, ◌++◌, length, replicate, ◌==◌, if◌then◌else◌}
 use Rattle.std.specs.List.{flat_map, AllByRecursion}
 use Rattle.std.specs.Int.{w16, w32, to_be_bytes}
+use Rattle.vic_dict.specs.declared.limits.TheConstants.{LONGEST_CONTENT, MOST_CLIENTS, MOST_TOLD}
 use Rattle.vic_dict.specs.declared.op.Entry.{Entry}
 use Rattle.vic_dict.specs.Dictionary.{Fits, AreBytesIn}
 use Rattle.vic_wire.specs.declared.message.Digest32.{Digest32}
@@ -51,7 +52,7 @@ answer_text say.Absent = 0x4a ∷ []
 -- ---- which messages have a spelling
 
 pub record IsEntry (e : Entry) : Type 0 where
-  pub client : (0 < e.client) × (e.client ≤ 64)
+  pub client : (0 < e.client) × (e.client ≤ MOST_CLIENTS)
   pub seq : (0 < e.seq) × (e.seq < 2 ^ 32)
   pub op : Fits e.op × AreBytesIn e.op
 
@@ -80,19 +81,19 @@ HasRequestSpelling (ask.Commit position done tag) = IsNumber position × IsDiges
 HasRequestSpelling ask.Poll = Unit {0}
 HasRequestSpelling (ask.Seal position root tag) = IsNumber position × (IsDigest root × IsDigest tag)
 HasRequestSpelling (ask.Sync known) = known < 2 ^ 32
-HasRequestSpelling (ask.Keep content) = length content ≤ 8388608
+HasRequestSpelling (ask.Keep content) = length content ≤ LONGEST_CONTENT
 HasRequestSpelling (ask.Fetch hash) = IsDigest hash
 HasRequestSpelling ask.Bye = Unit {0}
 
 -- the fields of an answer, likewise
 abbrev pub HasSpelling : ToClient → Type 0
 HasSpelling say.Hi = Unit {0}
-HasSpelling (say.Reply seal entries part) = IsSeal seal × ((0 < length entries) × ((length entries ≤ 8192) × AllByRecursion IsTagged entries))
+HasSpelling (say.Reply seal entries part) = IsSeal seal × ((0 < length entries) × ((length entries ≤ MOST_TOLD) × AllByRecursion IsTagged entries))
 HasSpelling say.Wait = Unit {0}
 HasSpelling (say.Update seal part) = IsSeal seal
-HasSpelling (say.Entries seal entries) = IsSeal seal × ((length entries ≤ 8192) × AllByRecursion IsTagged entries)
+HasSpelling (say.Entries seal entries) = IsSeal seal × ((length entries ≤ MOST_TOLD) × AllByRecursion IsTagged entries)
 HasSpelling (say.Refused reason) = (0 < reason) × (reason ≤ 7)
 HasSpelling say.Kept = Unit {0}
-HasSpelling (say.Content content) = length content ≤ 8388608
+HasSpelling (say.Content content) = length content ≤ LONGEST_CONTENT
 HasSpelling say.Gone = Unit {0}
 HasSpelling say.Absent = Unit {0}

@@ -1,6 +1,7 @@
 -- The part of an answer: a tree of which subtrees may be cut away. Its grammar, its one spelling, and what it shows.
 use Rattle.std.specs.Prelude.{◌≡◌, ℕ, zero, suc, ◌+◌, ◌-◌, ◌<◌, ◌≤◌, Bool, ◌&&◌, List, [], ◌∷◌, ◌++◌, length, Option, Some, None, Result, Ok, Err, nat_lt, nat_le, ◌==◌, if◌then◌else◌}
 use Rattle.std.specs.Int.{w16, to_be_bytes}
+use Rattle.vic_dict.specs.declared.limits.TheConstants.{LONGEST_KEY, LONGEST_VALUE}
 use Rattle.vic_dict.specs.declared.op.Op.{Op}
 use Rattle.vic_dict.specs.Dictionary.{Dictionary, IsKey}
 use Rattle.vic_wire.specs.Texts.{short_text}
@@ -20,7 +21,7 @@ Part = Tree
 -- a node within a part, its indices at least this
 abbrev pub IsNodeFrom : ℕ → Tree → Type 0
 IsNodeFrom low Empty = ⊥
-IsNodeFrom low (Leaf k v) = IsKey k × (length v < 65)
+IsNodeFrom low (Leaf k v) = IsKey k × (length v ≤ LONGEST_VALUE)
 IsNodeFrom low (Inner i l r) = (low ≤ i) × (i < 2296) × IsNodeFrom (i + 1) l × IsNodeFrom (i + 1) r
 IsNodeFrom low (Stub root) = length root ≡ 32
 
@@ -85,7 +86,7 @@ unfoldable pub text_at : ℕ → ℕ → ℕ → List ℕ → PartRead (List ℕ
 text_at all low high left = field all left BadLength (length_at low high left) then (λ n. field all n.1 BadLength (bytes_at n.0 n.1))
 
 unfoldable pub leaf_at : ℕ → List ℕ → PartRead Tree
-leaf_at all left = text_at all 1 255 left then (λ k. text_at all 0 64 k.1 then (λ v. Ok (Leaf k.0 v.0, v.1)))
+leaf_at all left = text_at all 1 LONGEST_KEY left then (λ k. text_at all 0 LONGEST_VALUE k.1 then (λ v. Ok (Leaf k.0 v.0, v.1)))
 
 -- an index from the least one that is allowed to 2,295
 abbrev pub index_at : ℕ → List ℕ → Read ℕ

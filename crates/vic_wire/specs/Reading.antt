@@ -1,6 +1,7 @@
 -- Reading fields from the left, with the first fault that is met, and whole answers.
 use Rattle.std.specs.Prelude.{ℕ, zero, suc, Bool, ◌&&◌, List, [], ◌∷◌, length, take, drop, replicate, Option, Some, None, Result, Ok, Err, nat_lt, nat_le, ◌==◌, if◌then◌else◌}
 use Rattle.std.specs.Int.{Width, w16, w32, byte_len, from_be_bytes}
+use Rattle.vic_dict.specs.declared.limits.TheConstants.{LONGEST_CONTENT, LONGEST_KEY, LONGEST_VALUE, MOST_CLIENTS, MOST_TOLD}
 use Rattle.vic_dict.specs.declared.op.Op.{Op}
 use Rattle.vic_dict.specs.declared.op.Op.TheVariants as op
 use Rattle.vic_dict.specs.declared.op.Entry.{Entry}
@@ -56,23 +57,23 @@ short_at least most bytes = do
 
 unfoldable pub put_at : List ℕ → Read Op
 put_at bytes = do
-  k ← short_at 1 255 bytes
-  v ← short_at 0 64 k.1
+  k ← short_at 1 LONGEST_KEY bytes
+  v ← short_at 0 LONGEST_VALUE k.1
   Ok (op.Put k.0 v.0, v.1)
 
 unfoldable pub get_at : List ℕ → Read Op
 get_at bytes = do
-  k ← short_at 1 255 bytes
+  k ← short_at 1 LONGEST_KEY bytes
   Ok (op.Get k.0, k.1)
 
 unfoldable pub del_at : List ℕ → Read Op
 del_at bytes = do
-  k ← short_at 1 255 bytes
+  k ← short_at 1 LONGEST_KEY bytes
   Ok (op.Del k.0, k.1)
 
 unfoldable pub list_at : List ℕ → Read Op
 list_at bytes = do
-  p ← short_at 0 255 bytes
+  p ← short_at 0 LONGEST_KEY bytes
   Ok (op.List p.0, p.1)
 
 unfoldable pub op_of_kind : ℕ → List ℕ → Read Op
@@ -91,7 +92,7 @@ op_at bytes = do
 unfoldable pub entry_at : List ℕ → Read Entry
 entry_at bytes = do
   c ← byte_at bytes
-  client ← if_allowed (nat_lt 0 c.0 && nat_le c.0 64) c
+  client ← if_allowed (nat_lt 0 c.0 && nat_le c.0 MOST_CLIENTS) c
   s ← number_at w32 client.1
   seq ← if_allowed (nat_lt 0 s.0) s
   o ← op_at seq.1
@@ -139,13 +140,13 @@ update_at bytes = do
 unfoldable pub answer_of_kind : ℕ → List ℕ → Result ToClient FieldFault
 answer_of_kind kind bytes =
     if kind == 0x41 then if_ended (say.Hi, bytes)
-    else if kind == 0x42 then seal_at bytes >>= (λ s. entries_at 1 8192 s.1 >>= (λ es. Ok (say.Reply s.0 es.0 es.1)))
+    else if kind == 0x42 then seal_at bytes >>= (λ s. entries_at 1 MOST_TOLD s.1 >>= (λ es. Ok (say.Reply s.0 es.0 es.1)))
     else if kind == 0x43 then if_ended (say.Wait, bytes)
     else if kind == 0x44 then update_at bytes
-    else if kind == 0x45 then seal_at bytes >>= (λ s. entries_at 0 8192 s.1 >>= (λ es. if_ended (say.Entries s.0 es.0, es.1)))
+    else if kind == 0x45 then seal_at bytes >>= (λ s. entries_at 0 MOST_TOLD s.1 >>= (λ es. if_ended (say.Entries s.0 es.0, es.1)))
     else if kind == 0x46 then byte_at bytes >>= (λ r. if_allowed (nat_lt 0 r.0 && nat_le r.0 7) r >>= (λ x. if_ended (say.Refused x.0, x.1)))
     else if kind == 0x47 then if_ended (say.Kept, bytes)
-    else if kind == 0x48 then if_allowed (nat_le (length bytes) 8388608) (say.Content bytes)
+    else if kind == 0x48 then if_allowed (nat_le (length bytes) LONGEST_CONTENT) (say.Content bytes)
     else if kind == 0x49 then if_ended (say.Gone, bytes)
     else if kind == 0x4a then if_ended (say.Absent, bytes)
     else Err Value
@@ -216,7 +217,7 @@ request_of_kind kind bytes =
     else if kind == 0x24 then if_ended (ask.Poll, bytes)
     else if kind == 0x25 then seal_request_at bytes
     else if kind == 0x26 then sync_at bytes
-    else if kind == 0x27 then if_allowed (nat_le (length bytes) 8388608) (ask.Keep bytes)
+    else if kind == 0x27 then if_allowed (nat_le (length bytes) LONGEST_CONTENT) (ask.Keep bytes)
     else if kind == 0x28 then fetch_at bytes
     else if kind == 0x29 then if_ended (ask.Bye, bytes)
     else Err Value

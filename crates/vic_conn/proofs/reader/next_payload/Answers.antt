@@ -20,12 +20,12 @@ returns-then-size-eq0-clause-err c =
     let broken = bad_length bytes _ n at (zero_refused n c.if-size-eq0.true) in
     cc (broken, c.if-size-eq0.true)
 
-pub returns-then-size-gt-LONGEST-clause-err : goal.returns-then-size-gt-LONGEST-clause-err
-returns-then-size-gt-LONGEST-clause-err c =
+pub returns-then-size-gt-LONGEST_FRAME-clause-err : goal.returns-then-size-gt-LONGEST_FRAME-clause-err
+returns-then-size-gt-LONGEST_FRAME-clause-err c =
     let bytes = c.args.bytes.now in
     let at : number_at w32 bytes ≡ Ok (c.in-Ok.size, c.take_u32.new.self) = rw c.new-cut.ensures at c.in-Ok.ensures.gives in
     let n = c.in-Ok.size in
-    let long : 16777216 < n = omega (arith, c.if-size-gt-LONGEST.true) in
+    let long : 16777216 < n = omega (arith, c.if-size-gt-LONGEST_FRAME.true) in
     (omega (arith, long), bad_length bytes _ n at (long_refused n long))
 
 pub returns-in-Ok-take_bytes-clause-ok : goal.returns-in-Ok-take_bytes-clause-ok
@@ -34,7 +34,7 @@ returns-in-Ok-take_bytes-clause-ok c =
     let at : number_at w32 bytes ≡ Ok (c.in-Ok.size, c.take_u32.new.self) = rw c.new-cut.ensures at c.in-Ok.ensures.gives in
     let n = c.in-Ok.size in
     let some : 0 < n = omega arith in
-    let most : n ≤ 16777216 = omega (arith, c.if-size-gt-LONGEST.false) in
+    let most : n ≤ 16777216 = omega (arith, c.if-size-gt-LONGEST_FRAME.false) in
     let p = c.in-Ok-take_bytes.payload.now in
     let whole = has_payload bytes c.take_u32.new.self p c.take_bytes.new.self n at (length_allowed n some most) c.in-Ok-take_bytes.ensures.gives in
     whole ∙ ap (Whole p) (whole_behind bytes p c.take_bytes.new.self (whole_told bytes p c.take_bytes.new.self whole))
@@ -45,6 +45,6 @@ returns-in-Err-clause-ok c =
     let at : number_at w32 bytes ≡ Ok (c.in-Ok.size, c.take_u32.new.self) = rw c.new-cut.ensures at c.in-Ok.ensures.gives in
     let n = c.in-Ok.size in
     let some : 0 < n = omega arith in
-    let most : n ≤ 16777216 = omega (arith, c.if-size-gt-LONGEST.false) in
+    let most : n ≤ 16777216 = omega (arith, c.if-size-gt-LONGEST_FRAME.false) in
     let e = c.in-Err.ensures in
     waits_for_payload bytes c.take_u32.new.self n c.in-Err.field-0 at (length_allowed n some most) e.gives (λ is. e.no_memory (ap Err is))

@@ -8,5 +8,5 @@ try_text-requires-clause-may c = λ l e. may_of c.args.world.now c.args.number l
 
 pub returns-in-None : goal.returns-in-None
 returns-in-None c =
-    follows_none c.args.behind c.args.number (scene_of c.args.world.now) c.args.text.now c.try_text.new.world c.args.out.now c.try_text.new.out (omega (arith, c.if-behind-gt-SCRIPT_LIMIT.false))
+    follows_none c.args.behind c.args.number (scene_of c.args.world.now) c.args.text.now c.try_text.new.world c.args.out.now c.try_text.new.out (omega (arith, c.if-behind-gt-LONGEST_SCRIPT.false))
     c.requires.reached c.requires.few (rw (sym c.in-None.is) c.in_ok-kind.ensures)

@@ -3,5 +3,5 @@ use Rattle.vic_script.specs.Run.{script_limit}
 use Rattle.vic_group.proofs.Playing.{known_all}
 use Rattle.vic_group.proofs.play.known_of.Goals as goal
 
-pub returns-then-script-le-SCRIPT_LIMIT : goal.returns-then-script-le-SCRIPT_LIMIT
-returns-then-script-le-SCRIPT_LIMIT c = known_all script_limit c.args.script.now (omega (arith, c.if-script-le-SCRIPT_LIMIT.true))
+pub returns-then-script-le-LONGEST_SCRIPT : goal.returns-then-script-le-LONGEST_SCRIPT
+returns-then-script-le-LONGEST_SCRIPT c = known_all script_limit c.args.script.now (omega (arith, c.if-script-le-LONGEST_SCRIPT.true))

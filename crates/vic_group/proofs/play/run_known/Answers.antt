@@ -9,8 +9,8 @@ use Rattle.vic_group.specs.Playing.{header_by, progress_by, Leads, ComesTo, tria
 use Rattle.vic_group.proofs.Playing.{heading_line, tried_long, tried_short, head_stops, head_goes, head_ends, opened_shows, opened_reached, lines_none, play_nil, if_ok-map}
 use Rattle.vic_group.proofs.play.run_known.Goals as goal
 
-pub returns-then-behind-gt-SCRIPT_LIMIT : goal.returns-then-behind-gt-SCRIPT_LIMIT
-returns-then-behind-gt-SCRIPT_LIMIT c =
+pub returns-then-behind-gt-LONGEST_SCRIPT : goal.returns-then-behind-gt-LONGEST_SCRIPT
+returns-then-behind-gt-LONGEST_SCRIPT c =
     let total : ℕ = length c.args.known.now in
     let n : ℕ = c.loop-rest.number in
     let place : Progress = progress_by c.loop-rest.header in
@@ -19,7 +19,7 @@ returns-then-behind-gt-SCRIPT_LIMIT c =
     let others : List ℕ = c.first_line.result.1.now in
     let run : ScriptRun = run_from total 0 1 Before (lines_of c.args.known.now) in
     let on = heading_line run total c.loop-rest.before n behind place c.loop-rest.rest.now text others c.loop-rest.invariant.run c.first_line.ensures.lines c.line_end-behind.ensures in
-    let stopped = head_stops run n 7 place (trial_at behind place text) (λ next. run_from total behind (n + 1) next (lines_of others)) on (tried_long behind place text (omega (arith, c.if-behind-gt-SCRIPT_LIMIT.true))) in
+    let stopped = head_stops run n 7 place (trial_at behind place text) (λ next. run_from total behind (n + 1) next (lines_of others)) on (tried_long behind place text (omega (arith, c.if-behind-gt-LONGEST_SCRIPT.true))) in
     if_ok-map c.unopened.result _ _ (λ r h. subst (λ (x : ScriptRun). ComesTo x r) (sym stopped) h) c.unopened.ensures
 
 pub returns-in-Bad : goal.returns-in-Bad
@@ -34,7 +34,7 @@ returns-in-Bad c =
     let spelled : Option Line = line_of (mode_in (scene_in place)) text in
     let on = heading_line run total c.loop-rest.before n behind place c.loop-rest.rest.now text others c.loop-rest.invariant.run c.first_line.ensures.lines c.line_end-behind.ensures in
     let leads : Leads place spelled (headed.Bad c.in-Bad.header c.in-Bad.kind) = subst (λ (h : Headed). Leads place spelled h) c.in-Bad.is c.in_ok-next.ensures in
-    let within : behind ≤ script_limit = omega (arith, c.if-behind-gt-SCRIPT_LIMIT.false) in
+    let within : behind ≤ script_limit = omega (arith, c.if-behind-gt-LONGEST_SCRIPT.false) in
     let stopped = head_stops run n c.in-Bad.kind place (trial_at behind place text) (λ next. run_from total behind (n + 1) next (lines_of others)) on (tried_short behind place text within ∙ leads.0)
     ∙ ap (λ (p : Progress). run_to_bad_line p n c.in-Bad.kind) leads.1.0 in
     if_ok-map c.unopened-in-Bad.result _ _ (λ r h. subst (λ (x : ScriptRun). ComesTo x r) (sym stopped) h) c.unopened-in-Bad.ensures
@@ -62,7 +62,7 @@ returns-in-Ends c =
     let run : ScriptRun = run_from total 0 1 Before (lines_of c.args.known.now) in
     let spelled : Option Line = line_of (mode_in (scene_in place)) text in
     let leads : Leads place spelled (headed.Ends c.in-Ends.header) = subst (λ (h : Headed). Leads place spelled h) c.in-Ends.is c.in_ok-next.ensures in
-    let within : line_end total c.loop-rest.before text ≤ script_limit = omega (arith, c.line_end-behind.ensures, c.if-behind-gt-SCRIPT_LIMIT.false) in
+    let within : line_end total c.loop-rest.before text ≤ script_limit = omega (arith, c.line_end-behind.ensures, c.if-behind-gt-LONGEST_SCRIPT.false) in
     let on = head_ends run total c.loop-rest.before n place c.in-Ends.header c.in_ok-world-in-Ends.world c.loop-rest.rest.now text others c.loop-rest.invariant.run c.first_line.ensures.lines within leads c.in_ok-world-in-Ends.ensures in
     if_ok-map c.run_on.result _ _ (λ r h. subst (λ (x : ScriptRun). ComesTo x r) (sym on) h) c.run_on.ensures
 
@@ -78,7 +78,7 @@ loop-rest-preserved c =
     let spelled : Option Line = line_of (mode_in (scene_in place)) text in
     let on = heading_line run total c.loop-rest.before n behind place c.loop-rest.rest.now text others c.loop-rest.invariant.run c.first_line.ensures.lines c.line_end-behind.ensures in
     let leads : Leads place spelled (headed.Goes c.in-Goes.next) = subst (λ (h : Headed). Leads place spelled h) c.in-Goes.is c.in_ok-next.ensures in
-    let within : behind ≤ script_limit = omega (arith, c.if-behind-gt-SCRIPT_LIMIT.false) in
+    let within : behind ≤ script_limit = omega (arith, c.if-behind-gt-LONGEST_SCRIPT.false) in
     record {
       header = leads.1;
       place = omega (arith, c.line_end-behind.ensures);
