@@ -19,7 +19,7 @@ use Rattle.vic_spellings.proofs.Bytes.{bytes-cons, bytes-append, bytes-w16, byte
 -- ---- fields
 
 pub short_bytes : (text : List ℕ) → length text ≤ 255 → AreBytes text → AreBytes (short_text text)
-short_bytes text few h = bytes-cons (length text) text few h
+short_bytes text few h = bytes-cons (length text) text (omega (arith, few)) h
 
 op_bytes : (o : Op) → Fits o → AreBytesIn o → AreBytes (op_text o)
 op_bytes (op.Put k v) fits h =

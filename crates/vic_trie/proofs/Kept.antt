@@ -201,7 +201,7 @@ pub absent_top : (top : Option Node) (d : Dictionary) (k : List ℕ) → IsTree 
     → (length k ≤ 255 → value_at k (end_at k (top_tree top)) ≡ None) → finmap.get d k ≡ None
 absent_top None d k g s view h = get_missing Empty d tt view k (λ x. x)
 absent_top (Some n) d k g s view h = elim (small_or (length k)) [
-  | inl a ↦ get_at (tree n) d g view k ∙ h a
+  | inl a ↦ get_at (tree n) d g view k ∙ h (omega (arith, a))
   | inr b ↦ get_long n d k (record { grown = g; sound = s; view = view }) b
 ]
   where

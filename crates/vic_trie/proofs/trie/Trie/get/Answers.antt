@@ -5,10 +5,10 @@ use Rattle.vic_wire.specs.Trees.{Empty}
 use Rattle.vic_trie.specs.Nodes.{tree}
 use Rattle.vic_trie.proofs.trie.Trie.get.Goals as goal
 
-pub returns-then-key-gt255-clause-value : goal.returns-then-key-gt255-clause-value
-returns-then-key-gt255-clause-value c =
+pub returns-then-key-gt-LONGEST_KEY-clause-value : goal.returns-then-key-gt-LONGEST_KEY-clause-value
+returns-then-key-gt-LONGEST_KEY-clause-value c =
     let o = opened c.self.invariant c.self.view_is c.in-Some.is in
-    sym (get_long c.in-Some.node c.args.self.now c.args.key.now o c.if-key-gt255.true)
+    sym (get_long c.in-Some.node c.args.self.now c.args.key.now o c.if-key-gt-LONGEST_KEY.true)
 
 pub returns-in-None-clause-value : goal.returns-in-None-clause-value
 returns-in-None-clause-value c = sym (get_missing Empty c.args.self.now tt (opened_none c.self.view_is c.in-None.is) c.args.key.now (λ h. h))

@@ -9,10 +9,10 @@ use Rattle.vic_tree.proofs.Names.{keys_of}
 use Rattle.vic_trie.proofs.Kept.{names_are, names_nothing, listed, list_long, opened, opened_none}
 use Rattle.vic_trie.proofs.trie.Trie.list.Goals as goal
 
-pub returns-then-prefix-gt255 : goal.returns-then-prefix-gt255
-returns-then-prefix-gt255 c =
+pub returns-then-prefix-gt-LONGEST_KEY : goal.returns-then-prefix-gt-LONGEST_KEY
+returns-then-prefix-gt-LONGEST_KEY c =
     let o = opened c.self.invariant c.self.view_is c.in-Some.is in
-    c.new-names.ensures ∙ sym (list_long c.in-Some.node c.args.self.now c.args.prefix.now o c.if-prefix-gt255.true)
+    c.new-names.ensures ∙ sym (list_long c.in-Some.node c.args.self.now c.args.prefix.now o c.if-prefix-gt-LONGEST_KEY.true)
 
 pub returns-in-None : goal.returns-in-None
 returns-in-None c = c.new-names.ensures ∙ sym (names_nothing c.args.self.now c.args.prefix.now (opened_none c.self.view_is c.in-None.is))
