@@ -8,7 +8,7 @@ use crate::limits::{LONGEST_KEY, LONGEST_VALUE};
 use std::alloc::Global;
 
 /// What a client asks of the dictionary. A key has 1 to 255 bytes, a value 0 to 64, a prefix 0 to 255.
-#[derive(Debug, Drop)]
+#[derive(Debug, Drop, PartialEq, Eq)]
 pub enum Op {
     /// The key now has the value.
     Put(Bytes, Bytes),
@@ -21,7 +21,7 @@ pub enum Op {
 }
 
 /// What the dictionary answers.
-#[derive(Debug, Drop)]
+#[derive(Debug, Drop, PartialEq, Eq)]
 pub enum Answer {
     Stored,
     Found(Bytes),
@@ -32,7 +32,7 @@ pub enum Answer {
 }
 
 /// How a call ended. It is completed where it is done or aborted.
-#[derive(Debug, Drop)]
+#[derive(Debug, Drop, PartialEq, Eq)]
 pub enum Outcome {
     Done(Answer),
     /// The position of the conflicting entry that stood in the way.
@@ -44,7 +44,7 @@ pub enum Outcome {
 }
 
 /// One call in the common order: the client, its number among this client's calls (from 1 on), and the operation.
-#[derive(Debug, Drop)]
+#[derive(Debug, Drop, PartialEq, Eq)]
 pub struct Entry {
     pub client: u8,
     pub seq: u32,

@@ -9,19 +9,12 @@ use vic_dict::{Entry, Op};
 pub fn same_op(a: &Op, b: &Op) -> bool
     ensures { result ≡ same_op_test a.now b.now }
 {
-    match (a, b) {
-        (Op::Put(key, value), Op::Put(key2, value2)) => key.as_slice() == key2.as_slice()
-            && value.as_slice() == value2.as_slice(),
-        (Op::Get(key), Op::Get(key2)) => key.as_slice() == key2.as_slice(),
-        (Op::Del(key), Op::Del(key2)) => key.as_slice() == key2.as_slice(),
-        (Op::List(prefix), Op::List(prefix2)) => prefix.as_slice() == prefix2.as_slice(),
-        _ => false,
-    }
+    a == b
 }
 
 /// Whether two entries are the same: the client, its number and the operation.
 pub fn same_entry(a: &Entry, b: &Entry) -> bool
     ensures { result ≡ same_entry_test a.now b.now }
 {
-    a.client == b.client && (a.seq == b.seq && same_op(&a.op, &b.op))
+    a == b
 }
