@@ -1,15 +1,13 @@
 //! Views, and how far two of them agree.
 
 ghost use Rattle.std.specs.Prelude.{◌≡◌, ◌<◌, ◌≤◌, ◌^◌, [], ◌∷◌, ◌++◌, ◌&&◌, length, IfOk, OnOk, OnErr, slice_get, Some, nat_eq};
-ghost use Rattle.std.specs.Cmp.Lexicographic.{pointwise};
-ghost use Rattle.std.specs.Str.{bytes_eq};
-ghost use Rattle.vic_script.specs.Print.{same_answer as same_answer_test, same_outcome as same_outcome_test, same_shown as same_shown_test, agreement};
+ghost use Rattle.vic_script.specs.Print.{same_shown as same_shown_test, agreement};
 ghost use Rattle.vic_view.specs.Together.{rows_of};
 
 use crate::together::{Line, Rows, together};
 use std::alloc::Global;
 use std::marker::Model;
-use vic_dict::{Answer, Bytes, Names, NoMemory, Outcome};
+use vic_dict::NoMemory;
 use vic_rules::{Shown, same_entry};
 
 /// The calls of a client's view, the oldest first.
@@ -69,57 +67,10 @@ impl View {
     }
 }
 
-fn same_bytes(a: &Bytes, b: &Bytes) -> bool
-    ensures { result ≡ bytes_eq a.now b.now }
-{
-    a.as_slice() == b.as_slice()
-}
-
-fn same_names(a: &Names, b: &Names) -> bool
-    ensures { result ≡ pointwise bytes_eq a.now b.now }
-{
-    let (left, right) = (a.as_slice(), b.as_slice());
-    if left.len() != right.len() {
-        return false;
-    }
-    for (i, name) in left.iter().enumerate() {
-        if !same_bytes(name, &right[i]) {
-            return false;
-        }
-    }
-    true
-}
-
-fn same_answer(a: &Answer, b: &Answer) -> bool
-    ensures { result ≡ same_answer_test a.now b.now }
-{
-    match (a, b) {
-        (Answer::Stored, Answer::Stored) => true,
-        (Answer::Found(v), Answer::Found(w)) => same_bytes(v, w),
-        (Answer::NotFound, Answer::NotFound) => true,
-        (Answer::Removed, Answer::Removed) => true,
-        (Answer::Absent, Answer::Absent) => true,
-        (Answer::Names(ks), Answer::Names(ls)) => same_names(ks, ls),
-        _ => false,
-    }
-}
-
-fn same_outcome(a: &Outcome, b: &Outcome) -> bool
-    ensures { result ≡ same_outcome_test a.now b.now }
-{
-    match (a, b) {
-        (Outcome::Done(x), Outcome::Done(y)) => same_answer(x, y),
-        (Outcome::Aborted(u), Outcome::Aborted(v)) => u == v,
-        (Outcome::Refused(r), Outcome::Refused(q)) => r == q,
-        (Outcome::Halted(k), Outcome::Halted(l)) => k == l,
-        _ => false,
-    }
-}
-
 fn same_shown(a: &Shown, b: &Shown) -> bool
     ensures { result ≡ same_shown_test a.now b.now }
 {
-    same_entry(&a.entry, &b.entry) && same_outcome(&a.outcome, &b.outcome)
+    same_entry(&a.entry, &b.entry) && a.outcome == b.outcome
 }
 
 /// How many calls two views have in common at their front.
