@@ -5,6 +5,7 @@ use Rattle.vic_dict.specs.declared.op.Op.{Op}
 use Rattle.vic_dict.specs.declared.op.Op.TheVariants as op
 use Rattle.vic_dict.specs.declared.op.Mode.{Mode}
 use Rattle.vic_dict.specs.declared.op.Mode.TheVariants as mode
+use Rattle.vic_wire.specs.declared.refusal.TheConstants.{BEHIND, PENDING_FULL, WEIGHT_FULL, HISTORY_FULL, OUT_OF_ORDER, NOT_MEMBER, CONTENT_FULL}
 use Rattle.vic_wire.specs.declared.message.ToServer.{ToServer}
 use Rattle.vic_wire.specs.declared.message.ToServer.TheVariants as ask
 use Rattle.vic_wire.specs.declared.message.ToClient.{ToClient}
@@ -138,12 +139,12 @@ IsToWait s who _ = ⊥
 -- sealed, the weight, and how far the client is behind. Contents are too many where one of a new hash has no room; one is absent where
 -- none has its hash
 pub record Causes (s : Server) (who : ℕ) (request : Option ToServer) (a : ToClient) : Type 0 where
-  pub out_of_order : (a ≡ say.Refused 5) ↔ IsOutOfOrder s who request
-  pub no_member : (a ≡ say.Refused 6) ↔ IsNoMember s who request
-  pub log_full : (a ≡ say.Refused 4) ↔ OfCall s who request (λ known o. IsLogFull s)
-  pub pending_full : (a ≡ say.Refused 2) ↔ OfCall s who request (λ known o. (IsLogFull s → ⊥) × IsPendingFull s)
-  pub too_heavy : (a ≡ say.Refused 3) ↔ OfCall s who request (λ known o. (IsLogFull s → ⊥) × ((IsPendingFull s → ⊥) × IsTooHeavy s o))
-  pub too_far : (a ≡ say.Refused 1) ↔ OfCall s who request (λ known o. (IsLogFull s → ⊥) × ((IsPendingFull s → ⊥) × ((IsTooHeavy s o → ⊥) × IsTooFar s known)))
+  pub out_of_order : (a ≡ say.Refused OUT_OF_ORDER) ↔ IsOutOfOrder s who request
+  pub no_member : (a ≡ say.Refused NOT_MEMBER) ↔ IsNoMember s who request
+  pub log_full : (a ≡ say.Refused HISTORY_FULL) ↔ OfCall s who request (λ known o. IsLogFull s)
+  pub pending_full : (a ≡ say.Refused PENDING_FULL) ↔ OfCall s who request (λ known o. (IsLogFull s → ⊥) × IsPendingFull s)
+  pub too_heavy : (a ≡ say.Refused WEIGHT_FULL) ↔ OfCall s who request (λ known o. (IsLogFull s → ⊥) × ((IsPendingFull s → ⊥) × IsTooHeavy s o))
+  pub too_far : (a ≡ say.Refused BEHIND) ↔ OfCall s who request (λ known o. (IsLogFull s → ⊥) × ((IsPendingFull s → ⊥) × ((IsTooHeavy s o → ⊥) × IsTooFar s known)))
   pub waits : (a ≡ say.Wait) ↔ IsToWait s who request
-  pub full : (a ≡ say.Refused 7) ↔ OfKeep s who request (λ content. IsUnknown s (content_hash content) × (IsRoom s.contents content → ⊥))
+  pub full : (a ≡ say.Refused CONTENT_FULL) ↔ OfKeep s who request (λ content. IsUnknown s (content_hash content) × (IsRoom s.contents content → ⊥))
   pub absent : (a ≡ say.Absent) ↔ OfFetch s who request (IsUnknown s)

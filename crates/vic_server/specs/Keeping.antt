@@ -7,6 +7,7 @@ use Rattle.vic_dict.specs.declared.op.Op.{Op}
 use Rattle.vic_dict.specs.declared.op.Op.TheVariants as op
 use Rattle.std.specs.Coded.{Coded}
 use Rattle.vic_dict.specs.Dictionary.{Dictionary, bytes_code}
+use Rattle.vic_wire.specs.declared.refusal.TheConstants.{BEHIND, PENDING_FULL, WEIGHT_FULL, HISTORY_FULL, OUT_OF_ORDER}
 use Rattle.vic_wire.specs.declared.message.Seal.{Seal}
 use Rattle.vic_wire.specs.declared.message.ToClient.{ToClient}
 use Rattle.vic_wire.specs.declared.message.ToClient.TheVariants as say
@@ -70,11 +71,11 @@ turn_from seal d who o status = say.Wait
 -- what an Invoke has to pass
 abbrev pub invoke_tests : Server → ℕ → ℕ → ℕ → Op → List (ℕ × Bool)
 invoke_tests s who known seq o =
-    (5, is_ready (member s who).stage && (nat_lt (member s who).last seq && nat_le known (size s)))
-    ∷ (4, not (nat_eq (size s) MOST_ENTRIES))
-    ∷ (2, not (nat_eq (size s - sealed_count s) MOST_UNSEALED))
-    ∷ (3, not (is_put o) || nat_le (weight s + op_weight o) MOST_WEIGHT)
-    ∷ (1, nat_le (size s + 1 - known) MOST_TOLD) ∷ []
+    (OUT_OF_ORDER, is_ready (member s who).stage && (nat_lt (member s who).last seq && nat_le known (size s)))
+    ∷ (HISTORY_FULL, not (nat_eq (size s) MOST_ENTRIES))
+    ∷ (PENDING_FULL, not (nat_eq (size s - sealed_count s) MOST_UNSEALED))
+    ∷ (WEIGHT_FULL, not (is_put o) || nat_le (weight s + op_weight o) MOST_WEIGHT)
+    ∷ (BEHIND, nat_le (size s + 1 - known) MOST_TOLD) ∷ []
 
 -- an Invoke that passes them
 pub record IsAllowed (s : Server) (from : ℕ) (o : Op) : Type 0 where

@@ -3,6 +3,7 @@
 ghost use Rattle.std.specs.Prelude.{◌≡◌, ℕ, ◌&&◌, ◌||◌, not, nat_lt, nat_le, ◌∷◌, ◌<◌, ◌≤◌, ◌+◌, true, false, None, length, Ok, Some, IfNone, IfSome, IfOk, IsOk, OnOk, OnErr, IsTrue};
 ghost use Rattle.vic_dict.specs.declared.limits.TheConstants.{LONGEST_CONTENT, MOST_CLIENTS, MOST_WEIGHT};
 ghost use Rattle.vic_dict.specs.Dictionary.{Fits};
+ghost use Rattle.vic_wire.specs.declared.refusal.TheConstants.{BEHIND, CONTENT_FULL};
 ghost use Rattle.vic_wire.specs.declared.message.ToServer.TheVariants as ask;
 ghost use Rattle.vic_wire.specs.Messages.{HasRequestSpelling, HasSpelling, IsSeal, IsTagged};
 ghost use Rattle.vic_dict.specs.declared.op.Mode.TheVariants as mode;
@@ -25,6 +26,9 @@ use vic_dict::limits::{MOST_ENTRIES, MOST_TOLD, MOST_UNSEALED, MOST_WEIGHT};
 use vic_dict::{Bytes, Entry, Mode, NoMemory, Op};
 use vic_frames::decode_request;
 use vic_order::Stage;
+use vic_wire::refusal::{
+    BEHIND, CONTENT_FULL, HISTORY_FULL, NOT_MEMBER, OUT_OF_ORDER, PENDING_FULL, WEIGHT_FULL,
+};
 use vic_wire::{Digest32, Seal, Tagged, ToClient, ToServer};
 
 fn is_ready(stage: Stage) -> bool
@@ -137,13 +141,13 @@ impl Machine {
         ensures { Follows (on_hello self.now who kind client) self.now result }
     {
         if who != 0 {
-            return refused(5);
+            return refused(OUT_OF_ORDER);
         }
         if !(0 < client
             && (client <= self.count()
                 && (same_mode(kind, self.mode()) && is_away(self.stage_of(client)))))
         {
-            return refused(6);
+            return refused(NOT_MEMBER);
         }
         Plan {
             answer: ToClient::Hi,
@@ -156,7 +160,7 @@ impl Machine {
         ensures { Follows (on_request self.now who ask.Bye) self.now result }
     {
         if !is_ready(self.stage_of(who)) {
-            return refused(5);
+            return refused(OUT_OF_ORDER);
         }
         Plan {
             answer: ToClient::Gone,
@@ -180,7 +184,7 @@ impl Machine {
         ensures waits { (on_request self.now who ask.Poll).answer ≡ say.Wait → result ≡ Ok to_wait }
     {
         if !is_ready(self.stage_of(who)) {
-            return Ok(refused(5));
+            return Ok(refused(OUT_OF_ORDER));
         }
         let status = self.status_at(self.sealed() + 1);
         let answer = self.turn_with(alloc, who, status)?;
@@ -192,7 +196,7 @@ impl Machine {
     {
         let length = self.length();
         if !(is_ready(self.stage_of(who)) && known <= length) {
-            return Ok(refused(5));
+            return Ok(refused(OUT_OF_ORDER));
         }
         let end = length.min(known + MOST_TOLD);
         let entries = self.told(alloc, known, end)?;
@@ -213,7 +217,7 @@ impl Machine {
         ensures { IfOk result (λ p. Follows (on_request self.now who (ask.Commit position done tag)) self.now p) }
     {
         if !is_open_at(position, self.stage_of(who)) {
-            return Ok(refused(5));
+            return Ok(refused(OUT_OF_ORDER));
         }
         let next = self.sealed() + 1;
         let status = if position == next {
@@ -234,10 +238,10 @@ impl Machine {
         ensures same { self.new ≡ self.old }
     {
         if !(is_ready(self.stage_of(who)) && seal.position == self.sealed() + 1) {
-            return Ok(refused(5));
+            return Ok(refused(OUT_OF_ORDER));
         }
         match self.commit_of(who, seal.position) {
-            None => Ok(refused(5)),
+            None => Ok(refused(OUT_OF_ORDER)),
             Some(done) => {
                 let answer = self.turn_after(alloc, who, seal, done)?;
                 Ok(Plan {
@@ -252,24 +256,24 @@ impl Machine {
     fn invoke_refusal(&self, who: u8, known: u32, seq: u32, op: &Op) -> Option<u8>
         requires { Fits op.now }
         ensures is { result ≡ first_failing (invoke_tests self.now who known seq op.now) }
-        ensures number { IfSome result (λ r. (0 < r) × (r ≤ 7)) }
+        ensures number { IfSome result (λ r. (BEHIND ≤ r) × (r ≤ CONTENT_FULL)) }
         ensures allowed { IfNone result (IsAllowed self.now known op.now) }
     {
         let length = self.length();
         if !is_in_order(self.stage_of(who), self.last_of(who), seq, known, length) {
-            return Some(5);
+            return Some(OUT_OF_ORDER);
         }
         if length == MOST_ENTRIES {
-            return Some(4);
+            return Some(HISTORY_FULL);
         }
         if length - self.sealed() == MOST_UNSEALED {
-            return Some(2);
+            return Some(PENDING_FULL);
         }
         if !is_light(self.weight(), op) {
-            return Some(3);
+            return Some(WEIGHT_FULL);
         }
         if !(length + 1 - known <= MOST_TOLD) {
-            return Some(1);
+            return Some(BEHIND);
         }
         None
     }
@@ -338,14 +342,14 @@ impl Machine {
         ensures { Follows (on_request self.now who (ask.Keep content)) self.now result }
     {
         if !self.may_ask(who) {
-            return refused(5);
+            return refused(OUT_OF_ORDER);
         }
         let hash = vic_hash::content(content.as_slice());
         if self.is_kept(&hash) {
             return only(ToClient::Kept);
         }
         if !self.has_room(content.len()) {
-            return refused(7);
+            return refused(CONTENT_FULL);
         }
         Plan {
             answer: ToClient::Kept,
@@ -358,7 +362,7 @@ impl Machine {
         ensures { IfOk result (λ p. Follows (on_request self.now who (ask.Fetch hash)) self.now p) }
     {
         if !self.may_ask(who) {
-            return Ok(refused(5));
+            return Ok(refused(OUT_OF_ORDER));
         }
         let answer = self.content_with(alloc, &hash)?;
         Ok(only(answer))
@@ -372,7 +376,7 @@ impl Machine {
         ensures same { self.new ≡ self.old }
     {
         match request {
-            ToServer::Hello(_, _) => Ok(refused(5)),
+            ToServer::Hello(_, _) => Ok(refused(OUT_OF_ORDER)),
             ToServer::Invoke {
                 known,
                 seq,
@@ -417,11 +421,11 @@ impl Machine {
         ensures same { self.new ≡ self.old }
     {
         match request {
-            None => Ok(refused(5)),
+            None => Ok(refused(OUT_OF_ORDER)),
             Some(ToServer::Hello(kind, client)) => Ok(self.on_hello(who, kind, client)),
             Some(request) => {
                 if !self.is_member(who) {
-                    return Ok(refused(6));
+                    return Ok(refused(NOT_MEMBER));
                 }
                 self.on_request(alloc, who, request)
             }

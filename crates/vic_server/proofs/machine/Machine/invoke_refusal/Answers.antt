@@ -7,7 +7,7 @@ returns-clause-allowed c =
     let light = c.if-not-is_light.ensures.light refl in
     record {
       known = omega (arith, known, c.length-length.ensures.is);
-      room = omega (arith, c.if-length-eq1048576.false, c.length-length.ensures.is, c.length-length.ensures.room);
+      room = omega (arith, c.if-length-eq-MOST_ENTRIES.false, c.length-length.ensures.is, c.length-length.ensures.room);
       light = omega (arith, light, c.weight.ensures.is);
       near = omega (arith, known, c.if-not-length-known.false, c.length-length.ensures.is);
     }
