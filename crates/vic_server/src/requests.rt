@@ -1,6 +1,7 @@
 //! One function for each kind of request: the tests in the order of the rule, what changes, and the answer.
 
-ghost use Rattle.std.specs.Prelude.{◌≡◌, ℕ, ◌&&◌, ◌||◌, not, nat_lt, nat_le, ◌∷◌, ◌<◌, ◌≤◌, ◌+◌, true, false, None, length, Ok, Some, IfNone, IfSome, IfOk, IsOk, OnOk, OnErr, IsTrue};
+ghost use Rattle.std.specs.Prelude.{◌≡◌, ℕ, ◌&&◌, ◌||◌, not, nat_lt, nat_le, ◌∷◌, ◌<◌, ◌≤◌, ◌+◌, true, false, None, length, Ok, Some, IfSome, IfOk, IfErr, IsOk, OnOk, OnErr, IsTrue, if◌then◌else◌};
+ghost use Rattle.std.specs.Result.{result_err};
 ghost use Rattle.vic_dict.specs.declared.limits.TheConstants.{LONGEST_CONTENT, MOST_CLIENTS, MOST_WEIGHT};
 ghost use Rattle.vic_dict.specs.Dictionary.{Fits};
 ghost use Rattle.vic_wire.specs.declared.refusal.TheConstants.{BEHIND, CONTENT_FULL};
@@ -96,6 +97,14 @@ fn is_light(weight: u64, op: &Op) -> bool
         Op::Put(_, _) => weight + op_weight(op) <= MOST_WEIGHT,
         _ => true,
     }
+}
+
+/// A test: where it isn't passed, the refusal's number.
+fn refuse_unless(passed: bool, reason: u8) -> Result<(), u8>
+    ensures is { result_err result ≡ (if passed then None else Some reason) }
+    ensures passed { OnOk result (IsTrue passed) }
+{
+    if passed { Ok(()) } else { Err(reason) }
 }
 
 fn refused(reason: u8) -> Plan
@@ -252,30 +261,20 @@ impl Machine {
         }
     }
 
-    /// The number of the first test that an Invoke fails, if it fails one.
-    fn invoke_refusal(&self, who: u8, known: u32, seq: u32, op: &Op) -> Option<u8>
+    /// What an Invoke has to pass; where it doesn't, the number of the first test that it fails.
+    fn pass_tests(&self, who: u8, known: u32, seq: u32, op: &Op) -> Result<(), u8>
         requires { Fits op.now }
-        ensures is { result ≡ first_failing (invoke_tests self.now who known seq op.now) }
-        ensures number { IfSome result (λ r. (BEHIND ≤ r) × (r ≤ CONTENT_FULL)) }
-        ensures allowed { IfNone result (IsAllowed self.now known op.now) }
+        ensures is { result_err result ≡ first_failing (invoke_tests self.now who known seq op.now) }
+        ensures number { IfErr result (λ r. (BEHIND ≤ r) × (r ≤ CONTENT_FULL)) }
+        ensures allowed { OnOk result (IsAllowed self.now known op.now) }
     {
         let length = self.length();
-        if !is_in_order(self.stage_of(who), self.last_of(who), seq, known, length) {
-            return Some(OUT_OF_ORDER);
-        }
-        if length == MOST_ENTRIES {
-            return Some(HISTORY_FULL);
-        }
-        if length - self.sealed() == MOST_UNSEALED {
-            return Some(PENDING_FULL);
-        }
-        if !is_light(self.weight(), op) {
-            return Some(WEIGHT_FULL);
-        }
-        if !(length + 1 - known <= MOST_TOLD) {
-            return Some(BEHIND);
-        }
-        None
+        let in_order = is_in_order(self.stage_of(who), self.last_of(who), seq, known, length);
+        refuse_unless(in_order, OUT_OF_ORDER)?;
+        refuse_unless(length != MOST_ENTRIES, HISTORY_FULL)?;
+        refuse_unless(length - self.sealed() != MOST_UNSEALED, PENDING_FULL)?;
+        refuse_unless(is_light(self.weight(), op), WEIGHT_FULL)?;
+        refuse_unless(length + 1 - known <= MOST_TOLD, BEHIND)
     }
 
     /// The Reply to an entry that is about to go onto the log.
@@ -310,9 +309,9 @@ impl Machine {
         requires spelled { HasRequestSpelling (ToServer.Invoke known seq op tag) }
         ensures { IfOk result (λ p. Follows (on_request self.now who (ask.Invoke known seq op tag)) self.now p) }
     {
-        match self.invoke_refusal(who, known, seq, &op) {
-            Some(reason) => Ok(refused(reason)),
-            None => {
+        match self.pass_tests(who, known, seq, &op) {
+            Err(reason) => Ok(refused(reason)),
+            Ok(()) => {
                 let entry = Entry {
                     client: who,
                     seq,

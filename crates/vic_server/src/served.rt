@@ -100,6 +100,7 @@ impl Served {
     pub fn keeps_history(&self)
         ensures { self.now.server ≡ replay self.now.opening self.now.changes }
     {
+        // What a type keeps true is known of a value once its body reads a field; this read costs nothing.
         let _machine = &self.machine;
     }
 
