@@ -12,25 +12,22 @@ use Rattle.vic_wire.specs.Conflict.{conflicts}
 use Rattle.vic_commute.proofs.Commuting.{Alike, alike_itself, after_same, other_after, reply_alike}
 use Rattle.vic_wire.specs.Parts.{Part, walked}
 use Rattle.vic_rules.specs.declared.state.Own.{Own}
-use Rattle.vic_rules.specs.Client.{Standing, or_this, least_above, is_in_the_way, in_the_way, done_op, own_calls_over, decided_outcome, decision, is_done}
+use Rattle.vic_rules.specs.Client.{Standing, least_above, is_in_the_way, in_the_way, done_op, own_calls_over, decided_outcome, decision, is_done}
 use Rattle.vic_order.specs.Order.{Ordered}
 use Rattle.vic_order.specs.Fates.{entries, fate, dictionary_by}
 use Rattle.vic_honest.proofs.Words.{length-entries}
 use Rattle.vic_honest.proofs.Owns.{owns, owns-low, owns-mine, owns-other, own_of, above}
+use Rattle.vic_laws.proofs.AnswersStand.{or_this_none}
 
 -- the dictionary after one more entry
 pub dictionary-next : (o : Ordered) (below : List Ordered) → dictionary_by (o ∷ below) ≡ (if is_done (fate o below) then after (dictionary_by below) o.entry.op else dictionary_by below)
 unfolding dictionary_by fate
 dictionary-next o below = refl
 
-neither_one : (a b : Option ℕ) → or_this a b ≡ None → (a ≡ None) × (b ≡ None)
-neither_one (Some u) b e = absurd cc
-neither_one None b e = (refl, e)
-
 pub none_above : (base : ℕ) (test : ℕ → Entry → Bool) (e : Entry) (path : List Entry) → least_above base test (e ∷ path) ≡ None
     → (least_above base test path ≡ None) × ((if nat_lt base (length (e ∷ path)) && test (length (e ∷ path)) e then Some (length (e ∷ path)) else None) ≡ None)
 unfolding least_above
-none_above base test e path h = neither_one (least_above base test path) (if nat_lt base (length (e ∷ path)) && test (length (e ∷ path)) e then Some (length (e ∷ path)) else None) h
+none_above base test e path h = or_this_none (least_above base test path) (if nat_lt base (length (e ∷ path)) && test (length (e ∷ path)) e then Some (length (e ∷ path)) else None) h
 
 pub not_chosen : (a b : Bool) (u : ℕ) → a ≡ true → (if a && b then Some u else None) ≡ None → b ≡ false
 not_chosen a true u e h = let f = sym (ap (λ c. if c && true then Some u else None) e) ∙ h in absurd cc

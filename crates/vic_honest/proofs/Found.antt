@@ -1,5 +1,5 @@
 -- What is found in a group with objects is a reference of a content that is kept.
-use Rattle.std.proofs.Common.{◌≡◌, ℕ, ◌+◌, ◌<◌, ◌^◌, Bool, true, false, cond, List, [], ◌∷◌, ◌++◌, length, take, drop, Option, Some, None, refl, sym, ap, subst, ◌∙◌, length-append}
+use Rattle.std.proofs.Common.{◌≡◌, ℕ, ◌+◌, ◌<◌, ◌^◌, Bool, true, false, cond, List, [], ◌∷◌, ◌++◌, length, drop, Option, Some, None, refl, sym, ap, subst, ◌∙◌, length-append}
 use Rattle.std.specs.Prelude.{if◌then◌else◌}
 use Rattle.std.specs.List.{AllByRecursion}
 use Rattle.std.specs.Str.{bytes_eq}
@@ -9,8 +9,6 @@ use Rattle.std.specs.Ordering.{nat_cmp}
 use Rattle.std.specs.Cmp.Lexicographic.{slice_cmp}
 use Rattle.std.proofs.lemmas.Bool.{eq-eqb}
 use Rattle.std.proofs.lemmas.Nat.{from_be_bytes-to_be_bytes_4}
-use Rattle.std.proofs.lemmas.Cmp.{nat_list_cmp_total}
-use Rattle.std.proofs.lemmas.Map.Text.{is_eq-slice_cmp}
 use Rattle.vic_dict.specs.declared.op.Op.{Op}
 use Rattle.vic_dict.specs.declared.op.Op.TheVariants as op
 use Rattle.vic_dict.specs.declared.op.Answer.TheVariants as answer
@@ -27,16 +25,12 @@ use Rattle.vic_order.specs.Order.{Ordered}
 use Rattle.vic_order.specs.Fates.{entries, fate, dictionary_by}
 use Rattle.vic_honest.proofs.Deciding.{dictionary-next}
 use Rattle.vic_honest.proofs.Referred.{IsKept, Refers}
+use Rattle.vic_laws.proofs.Contents.{first_part}
+use Rattle.vic_laws.proofs.LastPut.{after_put, after_del}
 
 -- a value that is a reference of a content that is kept
 abbrev pub IsGood : List (List ℕ) → List ℕ → Type 0
 IsGood contents v = (is_reference v ≡ true) × IsKept contents (hash_in v) (length_in v)
-
-after_put : (d : Dictionary) (q u k : List ℕ) → map.get (map.insert d q u) k ≡ cond (bytes_eq k q) (Some u) (map.get d k)
-after_put d q u k = map.get-insert nat_list_cmp_total d q u k ∙ ap (λ b. cond b (Some u) (map.get d k)) (is_eq-slice_cmp k q)
-
-after_del : (d : Dictionary) (q k : List ℕ) → map.get (map.remove d q) k ≡ cond (bytes_eq k q) None (map.get d k)
-after_del d q k = map.get-remove nat_list_cmp_total d q k ∙ ap (λ b. cond b None (map.get d k)) (is_eq-slice_cmp k q)
 
 by_op : (contents : List (List ℕ)) (d : Dictionary) (k v : List ℕ) (o : Op) → Refers contents o → (map.get d k ≡ Some v → IsGood contents v) → map.get (after d o) k ≡ Some v → IsGood contents v
 by_op contents d k v (op.Put q u) r rest gets = by_test (bytes_eq k q) (sym (after_put d q u k) ∙ gets)
@@ -139,10 +133,6 @@ after_fetching M contents phase.Calling (outcome.Done (answer.Found v)) old call
     by_test false k = absurd cc
 
 -- ---- the reference of a content that is kept
-
-pub first_part : (h rest : List ℕ) (n : ℕ) → length h ≡ n → take n (h ++ rest) ≡ h
-first_part [] rest n e = ap (λ m. take m rest) (sym e)
-first_part (x ∷ h) rest n e = ap (λ m. take m (x ∷ (h ++ rest))) (sym e) ∙ ap (λ t. x ∷ t) (first_part h rest (length h) refl)
 
 last_part : (h rest : List ℕ) (n : ℕ) → length h ≡ n → drop n (h ++ rest) ≡ rest
 last_part [] rest n e = ap (λ m. drop m rest) (sym e)

@@ -1,21 +1,16 @@
 -- A call is aborted exactly by the least entry of another client that conflicts with it.
-use Rattle.std.proofs.Common.{◌≡◌, ℕ, ◌<◌, true, not, List, Option, Some, None, ap, arith}
-use Rattle.std.specs.Prelude.{◌≢◌, nat_eq}
-use Rattle.std.proofs.lemmas.Bool.{and_parts, and_from, eq-eqb, ne_eqb}
-use Rattle.vic_dict.specs.declared.op.Op.{Op}
-use Rattle.vic_dict.specs.declared.op.Outcome.TheVariants as outcome
-use Rattle.vic_dict.specs.Dictionary.{Dictionary}
+use Rattle.std.proofs.Common.{ℕ, ◌<◌, not, List, ap, arith}
+use Rattle.std.specs.Prelude.{nat_eq}
+use Rattle.std.proofs.lemmas.Bool.{and_parts, and_from, ne_eqb}
 use Rattle.vic_wire.specs.Conflict.{conflicts}
 use Rattle.vic_rules.specs.Client.{is_in_the_way, in_the_way, decided_outcome}
 use Rattle.vic_laws.specs.OrderClaims.{PassesAt}
 use Rattle.vic_laws.proofs.SameOp.{least_above_tells}
+use Rattle.vic_laws.proofs.Decisions.{other_client, aborted_by_some}
 use Rattle.vic_order.specs.Order.{Ordered}
 use Rattle.vic_order.specs.Fates.{entries, fate, dictionary_by}
 use Rattle.vic_honest.specs.Claims.{StandsInTheWay, AbortsAreConflicts}
 use Rattle.vic_honest.proofs.Words.{length-entries}
-
-other_client : (a b : ℕ) → not (nat_eq a b) ≡ true → a ≢ b
-other_client a b e same = let equal : nat_eq a b ≡ true = eq-eqb a b same in absurd cc
 
 -- what passes the client's test stands in the way
 stands : (o : Ordered) (below : List Ordered) (u : ℕ) → o.sealed_then < u → PassesAt (is_in_the_way o.entry.client o.entry.op) (entries below) u → StandsInTheWay o below u
@@ -39,17 +34,12 @@ passes o below u h = record {
   passes = and_from (not (nat_eq h.entry.client o.entry.client)) (conflicts h.entry.op o.entry.op) (ap not (ne_eqb h.entry.client o.entry.client h.other)) h.conflict;
 }
 
--- a decision that aborts names what the search found
-found_by : (w : Option ℕ) (d : Dictionary) (o : Op) (u : ℕ) → decided_outcome w d o ≡ outcome.Aborted u → w ≡ Some u
-found_by None d o u e = absurd cc
-found_by (Some v) d o u e = let same : v ≡ u = cc in ap Some same
-
 pub aborts_are_conflicts : AbortsAreConflicts
 unfolding fate
 aborts_are_conflicts o below u =
     let found = least_above_tells o.sealed_then (is_in_the_way o.entry.client o.entry.op) (entries below) u in (
       λ e.
-          let least = found.0 (found_by (in_the_way o.entry.client o.entry.op o.sealed_then (entries below)) (dictionary_by below) o.entry.op u e) in
+          let least = found.0 (aborted_by_some (in_the_way o.entry.client o.entry.op o.sealed_then (entries below)) (dictionary_by below) o.entry.op u e) in
           (stands o below u least.above least.passes, λ v less h. least.least v h.unsealed less (passes o below v h)),
       λ h. ap (λ w. decided_outcome w (dictionary_by below) o.entry.op)
           (found.1 (record { above = h.0.unsealed; passes = passes o below u h.0; least = λ v above less p. h.1 v less (stands o below v above p) })),

@@ -21,7 +21,6 @@ pub mod Learning
 pub mod Known
 pub mod Runs
 pub mod InTheWay
-pub mod OnePath
 pub mod OneHistory
 pub mod Refusals
 pub mod Told

@@ -1,12 +1,10 @@
 -- A content that a load returned is that of the last done store of its name, in the order of the log.
 use Rattle.std.proofs.Common.{◌≡◌, ℕ, List, [], ◌∷◌, ◌++◌, length, drop, true, Option, Some, None, inl, inr, refl, sym, ap, subst, ◌∙◌, arith}
 use Rattle.std.specs.Prelude.{nat_eq}
-use Rattle.std.specs.Int.{w32, to_be_bytes}
 use Rattle.std.specs.List.{AllByRecursion}
 use Rattle.std.specs.Str.{bytes_eq}
 use Rattle.std.specs.FinMap as map
 use Rattle.std.proofs.lemmas.Bool.{and_parts}
-use Rattle.sha2.proofs.Facts256.{length-sha256}
 use Rattle.vic_dict.specs.declared.op.Op.TheVariants as op
 use Rattle.vic_dict.specs.declared.op.Entry.{Entry}
 use Rattle.vic_dict.specs.declared.op.Answer.TheVariants as answer
@@ -14,7 +12,7 @@ use Rattle.vic_dict.specs.declared.op.Outcome.TheVariants as outcome
 use Rattle.vic_dict.specs.declared.op.Mode.TheVariants as mode
 use Rattle.vic_dict.specs.Lists.{IsIn}
 use Rattle.vic_dict.specs.Dictionary.{Fits, AreBytesIn, reply}
-use Rattle.vic_wire.specs.Texts.{entry_text, invoke_text, content_text}
+use Rattle.vic_wire.specs.Texts.{entry_text, invoke_text}
 use Rattle.vic_wire.specs.Hashes.{Group, IsGroup}
 use Rattle.vic_wire.specs.Messages.{IsEntry}
 use Rattle.vic_wire.specs.Reading.{entry_at}
@@ -39,7 +37,7 @@ use Rattle.vic_laws.proofs.Complete.{completions_stay}
 use Rattle.vic_laws.proofs.Steps.{call_of}
 use Rattle.vic_laws.proofs.Phases.{Fetches as Fetched}
 use Rattle.vic_laws.proofs.LastPut.{LastPut, last_put_is}
-use Rattle.vic_laws.proofs.Contents.{FoundBy, fetching_found, phased_at}
+use Rattle.vic_laws.proofs.Contents.{FoundBy, fetching_found, phased_at, same_put, hash_of_reference}
 use Rattle.vic_laws.proofs.Asked.{calls_are_asked}
 use Rattle.vic_order.specs.Order.{Ordered, Server}
 use Rattle.vic_order.specs.Fates.{entries, fate}
@@ -48,7 +46,7 @@ use Rattle.vic_honest.specs.SafeRuns.{contents_sent, IsSafeRun}
 use Rattle.vic_honest.specs.Claims.{shown_log, StandsAsFated, LoadIsFated}
 use Rattle.vic_honest.proofs.Words.{all-second}
 use Rattle.vic_honest.proofs.Standing.{EntryFits}
-use Rattle.vic_honest.proofs.Found.{found_value, first_part}
+use Rattle.vic_honest.proofs.Found.{found_value}
 use Rattle.vic_honest.proofs.Sent.{sent_once}
 use Rattle.vic_honest.proofs.Runs.{run_fits, run_sent, all_lawful, all_fated, all_ends, logs_are_legal}
 
@@ -152,9 +150,6 @@ record StoredAt (g : Group) (h : List TraceStep) (e : Entry) (k v : List ℕ) : 
   sent : IsIn (contents_sent g h) content
   store : IsStore g h e k content
 
-same_put : (k n v w : List ℕ) → op.Put k v ≡ op.Put n w → (k ≡ n) × (v ≡ w)
-same_put k n v w e = (cc, cc)
-
 stored_at : (g : Group) (h : List TraceStep) → IsLawful g h → g.mode ≡ mode.Objects → (e : Entry) (k v : List ℕ) → e.op ≡ op.Put k v → CalledAt g h e → StoredAt g h e k v
 stored_at g h lawful objects e k v is c =
     let sends : (move_of g c.past c.call).sends ≡ Some (Invokes e.seq (op.Put k v)) = c.sends ∙ ap (λ q. Some (Invokes e.seq q)) is in
@@ -194,9 +189,6 @@ shown_of : (log : List Ordered) (y : Shown) → IsIn (shown_log log) y → (o : 
 shown_of [] y i = absurd i
 shown_of (o ∷ below) y (inl e) = (o, (inl refl, ap (λ z. z.entry) (sym e)))
 shown_of (o ∷ below) y (inr i) = let r = shown_of below y i in (r.0, (inr r.1.0, r.1.1))
-
-hash_of_reference : (c : List ℕ) → hash_in (reference_of c) ≡ content_hash c
-hash_of_reference c = first_part (content_hash c) (to_be_bytes w32 (length c)) 32 (length-sha256 (content_text c))
 
 hash_of_content : (digest : List ℕ) (len : ℕ) (c : List ℕ) → is_content_of digest len c ≡ true → content_hash c ≡ digest
 hash_of_content digest len c e = bytes_same (content_hash c) digest (and_parts (nat_eq (length c) len) (bytes_eq (content_hash c) digest) e).1

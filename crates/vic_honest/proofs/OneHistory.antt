@@ -24,11 +24,13 @@ use Rattle.vic_rules.specs.History.{standing, path, Completion, completions}
 use Rattle.vic_rules.specs.Views.{confirmation, confirmed_calls, last_prefix, view_of, shown_as, left_by, outcome_leaves, Explains, IsLegal}
 use Rattle.vic_rules.specs.Trust.{texts_made}
 use Rattle.vic_laws.proofs.Words.{all_at}
-use Rattle.vic_laws.proofs.Agreement.{confirmed_tells}
+use Rattle.vic_laws.proofs.Agreement.{confirmed_tells, only_calls_at}
 use Rattle.vic_laws.specs.OrderClaims.{CompletedAs}
 use Rattle.vic_laws.proofs.Calls.{Grows}
-use Rattle.vic_laws.proofs.Complete.{answered_completion, confirmed_below}
+use Rattle.vic_laws.proofs.Complete.{answered_completion, confirmed_below, shows_once}
+use Rattle.vic_laws.proofs.RealTime.{in_order_at}
 use Rattle.vic_laws.proofs.OwnLaid.{OwnOnes, own_ones}
+use Rattle.vic_laws.proofs.Dictionaries.{leaves_done}
 use Rattle.vic_order.specs.Order.{Ordered, Server, sealed_count}
 use Rattle.vic_order.specs.Fates.{entries, fate, dictionary_by}
 use Rattle.vic_honest.proofs.Words.{entries-joined, length-entries, all-second}
@@ -38,8 +40,7 @@ use Rattle.vic_honest.proofs.Deciding.{dictionary-next, none_above, not_chosen, 
 use Rattle.vic_honest.proofs.Knowing.{IsOrdered, IsPast, Does, ClientKnows}
 use Rattle.vic_honest.proofs.Learning.{IsFated}
 use Rattle.vic_honest.proofs.Known.{WorldKnows}
-use Rattle.vic_honest.proofs.Runs.{leaves_so, run_fits, run_knows}
-use Rattle.vic_honest.proofs.OnePath.{only_calls_at, shows_once, in_order_at}
+use Rattle.vic_honest.proofs.Runs.{run_fits, run_knows}
 
 -- ---- what a log's confirmed calls leave
 
@@ -90,7 +91,7 @@ confirmed_leave cs o (x ∷ low) fated quiet =
       | Some c ↦ λ e.
           let y : Shown = record { entry = x.entry; outcome = c.outcome } in
           let leaves : left_by (y ∷ v) ≡ (if is_done (fate x low) then after (left_by v) x.entry.op else left_by v) =
-          left-next y v ∙ leaves_so (left_by v) y c.outcome ∙ ap (λ z. if is_done z then after (left_by v) x.entry.op else left_by v) (fated.0 c e) in
+          left-next y v ∙ leaves_done (left_by v) y c.outcome ∙ ap (λ z. if is_done z then after (left_by v) x.entry.op else left_by v) (fated.0 c e) in
           subst (λ d. Alike o d (if is_done (fate x low) then after (dictionary_by low) x.entry.op else dictionary_by low)) (sym leaves)
           (same_step o x.entry.op (left_by v) (dictionary_by low) (is_done (fate x low)) rest)
     ] refl))

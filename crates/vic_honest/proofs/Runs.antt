@@ -13,8 +13,9 @@ use Rattle.vic_wire.specs.Trees.{dictionary_root}
 use Rattle.vic_rules.specs.declared.trace.Shown.{Shown}
 use Rattle.vic_rules.specs.Client.{is_done, decided_outcome, in_the_way}
 use Rattle.vic_rules.specs.History.{completions, Completion, IsLawful}
-use Rattle.vic_rules.specs.Views.{left_by, outcome_leaves, Explains}
+use Rattle.vic_rules.specs.Views.{left_by, Explains}
 use Rattle.vic_laws.proofs.Words.{all_at}
+use Rattle.vic_laws.proofs.Dictionaries.{leaves_done}
 use Rattle.vic_order.specs.Order.{Ordered, Server}
 use Rattle.vic_order.specs.Fates.{entries, fate, dictionary_by}
 use Rattle.vic_order.specs.Scenes.{Scene, server_at, Event}
@@ -116,12 +117,6 @@ unfolding fate
 fate_explains o below =
     decided_explains (in_the_way o.entry.client o.entry.op o.sealed_then (entries below)) (dictionary_by below) (record { entry = o.entry; outcome = fate o below })
 
-pub leaves_so : (d : Dictionary) (x : Shown) (y : Outcome) → outcome_leaves d x y ≡ (if is_done y then after d x.entry.op else d)
-leaves_so d x (outcome.Done a) = refl
-leaves_so d x (outcome.Aborted u) = refl
-leaves_so d x (outcome.Refused r) = refl
-leaves_so d x (outcome.Halted n) = refl
-
 pub logs_are_legal : LogsAreLegal
 unfolding left_by dictionary_by
 logs_are_legal [] = (tt, refl)
@@ -129,5 +124,5 @@ logs_are_legal (o ∷ below) =
     let rest = logs_are_legal below in
     let x : Shown = record { entry = o.entry; outcome = fate o below } in (
       (rest.0, subst (λ d. Explains d x (fate o below)) (sym rest.1) (fate_explains o below)),
-      leaves_so (left_by (shown_log below)) x (fate o below) ∙ ap (λ d. if is_done (fate o below) then after d o.entry.op else d) rest.1 ∙ sym (dictionary-next o below),
+      leaves_done (left_by (shown_log below)) x (fate o below) ∙ ap (λ d. if is_done (fate o below) then after d o.entry.op else d) rest.1 ∙ sym (dictionary-next o below),
     )

@@ -149,7 +149,7 @@ serve_adds : (s : Server) (me : ℕ) (g : Group) (t : Standing) (sending : Sendi
 unfolding serve
 serve_adds s me g t sending spelled = subst (λ r. Adds s (request_of g me t sending) (serve_read s me r)) (sym (request_again (request_of g me t sending) spelled)) (read_adds s me g t sending)
 
-ask_idle : (s : Scene) (me : ℕ) (i : Input) → MayAsk s me i → IsIdle (standing s.group me s.history)
+pub ask_idle : (s : Scene) (me : ℕ) (i : Input) → MayAsk s me i → IsIdle (standing s.group me s.history)
 ask_idle s me (input.Call o) may = may.0
 ask_idle s me (input.Object c) may = may.0
 ask_idle s me input.Poll may = may

@@ -27,10 +27,11 @@ use Rattle.vic_spellings.proofs.SpelledRequests.{request_again}
 use Rattle.vic_roots.proofs.Proper.{proper-after}
 use Rattle.vic_honest.proofs.SentParts.{sent_for, sent_update}
 use Rattle.vic_laws.proofs.Words.{all_weaker, all_append, in_either}
+use Rattle.vic_laws.proofs.Paths.{all_drop}
 use Rattle.vic_order.specs.declared.Stage.TheVariants as stage
 use Rattle.vic_order.specs.Order.{Ordered, Server, Answered, answer_alone, answer_with_change, answer_by_tests, answer_unless_refused, size, sealed_count, no_seal, seal_at_position, top_seal, ordered_at, commit_at, member, set_stage, is_ready, is_open_at, is_put, is_member, op_weight, weight, tagged_entry, entries_above, turn, turn_on, update_part, with_commit, with_seal, owns_committed, applied_to, ordered_next, is_kept, content_with, same_mode, on_request, serve_read, serve}
 use Rattle.vic_order.specs.Fates.{entries}
-use Rattle.vic_honest.proofs.Words.{front-entries, length-entries, told, above-told, length-told, all-first, all-drop, newest_seal, all-newest, AreMade}
+use Rattle.vic_honest.proofs.Words.{front-entries, length-entries, told, above-told, length-told, all-first, newest_seal, all-newest, AreMade}
 use Rattle.vic_honest.proofs.Spoken.{TaggedBytes, seal_bytes, entries_bytes, tag_bytes}
 use Rattle.vic_honest.proofs.Standing.{EntryFits, SealFits, ServerFits, StandingFits, RequestGoes, AnswerComes, OfSeal, IsContent}
 
@@ -174,14 +175,14 @@ module _ (g : Group) (made : List (List ℕ)) (log seen newer : List Ordered) wh
 -- the seal of a position is one of the server's, or that of position 0
 seal_fits : (g : Group) (made : List (List ℕ)) (s : Server) (n : ℕ) → ServerFits g made s → SealFits g made s.log (seal_at_position s n)
 seal_fits g made s n stands =
-    newest_seal (SealFits g made s.log) (front n s.seals) (first_seal_fits g made s.log) (all-drop (SealFits g made s.log) (length s.seals - n) s.seals stands.seals)
+    newest_seal (SealFits g made s.log) (front n s.seals) (first_seal_fits g made s.log) (all_drop (SealFits g made s.log) (length s.seals - n) s.seals stands.seals)
 
 -- the entry at a position is one of the log
 entry_fits : (made : List (List ℕ)) (s : Server) (n : ℕ) (o : Ordered) → AllByRecursion (EntryFits made) s.log → ordered_at s n ≡ Some o → EntryFits made o
 entry_fits made s n o all e =
     elim (nat_lt (size s) n) as (λ b. (if b then None else newest (front n s.log)) ≡ Some o → EntryFits made o) [
       | true ↦ λ f. absurd cc
-      | false ↦ λ f. all-newest (EntryFits made) (front n s.log) o (all-drop (EntryFits made) (length s.log - n) s.log all) f
+      | false ↦ λ f. all-newest (EntryFits made) (front n s.log) o (all_drop (EntryFits made) (length s.log - n) s.log all) f
     ] e
 
 -- the turn is told by an Update, or there is none to be told
@@ -342,7 +343,7 @@ module _ (g : Group) (group : IsGroup g) (made : List (List ℕ)) (s : Server) (
       (λ ok. stays (say.Entries x (entries_above (length t.path) (front e s.log)))
       (subst (λ ts. AnswerComes g made s.log seen newer (say.Entries x ts)) (sym told_is)
       (entries_come g made s.log seen newer (take k newer) (drop k newer) x (sym (take-append-drop k newer)) (seal_fits g made s (min (sealed_count s) e) stands)
-      (all-drop (EntryFits made) k newer all_newer) (omega (arith, length-drop k newer, length-path, length-log)))))
+      (all_drop (EntryFits made) k newer all_newer) (omega (arith, length-drop k newer, length-path, length-log)))))
 
   -- a content is kept, or was, or there is no room
   kept_is : (content : List ℕ) → AreBytes content → length content ≤ 8388608 → (b c : Bool)

@@ -22,14 +22,14 @@ use Rattle.vic_rules.specs.declared.state.Own.{Own}
 use Rattle.vic_rules.specs.declared.trace.Input.{Input}
 use Rattle.vic_rules.specs.declared.trace.Input.TheVariants as input
 use Rattle.vic_rules.specs.declared.trace.TraceStep.{TraceStep}
-use Rattle.vic_rules.specs.Client.{Standing, Move, IsIdle, step, path_with_entries, decision, decided_outcome, move_on_reply, move_on_update, move_on_answer, move_on_verdict, move_on_payload, verdict, move_on_wait, move_by_object_step, move_on_refusal}
+use Rattle.vic_rules.specs.Client.{Standing, Move, step, path_with_entries, decision, decided_outcome, move_on_reply, move_on_update, move_on_answer, move_on_verdict, move_on_payload, verdict, move_on_wait, move_by_object_step, move_on_refusal}
 use Rattle.vic_rules.specs.declared.object.Phase.{Phase}
 use Rattle.vic_rules.specs.declared.object.Phase.TheVariants as phase
 use Rattle.vic_rules.specs.declared.object.ObjectCall.TheVariants as object
 use Rattle.vic_rules.specs.declared.object.ObjectOutcome.TheVariants as ended
 use Rattle.vic_rules.specs.declared.object.Next.TheVariants as next
 use Rattle.vic_rules.specs.Objects.{ObjectStep, step_on_kept, step_on_answer, final_outcome, outcome_after_decision, is_reference, hash_in, length_in}
-use Rattle.vic_honest.proofs.Sent.{IsApart, apart_front}
+use Rattle.vic_honest.proofs.Sent.{IsApart, apart_front, ask_idle}
 use Rattle.vic_rules.specs.History.{standing}
 use Rattle.vic_order.specs.Order.{Server, serve}
 use Rattle.vic_order.specs.Serving.{by_rule}
@@ -237,13 +237,6 @@ ask_refused s me (input.Object (object.Names p)) may r e = absurd cc
 ask_refused s me input.Poll may r e = absurd cc
 ask_refused s me input.Sync may r e = absurd cc
 ask_refused s me (input.Payload payload) may r e = may
-
-ask_idle : (s : Scene) (me : ℕ) (i : Input) → MayAsk s me i → IsIdle (standing s.group me s.history)
-ask_idle s me (input.Call o) may = may.0
-ask_idle s me (input.Object c) may = may.0
-ask_idle s me input.Poll may = may
-ask_idle s me input.Sync may = may
-ask_idle s me (input.Payload payload) may = absurd may
 
 -- ---- what is told
 

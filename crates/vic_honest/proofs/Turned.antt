@@ -4,7 +4,6 @@ use Rattle.std.proofs.Common.{refl, ap, subst, sym, ◌∙◌, inl, inr, arith, 
 use Rattle.std.proofs.lemmas.Bool.{cases_lt, and_parts}
 use Rattle.vic_dict.specs.declared.op.Entry.{Entry}
 use Rattle.vic_dict.specs.Lists.{front}
-use Rattle.vic_wire.specs.declared.message.Tagged.{Tagged}
 use Rattle.vic_wire.specs.declared.message.ToServer.{ToServer}
 use Rattle.vic_wire.specs.declared.message.ToServer.TheVariants as ask
 use Rattle.vic_wire.specs.declared.message.ToClient.TheVariants as say
@@ -17,7 +16,7 @@ use Rattle.vic_order.specs.Fates.{entries}
 use Rattle.vic_laws.proofs.Words.{some_same, none_is_some}
 use Rattle.vic_laws.proofs.Growth.{front_whole, length-front}
 use Rattle.vic_honest.specs.Claims.{RefusedAtLimit, ContentRefused, IsSyncedSo, AsksTurn, IsTurnedSo}
-use Rattle.vic_honest.proofs.Words.{front-joined, entries-joined, length-entries}
+use Rattle.vic_honest.proofs.Words.{front-joined, entries-joined, length-entries, onto-last}
 use Rattle.std.proofs.lemmas.List.{take-append-drop}
 
 -- ---- what isn't refused is answered
@@ -61,10 +60,6 @@ module _ (s : Server) (me : ℕ) (payload : List ℕ) where
 
 -- ---- a sync
 
-onto_last : (ts : List Tagged) (t : Tagged) (p : List Entry) → onto (ts ++ t ∷ []) p ≡ t.entry ∷ onto ts p
-onto_last [] t p = refl
-onto_last (x ∷ ts) t p = onto_last ts t (x.entry ∷ p)
-
 -- the entries above a position, put onto those up to it, are all
 above_onto : (known : ℕ) (log : List Ordered) → known ≤ length log → onto (entries_above known log) (front known (entries log)) ≡ entries log
 unfolding entries_above
@@ -75,7 +70,7 @@ above_onto known (o ∷ log) le = now (cases_lt known (length (o ∷ log))) (abo
         → onto (if nat_lt known (length (o ∷ log)) then entries_above known log ++ tagged_entry o ∷ [] else []) (front known (entries (o ∷ log))) ≡ entries (o ∷ log)
     now (inl below) before =
         ap (λ (b : Bool). onto (if b then entries_above known log ++ tagged_entry o ∷ [] else []) (front known (entries (o ∷ log)))) (lt-ltb known (length (o ∷ log)) below)
-        ∙ (onto_last (entries_above known log) (tagged_entry o) (front known (entries (o ∷ log)))
+        ∙ (onto-last (entries_above known log) (tagged_entry o) (front known (entries (o ∷ log)))
         ∙ (ap (λ (p : List Entry). o.entry ∷ onto (entries_above known log) p) (front-joined known (o.entry ∷ []) (entries log) (omega (arith, below, length-entries log)))
         ∙ ap (λ (p : List Entry). o.entry ∷ p) (before (omega (arith, below)))))
     now (inr whole) before =

@@ -1,5 +1,5 @@
 -- Lists that have their newest item first: fronts of joined lists, items that are kept, and texts that were made.
-use Rattle.std.proofs.Common.{◌≡◌, ℕ, zero, suc, ◌+◌, ◌-◌, ◌≤◌, List, [], ◌∷◌, ◌++◌, length, drop, Some, refl, ap, subst, ◌∙◌, arith, length-append}
+use Rattle.std.proofs.Common.{◌≡◌, ℕ, ◌+◌, ◌-◌, ◌≤◌, List, [], ◌∷◌, ◌++◌, length, drop, Some, refl, ap, subst, ◌∙◌, arith, length-append}
 use Rattle.std.specs.Prelude.{if◌then◌else◌}
 use Rattle.std.specs.List.{AllByRecursion}
 use Rattle.std.proofs.Math.Seq.{drop-append-add}
@@ -50,7 +50,7 @@ above-told (o ∷ new) old =
     ap (λ b. if b then entries_above (length old) (new ++ old) ++ tagged_entry o ∷ [] else []) (lt-ltb (length old) (length (o ∷ (new ++ old))) (omega (arith, length-append new old)))
     ∙ ap (λ ts. ts ++ tagged_entry o ∷ []) (above-told new old)
 
-onto-last : (ts : List Tagged) (t : Tagged) (p : List Entry) → onto (ts ++ t ∷ []) p ≡ t.entry ∷ onto ts p
+pub onto-last : (ts : List Tagged) (t : Tagged) (p : List Entry) → onto (ts ++ t ∷ []) p ≡ t.entry ∷ onto ts p
 onto-last [] t p = refl
 onto-last (x ∷ ts) t p = onto-last ts t (x.entry ∷ p)
 
@@ -71,11 +71,6 @@ all-first P (x ∷ xs) ys h = (h.0, all-first P xs ys h.1)
 pub all-second : {X : Type 0} (P : X → Type 0) (xs ys : List X) → AllByRecursion P (xs ++ ys) → AllByRecursion P ys
 all-second P [] ys h = h
 all-second P (x ∷ xs) ys h = all-second P xs ys h.1
-
-pub all-drop : {X : Type 0} (P : X → Type 0) (n : ℕ) (xs : List X) → AllByRecursion P xs → AllByRecursion P (drop n xs)
-all-drop P zero xs h = h
-all-drop P (suc n) [] h = h
-all-drop P (suc n) (x ∷ xs) h = all-drop P n xs h.1
 
 pub newest_seal : (P : Seal → Type 0) (xs : List Seal) → P no_seal → AllByRecursion P xs → P (or_no_seal (newest xs))
 newest_seal P [] first h = first

@@ -221,7 +221,7 @@ views_agree g h lawful i j = paths_agree g h lawful.steps (last_prefix i (comple
 
 -- ---- views show only calls
 
-only_calls_at : (g : Group) (h : List TraceStep) → AreSteps g h → (p : List Entry) → ShowsOnlyCalls g h (confirmed_calls (completions g h) p)
+pub only_calls_at : (g : Group) (h : List TraceStep) → AreSteps g h → (p : List Entry) → ShowsOnlyCalls g h (confirmed_calls (completions g h) p)
 only_calls_at g h steps p x w =
     let cs : List Completion = completions g h in
     let found : (older : List Shown) × ShownAt cs p x older = shown_in cs p x w in

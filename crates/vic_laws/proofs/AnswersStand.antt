@@ -20,7 +20,7 @@ use Rattle.vic_laws.proofs.Decisions.{done_by_none, decided_over}
 
 -- ---- what stands in the way
 
-or_this_none : (a b : Option ℕ) → or_this a b ≡ None → (a ≡ None) × (b ≡ None)
+pub or_this_none : (a b : Option ℕ) → or_this a b ≡ None → (a ≡ None) × (b ≡ None)
 or_this_none None b e = (refl, e)
 or_this_none (Some u) b e = absurd cc
 

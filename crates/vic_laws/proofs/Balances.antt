@@ -34,9 +34,9 @@ use Rattle.vic_rules.specs.Client.{Standing, Move, Sending, move_by_object_step,
 use Rattle.vic_rules.specs.History.{standing, move_of, IsStep, AreSteps}
 use Rattle.vic_laws.specs.CountClaims.{sent_one, sendings, asked_other, others_asked, SendsAreFew}
 use Rattle.vic_laws.proofs.Steps.{Passes}
-use Rattle.vic_laws.proofs.StepKinds.{all_passed}
+use Rattle.vic_laws.proofs.StepKinds.{all_passed, awaits_update, awaits_entries}
 use Rattle.vic_laws.proofs.Standings.{standing_moved, standing_kept}
-use Rattle.vic_laws.proofs.Phases.{wait_awaited, update_awaited, awaits_entries, idle_nothing}
+use Rattle.vic_laws.proofs.Phases.{wait_awaited, idle_nothing}
 use Rattle.vic_laws.proofs.Contents.{decision_found}
 use Rattle.vic_laws.specs.AskedClaims.{calls_made}
 use Rattle.vic_laws.proofs.Asked.{calls_are_made}
@@ -202,7 +202,7 @@ pays_taken : (g : Group) (me : ℕ) (s : Standing) (b : List ℕ) (m : ToClient)
 pays_taken g me s b say.Hi passes = pays_halt s (input.Payload b) 1
 pays_taken g me s b (say.Reply seal entries part) passes = pays_reply me s b seal (path_with_entries s entries) (read_part part) s.awaiting refl
 pays_taken g me s b say.Wait passes = pays_wait s b s.phase refl (wait_awaited s.awaiting passes.form)
-pays_taken g me s b (say.Update seal part) passes = pays_update s b seal (read_part part) s.own refl (update_awaited s.awaiting seal part (and_parts (is_awaited s.awaiting (say.Update seal part)) _ passes.form).0)
+pays_taken g me s b (say.Update seal part) passes = pays_update s b seal (read_part part) s.own refl (awaits_update s.awaiting seal part (and_parts (is_awaited s.awaiting (say.Update seal part)) _ passes.form).0)
 pays_taken g me s b (say.Entries seal entries) passes =
     let same : s.awaiting ≡ awaits.Entries = awaits_entries s.awaiting seal entries (and_parts (is_awaited s.awaiting (say.Entries seal entries)) _ passes.form).0 in
     let f : for_fetch s.phase awaits.Nothing ≤ for_fetch s.phase s.awaiting = fetch_same s.phase s.awaiting awaits.Nothing (entries_apart s.awaiting same) refl in

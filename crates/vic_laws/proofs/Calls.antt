@@ -10,12 +10,12 @@ use Rattle.vic_wire.specs.Hashes.{Group}
 use Rattle.vic_rules.specs.declared.state.Awaiting.TheVariants as awaits
 use Rattle.vic_rules.specs.declared.trace.Input.{Input}
 use Rattle.vic_rules.specs.declared.trace.TraceStep.{TraceStep}
-use Rattle.vic_rules.specs.Client.{Standing, Move, Sending, Invokes, Commits, Seals, decision, decided_outcome}
+use Rattle.vic_rules.specs.Client.{Standing, Move, Invokes, decision, decided_outcome}
 use Rattle.vic_rules.specs.History.{standing, path, move_of, IsStep, AreSteps, Completion, completion, completions}
 use Rattle.vic_rules.specs.Views.{MakesCall, NoStepOf, IsAnswered}
 use Rattle.vic_laws.proofs.Words.{in_left, in_right, in_either}
 use Rattle.vic_laws.proofs.Steps.{PhaseFits, Called, Replied, Kind, is_quiet, is_called, is_replied, is_updated, is_listed, call_of}
-use Rattle.vic_laws.proofs.StepKinds.{step_kind, decided_opens}
+use Rattle.vic_laws.proofs.StepKinds.{step_kind, decided_opens, rests_turn, rests_nothing, no_commit, no_seal, nothing_sent}
 use Rattle.vic_laws.proofs.Standings.{standing_moved, standing_kept}
 
 -- ---- what kind a step is
@@ -50,15 +50,6 @@ phases_fit g (x ∷ past) steps me =
 same_invoke : (n m : ℕ) (o q : Op) → Some (Invokes n o) ≡ Some (Invokes m q) → (n ≡ m) × (o ≡ q)
 same_invoke n m o q e = (cc, cc)
 
-no_commit : (done : Bool) (n : ℕ) (o : Op) → Some (Commits done) ≡ Some (Invokes n o) → ⊥
-no_commit done n o e = cc
-
-no_seal : (n : ℕ) (o : Op) → Some Seals ≡ Some (Invokes n o) → ⊥
-no_seal n o e = cc
-
-nothing_called : (n : ℕ) (o : Op) → ◌≡◌ {A = Option Sending} None (Some (Invokes n o)) → ⊥
-nothing_called n o e = cc
-
 -- a step that sends a call is one that calls
 pub called_if : (g : Group) (me : ℕ) (s : Standing) (i : Input) (v : Move) → Kind g me s i v → (n : ℕ) (o : Op) → v.sends ≡ Some (Invokes n o)
     → (a : Called g me s i v) × ((s.calls + 1 ≡ n) × (a.op ≡ o))
@@ -66,7 +57,7 @@ called_if g me s i v (is_quiet q) n o e = absurd (q.calls_nothing n o e)
 called_if g me s i v (is_called a) n o e = (a, same_invoke (s.calls + 1) n a.op o (sym (ap (λ (m : Move). m.sends) a.moved) ∙ e))
 called_if g me s i v (is_replied r) n o e = absurd (no_commit _ n o (sym (ap (λ (m : Move). m.sends) r.moved) ∙ e))
 called_if g me s i v (is_updated u) n o e = absurd (no_seal n o (sym (ap (λ (m : Move). m.sends) u.moved) ∙ e))
-called_if g me s i v (is_listed l) n o e = absurd (nothing_called n o (sym (ap (λ (m : Move). m.sends) l.moved) ∙ e))
+called_if g me s i v (is_listed l) n o e = absurd (nothing_sent n o (sym (ap (λ (m : Move). m.sends) l.moved) ∙ e))
 
 -- ---- paths grow
 
@@ -203,12 +194,6 @@ same_number n k o p load loads e = cc
 pub same_asked : (n k : ℕ) (o p : Op) (load loads : Bool) → awaits.Reply n o load ≡ awaits.Reply k p loads → o ≡ p
 same_asked n k o p load loads e = cc
 
-not_turn : (n : ℕ) (o : Op) (load : Bool) → awaits.Turn ≡ awaits.Reply n o load → ⊥
-not_turn n o load e = cc
-
-not_nothing : (n : ℕ) (o : Op) (load : Bool) → awaits.Nothing ≡ awaits.Reply n o load → ⊥
-not_nothing n o load e = cc
-
 -- after its own step the client's counts hold on
 counts_own : (g : Group) (me : ℕ) (s : Standing) (i : Input) (v : Move) → Kind g me s i v → (cs : List Completion) → Counts me s cs
     → Counts me v.next (completion me v.next.path v.returns ++ cs)
@@ -238,20 +223,20 @@ counts_own g me s i v (is_replied r) cs h =
             | inl is ↦ subst (λ (d : Completion). number_of d.prefix ≤ v.next.calls) is (omega arith)
             | inr old ↦ subst (λ (k : ℕ). number_of c.prefix ≤ k) (sym calls) (h.most c old e)
           ];
-      awaited = λ n o load alive e. absurd (not_turn n o load (sym awaiting ∙ e));
-      newer = λ n o load alive e. absurd (not_turn n o load (sym awaiting ∙ e));
+      awaited = λ n o load alive e. absurd (rests_turn n o load (sym awaiting ∙ e));
+      newer = λ n o load alive e. absurd (rests_turn n o load (sym awaiting ∙ e));
     })
 counts_own g me s i v (is_updated u) cs h =
     subst (λ (m : Move). Counts me m.next (completion me m.next.path m.returns ++ cs)) (sym u.moved) (record {
       most = h.most;
-      awaited = λ n o load alive e. absurd (not_turn n o load e);
-      newer = λ n o load alive e. absurd (not_turn n o load e);
+      awaited = λ n o load alive e. absurd (rests_turn n o load e);
+      newer = λ n o load alive e. absurd (rests_turn n o load e);
     })
 counts_own g me s i v (is_listed l) cs h =
     subst (λ (m : Move). Counts me m.next (completion me m.next.path m.returns ++ cs)) (sym l.moved) (record {
       most = h.most;
-      awaited = λ n o load alive e. absurd (not_nothing n o load e);
-      newer = λ n o load alive e. absurd (not_nothing n o load e);
+      awaited = λ n o load alive e. absurd (rests_nothing n o load e);
+      newer = λ n o load alive e. absurd (rests_nothing n o load e);
     })
 
 -- a completion of another client is older than the step
@@ -285,8 +270,8 @@ pub counts : (g : Group) (h : List TraceStep) → AreSteps g h → (me : ℕ) �
 unfolding standing completions
 counts g [] steps me = record {
   most = λ c w e. absurd w;
-  awaited = λ n o load alive e. absurd (not_nothing n o load e);
-  newer = λ n o load alive e. absurd (not_nothing n o load e);
+  awaited = λ n o load alive e. absurd (rests_nothing n o load e);
+  newer = λ n o load alive e. absurd (rests_nothing n o load e);
 }
 counts g (x ∷ past) steps me =
     let Goal : (x.client ≡ me) ⊎ (x.client ≡ me → ⊥) → Type 0 = λ c. Counts me (standing g me (x ∷ past)) (completions g (x ∷ past)) in
@@ -381,15 +366,15 @@ asked_own : (g : Group) (x : TraceStep) (past : List TraceStep) → Kind g x.cli
     → (n : ℕ) (o : Op) (load : Bool) → (move_of g past x).next.halted ≡ None → (move_of g past x).next.awaiting ≡ awaits.Reply n o load → Asked g (x ∷ past) x.client n o
 asked_own g x past (is_quiet q) n o load alive e = absurd (q.rests n o load alive e)
 asked_own g x past (is_called a) n o load alive e = asked_now g x past a n o load e
-asked_own g x past (is_replied r) n o load alive e = absurd (not_turn n o load (sym (ap (λ (m : Move). m.next.awaiting) r.moved) ∙ e))
-asked_own g x past (is_updated u) n o load alive e = absurd (not_turn n o load (sym (ap (λ (m : Move). m.next.awaiting) u.moved) ∙ e))
-asked_own g x past (is_listed l) n o load alive e = absurd (not_nothing n o load (sym (ap (λ (m : Move). m.next.awaiting) l.moved) ∙ e))
+asked_own g x past (is_replied r) n o load alive e = absurd (rests_turn n o load (sym (ap (λ (m : Move). m.next.awaiting) r.moved) ∙ e))
+asked_own g x past (is_updated u) n o load alive e = absurd (rests_turn n o load (sym (ap (λ (m : Move). m.next.awaiting) u.moved) ∙ e))
+asked_own g x past (is_listed l) n o load alive e = absurd (rests_nothing n o load (sym (ap (λ (m : Move). m.next.awaiting) l.moved) ∙ e))
 
 -- whenever a client awaits a Reply, the call was asked for so
 pub asked_since : (g : Group) (h : List TraceStep) → AreSteps g h → (me n : ℕ) (o : Op) (load : Bool)
     → (standing g me h).halted ≡ None → (standing g me h).awaiting ≡ awaits.Reply n o load → Asked g h me n o
 unfolding standing
-asked_since g [] steps me n o load alive e = absurd (not_nothing n o load e)
+asked_since g [] steps me n o load alive e = absurd (rests_nothing n o load e)
 asked_since g (x ∷ past) steps me n o load alive e =
     let Goal : (x.client ≡ me) ⊎ (x.client ≡ me → ⊥) → Type 0 = λ c. Asked g (x ∷ past) me n o in
     elim (cases_eq x.client me) as Goal [

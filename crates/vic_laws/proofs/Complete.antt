@@ -109,11 +109,11 @@ answered_completion g h steps e o done a =
     (completed_later g a.later (a.answer ∷ rest) e o
     (completed_here g rest a.answer now.1 e o a.owner a.returned done c.0.load awaiting))
 
-decided_completed : (u : Option ℕ) (d : Dictionary) (o : Op) → IsCompleted (decided_outcome u d o)
+pub decided_completed : (u : Option ℕ) (d : Dictionary) (o : Op) → IsCompleted (decided_outcome u d o)
 decided_completed None d o = tt
 decided_completed (Some u) d o = tt
 
-decision_completed : (me : ℕ) (s : Standing) (below : List Entry) (base : ℕ) (part : Part) (o : Op) → IsCompleted (decision me s below base part o)
+pub decision_completed : (me : ℕ) (s : Standing) (below : List Entry) (base : ℕ) (part : Part) (o : Op) → IsCompleted (decision me s below base part o)
 unfolding decision
 decision_completed me s below base part o = decided_completed _ _ o
 
@@ -285,7 +285,7 @@ abbrev shown_with : Entry → List Shown → Outcome → List Shown
 shown_with e older o = record { entry = e; outcome = o } ∷ older
 
 -- a completed call stands once in what a path shows that has the call's own path
-shows_once : (g : Group) (h : List TraceStep) → AreSteps g h → (e : Entry) (o : Outcome) → (c : CompletedAs g h e o) → (p : List Entry) → Grows c.by.prefix p
+pub shows_once : (g : Group) (h : List TraceStep) → AreSteps g h → (e : Entry) (o : Outcome) → (c : CompletedAs g h e o) → (p : List Entry) → Grows c.by.prefix p
     → IsIn (confirmed_calls (completions g h) p) (record { entry = e; outcome = o }) × (count_by (is_call e) (confirmed_calls (completions g h) p) ≡ 1)
 shows_once g h steps e o c p grown =
     let cs : List Completion = completions g h in

@@ -23,7 +23,6 @@ use Rattle.vic_wire.specs.Texts.{content_text}
 use Rattle.vic_wire.specs.Hashes.{Group}
 use Rattle.vic_rules.specs.declared.object.ObjectCall.TheVariants as object
 use Rattle.vic_rules.specs.declared.object.Phase.TheVariants as phase
-use Rattle.vic_rules.specs.declared.state.Awaiting.TheVariants as awaits
 use Rattle.vic_rules.specs.declared.trace.Input.{Input}
 use Rattle.vic_rules.specs.declared.trace.Input.TheVariants as input
 use Rattle.vic_rules.specs.declared.trace.TraceStep.{TraceStep}
@@ -43,17 +42,14 @@ use Rattle.vic_laws.proofs.Complete.{replied_if, completions_stay, views_complet
 use Rattle.vic_laws.proofs.Agreement.{splits_at, views_show_only_calls}
 use Rattle.vic_laws.proofs.Legality.{views_legal}
 use Rattle.vic_laws.proofs.LastPut.{LastPut, last_put_is}
-use Rattle.vic_laws.proofs.Phases.{at_rest, idle_nothing, same_key, Together, Finds, Stores, Fetches, Puts, Phased, phased}
+use Rattle.vic_laws.proofs.Phases.{at_rest, idle_nothing, same_key, Together, Finds, Stores, Fetches, Puts, Phased, phased, nothing_closed}
 
 -- ---- along a history
-
-pub start_together : Together phase.Closed awaits.Nothing
-start_together = ((λ h len e. cc), (λ e. cc))
 
 -- what each client awaits goes with how far its call on objects has come
 pub all_together : (g : Group) (h : List TraceStep) → AreSteps g h → (me : ℕ) → Together (standing g me h).phase (standing g me h).awaiting
 unfolding standing
-all_together g [] steps me = start_together
+all_together g [] steps me = nothing_closed
 all_together g (x ∷ past) steps me = elim (cases_eq x.client me) [
   | inl same ↦ subst (λ (m : ℕ). Together (standing g m (x ∷ past)).phase (standing g m (x ∷ past)).awaiting) same
       (subst (λ (s : Standing). Together s.phase s.awaiting) (sym (standing_moved g x.client x past refl))
@@ -299,11 +295,11 @@ explains_found d y (outcome.Refused r) v e w = absurd w
 explains_found d y (outcome.Halted k) v e w = absurd w
 
 -- the hash in a reference
-first_part : (h rest : List ℕ) (n : ℕ) → length h ≡ n → take n (h ++ rest) ≡ h
+pub first_part : (h rest : List ℕ) (n : ℕ) → length h ≡ n → take n (h ++ rest) ≡ h
 first_part [] rest n e = ap (λ m. take m rest) (sym e)
 first_part (x ∷ h) rest n e = ap (λ m. take m (x ∷ (h ++ rest))) (sym e) ∙ ap (λ t. x ∷ t) (first_part h rest (length h) refl)
 
-hash_of_reference : (c : List ℕ) → hash_in (reference_of c) ≡ content_hash c
+pub hash_of_reference : (c : List ℕ) → hash_in (reference_of c) ≡ content_hash c
 hash_of_reference c = first_part (content_hash c) (to_be_bytes w32 (length c)) 32 (length-sha256 (content_text c))
 
 content_parts : (digest : List ℕ) (len : ℕ) (c : List ℕ) → is_content_of digest len c ≡ true → (length c ≡ len) × (content_hash c ≡ digest)
@@ -327,7 +323,7 @@ one_content g h apart c d i j same = decided (bytes_eq (content_text c) (content
       same_hash = same;
     }))
 
-same_put : (k n v w : List ℕ) → op.Put k v ≡ op.Put n w → (k ≡ n) × (v ≡ w)
+pub same_put : (k n v w : List ℕ) → op.Put k v ≡ op.Put n w → (k ≡ n) × (v ≡ w)
 same_put k n v w e = (cc, cc)
 
 -- the call of a put in a group with objects is that of a store

@@ -33,7 +33,7 @@ done_by_none None d o a e = refl
 done_by_none (Some u) d o a e = absurd cc
 
 -- what is aborted had this position in the way
-aborted_by_some : (u : Option ℕ) (d : Dictionary) (o : Op) (v : ℕ) → decided_outcome u d o ≡ outcome.Aborted v → u ≡ Some v
+pub aborted_by_some : (u : Option ℕ) (d : Dictionary) (o : Op) (v : ℕ) → decided_outcome u d o ≡ outcome.Aborted v → u ≡ Some v
 aborted_by_some None d o v e = absurd cc
 aborted_by_some (Some u) d o v e = cc
 
@@ -85,7 +85,7 @@ decided_over g h lawful later x past whole seal entries bytes t e below path_is 
 
 -- ---- what is in the way
 
-other_client : (a b : ℕ) → not (nat_eq a b) ≡ true → a ≢ b
+pub other_client : (a b : ℕ) → not (nat_eq a b) ≡ true → a ≢ b
 other_client a b e same = let equal : nat_eq a b ≡ true = eq-eqb a b same in absurd cc
 
 -- the client's test and the words of conflicts say the same

@@ -10,7 +10,6 @@ use Rattle.vic_dict.specs.declared.op.Outcome.{Outcome}
 use Rattle.vic_dict.specs.declared.op.Outcome.TheVariants as outcome
 use Rattle.vic_dict.specs.declared.op.Mode.TheVariants as mode
 use Rattle.vic_dict.specs.Lists.{AreBytes}
-use Rattle.vic_dict.specs.Dictionary.{Dictionary}
 use Rattle.vic_wire.specs.declared.message.Digest32.{Digest32}
 use Rattle.vic_wire.specs.declared.message.Seal.{Seal}
 use Rattle.vic_wire.specs.declared.message.Tagged.{Tagged}
@@ -32,17 +31,18 @@ use Rattle.vic_rules.specs.declared.trace.Input.{Input}
 use Rattle.vic_rules.specs.declared.trace.Input.TheVariants as input
 use Rattle.vic_rules.specs.declared.trace.TraceStep.{TraceStep}
 use Rattle.vic_rules.specs.Objects.{is_reference, reference_text, first_step, step_on_kept, after_decision, outcome_after_decision}
-use Rattle.vic_rules.specs.Client.{Standing, Move, Sending, Invokes, Commits, Polls, Seals, Syncs, Keeps, Fetches, move_to_call, move_by_object_step, move_on_wait, move_on_refusal, move_on_reply, move_on_update, move_to_halt, is_load, is_awaited, is_wanted, decided_outcome, decision, finds_reference, loads_reference, MayStep, move_on_answer, move_on_verdict, move_on_payload, step, verdict, verdict_on, path_with_entries}
+use Rattle.vic_rules.specs.Client.{Standing, Move, Sending, Invokes, Commits, Polls, Seals, Syncs, Keeps, Fetches, move_to_call, move_by_object_step, move_on_wait, move_on_refusal, move_on_reply, move_on_update, move_to_halt, is_load, is_awaited, is_wanted, decision, finds_reference, loads_reference, MayStep, move_on_answer, move_on_verdict, move_on_payload, step, verdict, verdict_on, path_with_entries}
 use Rattle.vic_rules.specs.History.{standing, move_of, AreSteps}
 use Rattle.vic_rules.specs.Views.{IsCompleted}
 use Rattle.vic_rules.specs.Trust.{answer_unless_halted}
 use Rattle.vic_laws.specs.ContentClaims.{IsTaken}
 use Rattle.vic_laws.proofs.Words.{some_same, none_is_some}
 use Rattle.vic_laws.proofs.Steps.{Passes}
-use Rattle.vic_laws.proofs.StepKinds.{all_passed, takes_read}
-use Rattle.vic_laws.proofs.Phases.{Together, phased, wait_awaited, update_awaited}
-use Rattle.vic_laws.proofs.Contents.{start_together, mode_apart, decision_found}
+use Rattle.vic_laws.proofs.StepKinds.{all_passed, takes_read, rests_turn, rests_nothing, awaits_update}
+use Rattle.vic_laws.proofs.Phases.{Together, phased, wait_awaited, keeping_apart, closed_apart, calling_apart, nothing_closed}
+use Rattle.vic_laws.proofs.Contents.{mode_apart, decision_found}
 use Rattle.vic_laws.proofs.Paths.{at_each_standing}
+use Rattle.vic_laws.proofs.Complete.{decision_completed}
 
 -- the call that was awaited is decided
 pub record Decided (s : Standing) (took : Option ToClient) (v : Move) : Type 0 where
@@ -164,29 +164,14 @@ seal_fetch d e = cc
 call_fetch : (n : ℕ) (o : Op) (d : List ℕ) → Some (Invokes n o) ≡ Some (Fetches d) → ⊥
 call_fetch n o d e = cc
 
-reply_turn : (n : ℕ) (o : Op) (load : Bool) → awaits.Turn ≡ awaits.Reply n o load → ⊥
-reply_turn n o load e = cc
-
-reply_nothing : (n : ℕ) (o : Op) (load : Bool) → awaits.Nothing ≡ awaits.Reply n o load → ⊥
-reply_nothing n o load e = cc
-
-turn_nothing : awaits.Turn ≡ awaits.Nothing → ⊥
+pub turn_nothing : awaits.Turn ≡ awaits.Nothing → ⊥
 turn_nothing e = cc
 
 kept_nothing : awaits.Kept ≡ awaits.Nothing → ⊥
 kept_nothing e = cc
 
-keeping_fetching : (k : List ℕ) (g : Digest32) (l : ℕ) (h : Digest32) (len : ℕ) → phase.Keeping k g l ≡ phase.Fetching h len → ⊥
-keeping_fetching k g l h len e = cc
-
 keeping_closed : (k : List ℕ) (g : Digest32) (l : ℕ) → phase.Keeping k g l ≡ phase.Closed → ⊥
 keeping_closed k g l e = cc
-
-closed_fetching : (h : Digest32) (len : ℕ) → phase.Closed ≡ phase.Fetching h len → ⊥
-closed_fetching h len e = cc
-
-calling_fetching : (h : Digest32) (len : ℕ) → phase.Calling ≡ phase.Fetching h len → ⊥
-calling_fetching h len e = cc
 
 -- an awaited Reply isn't that of a load that is fetching
 no_reply : (n : ℕ) (o : Op) (load : Bool) (a : Awaiting) (h : Digest32) (len : ℕ) → a ≡ awaits.Reply n o load → Together (phase.Fetching h len) a → ⊥
@@ -195,7 +180,7 @@ no_reply n o load a h len e (inr f) = let w : awaits.Reply n o load ≡ awaits.C
 
 reply_left : (s : Standing) (n : ℕ) (o : Op) (load : Bool) → s.awaiting ≡ awaits.Reply n o load → Together s.phase s.awaiting → (h : Digest32) (len : ℕ) → Left s h len → ⊥
 reply_left s n o load same t h len (inl e) = no_reply n o load s.awaiting h len same (subst (λ (p : Phase). Together p s.awaiting) e t)
-reply_left s n o load same t h len (inr e) = reply_nothing n o load (sym e ∙ same)
+reply_left s n o load same t h len (inr e) = rests_nothing n o load (sym e ∙ same)
 
 -- what took one answer took no other
 took_other : (m k : ToClient) (took : Option ToClient) → took ≡ Some m → (m ≡ k → ⊥) → took ≡ Some k → ⊥
@@ -225,14 +210,6 @@ ending_halt g s b k = record {
   stays = λ takes h len l. l;
 }
 
-decided_completes : (u : Option ℕ) (d : Dictionary) (o : Op) → IsCompleted (decided_outcome u d o)
-decided_completes None d o = tt
-decided_completes (Some u) d o = tt
-
-decision_completes : (me : ℕ) (s : Standing) (below : List Entry) (base : ℕ) (part : Part) (o : Op) → IsCompleted (decision me s below base part o)
-unfolding decision
-decision_completes me s below base part o = decided_completes _ _ o
-
 ending_reply : (g : Group) (me : ℕ) (s : Standing) (b : List ℕ) (seal : Seal) (entries : List Tagged) (bytes : List ℕ) (path : List Entry) (part : Option Part) (a : Awaiting)
     → s.halted ≡ None → read_answer b ≡ Some (say.Reply seal entries bytes) → Together s.phase s.awaiting → s.awaiting ≡ a → loads_reference me s seal path part a ≡ true
     → Ending g s (input.Payload b) (move_on_reply me s seal path part a)
@@ -248,7 +225,7 @@ ending_reply g me s b seal entries bytes (e ∷ below) (Some part) (awaits.Reply
         load = load;
         ends = ends;
         awaited = same;
-        completes = decision_completes me s below seal.position part o;
+        completes = decision_completed me s below seal.position part o;
         returned = refl;
         object = refl;
         turned = refl;
@@ -257,7 +234,7 @@ ending_reply g me s b seal entries bytes (e ∷ below) (Some part) (awaits.Reply
         no_content = λ c f. took_other m (say.Content c) (answer_unless_halted v.next (input.Payload b)) it (λ w. cc) f;
       });
       closed = λ plain f. ap (λ (p : Phase). after_decision p ends) f;
-      calls = λ objects c k q l f. absurd (reply_turn k q l f);
+      calls = λ objects c k q l f. absurd (rests_turn k q l f);
       fetches = λ d f. absurd (commit_fetch _ d f);
       turn = λ f. absurd (took_other m say.Wait (answer_unless_halted v.next (input.Payload b)) it (λ w. cc) f);
       waits = λ f h len w. absurd (took_other m say.Wait (answer_unless_halted v.next (input.Payload b)) it (λ w. cc) f);
@@ -282,7 +259,7 @@ ending_update g s b seal bytes (Some part) (o ∷ others) alive read same =
     record {
       returned = quiet_return s (answer_unless_halted v.next (input.Payload b)) v m refl refl it (λ r w. cc) (λ c w. cc);
       closed = λ plain f. f;
-      calls = λ objects c k q l f. absurd (reply_turn k q l f);
+      calls = λ objects c k q l f. absurd (rests_turn k q l f);
       fetches = λ d f. absurd (seal_fetch d f);
       turn = λ f. same;
       waits = λ f h len w. absurd (took_other m say.Wait (answer_unless_halted v.next (input.Payload b)) it (λ w. cc) f);
@@ -302,7 +279,7 @@ waits_quiet g s b alive read same apart =
     record {
       returned = quiet_return s (answer_unless_halted v.next (input.Payload b)) v say.Wait refl refl it (λ r w. cc) (λ c w. cc);
       closed = λ plain f. f;
-      calls = λ objects c k q l f. absurd (reply_nothing k q l f);
+      calls = λ objects c k q l f. absurd (rests_nothing k q l f);
       fetches = λ d f. absurd (no_fetch d f);
       turn = λ f. same;
       waits = λ f h len w. absurd (apart h len w);
@@ -312,9 +289,9 @@ waits_quiet g s b alive read same apart =
     }
 
 ending_wait : (g : Group) (s : Standing) (b : List ℕ) (p : Phase) → s.halted ≡ None → read_answer b ≡ Some say.Wait → s.awaiting ≡ awaits.Turn → s.phase ≡ p → Ending g s (input.Payload b) (move_on_wait s p)
-ending_wait g s b phase.Closed alive read same is = waits_quiet g s b alive read same (λ h len e. closed_fetching h len (sym is ∙ e))
-ending_wait g s b (phase.Keeping k d l) alive read same is = waits_quiet g s b alive read same (λ h len e. keeping_fetching k d l h len (sym is ∙ e))
-ending_wait g s b phase.Calling alive read same is = waits_quiet g s b alive read same (λ h len e. calling_fetching h len (sym is ∙ e))
+ending_wait g s b phase.Closed alive read same is = waits_quiet g s b alive read same (λ h len e. closed_apart h len (sym is ∙ e))
+ending_wait g s b (phase.Keeping k d l) alive read same is = waits_quiet g s b alive read same (λ h len e. keeping_apart k d l h len (sym is ∙ e))
+ending_wait g s b phase.Calling alive read same is = waits_quiet g s b alive read same (λ h len e. calling_apart h len (sym is ∙ e))
 ending_wait g s b (phase.Fetching h len) alive read same is =
     let v : Move = move_on_wait s (phase.Fetching h len) in
     let it : answer_unless_halted v.next (input.Payload b) ≡ Some say.Wait = takes_read v.next b (Some say.Wait) alive read in
@@ -348,7 +325,7 @@ ending_refused g s b r awaits.Kept alive read t same form =
     record {
       returned = is_refused_content (record { reason = r; awaited = same; returned = refl; object = refl; took_it = it });
       closed = λ plain f. refl;
-      calls = λ objects c k q l f. absurd (reply_nothing k q l f);
+      calls = λ objects c k q l f. absurd (rests_nothing k q l f);
       fetches = λ d f. absurd (no_fetch d f);
       turn = λ f. absurd (took_other m say.Wait (answer_unless_halted v.next (input.Payload b)) it (λ w. cc) f);
       waits = λ f h len w. absurd (took_other m say.Wait (answer_unless_halted v.next (input.Payload b)) it (λ w. cc) f);
@@ -372,7 +349,7 @@ ending_refused g s b r (awaits.Reply n o load) alive read t same form =
         no_content = λ c f. took_other m (say.Content c) (answer_unless_halted v.next (input.Payload b)) it (λ w. cc) f;
       });
       closed = λ plain f. ap (λ (p : Phase). after_decision p (outcome.Refused r)) f;
-      calls = λ objects c k q l f. absurd (reply_nothing k q l f);
+      calls = λ objects c k q l f. absurd (rests_nothing k q l f);
       fetches = λ d f. absurd (no_fetch d f);
       turn = λ f. absurd (took_other m say.Wait (answer_unless_halted v.next (input.Payload b)) it (λ w. cc) f);
       waits = λ f h len w. absurd (took_other m say.Wait (answer_unless_halted v.next (input.Payload b)) it (λ w. cc) f);
@@ -418,7 +395,7 @@ ending_kept g s b (phase.Keeping k d len) alive read t is =
       waits = λ f h l w. absurd (took_other m say.Wait (answer_unless_halted v.next (input.Payload b)) it (λ w. cc) f);
       keeps = λ c f. absurd (not_keep v.sends c refl f);
       kept = λ f. (o, refl);
-      stays = λ takes h l w. elim w [ inl f ↦ absurd (keeping_fetching k d len h l (sym is ∙ f)) | inr f ↦ absurd (kept_nothing (sym kept ∙ f)) ];
+      stays = λ takes h l w. elim w [ inl f ↦ absurd (keeping_apart k d len h l (sym is ∙ f)) | inr f ↦ absurd (kept_nothing (sym kept ∙ f)) ];
     }
 ending_kept g s b phase.Closed alive read t is = ending_halt g s b 1
 ending_kept g s b phase.Calling alive read t is = ending_halt g s b 1
@@ -433,7 +410,7 @@ ending_content g me s b c (awaits.Content h len) alive read same wanted =
     record {
       returned = is_content (record { content = c; digest = h; len = len; awaited = same; returned = refl; object = refl; took_it = it });
       closed = λ plain f. refl;
-      calls = λ objects w k q l f. absurd (reply_nothing k q l f);
+      calls = λ objects w k q l f. absurd (rests_nothing k q l f);
       fetches = λ d f. absurd (no_fetch d f);
       turn = λ f. absurd (took_other m say.Wait (answer_unless_halted v.next (input.Payload b)) it (λ w. cc) f);
       waits = λ f d l w. absurd (took_other m say.Wait (answer_unless_halted v.next (input.Payload b)) it (λ w. cc) f);
@@ -456,7 +433,7 @@ ending_entries g me s b seal entries alive read =
     record {
       returned = quiet_return s (answer_unless_halted v.next (input.Payload b)) v m refl refl it (λ r w. cc) (λ c w. cc);
       closed = λ plain f. f;
-      calls = λ objects w k q l f. absurd (reply_nothing k q l f);
+      calls = λ objects w k q l f. absurd (rests_nothing k q l f);
       fetches = λ d f. absurd (no_fetch d f);
       turn = λ f. absurd (took_other m say.Wait (answer_unless_halted v.next (input.Payload b)) it (λ w. cc) f);
       waits = λ f d l w. absurd (took_other m say.Wait (answer_unless_halted v.next (input.Payload b)) it (λ w. cc) f);
@@ -471,7 +448,7 @@ ending_taken g me s b say.Hi alive read passes t = ending_halt g s b 1
 ending_taken g me s b (say.Reply seal entries bytes) alive read passes t = ending_reply g me s b seal entries bytes (path_with_entries s entries) (read_part bytes) s.awaiting alive read t refl passes.content
 ending_taken g me s b say.Wait alive read passes t = ending_wait g s b s.phase alive read (wait_awaited s.awaiting passes.form) refl
 ending_taken g me s b (say.Update seal bytes) alive read passes t =
-    ending_update g s b seal bytes (read_part bytes) s.own alive read (update_awaited s.awaiting seal bytes (and_parts (is_awaited s.awaiting (say.Update seal bytes)) _ passes.form).0)
+    ending_update g s b seal bytes (read_part bytes) s.own alive read (awaits_update s.awaiting seal bytes (and_parts (is_awaited s.awaiting (say.Update seal bytes)) _ passes.form).0)
 ending_taken g me s b (say.Entries seal entries) alive read passes t = ending_entries g me s b seal entries alive read
 ending_taken g me s b (say.Refused r) alive read passes t = ending_refused g s b r s.awaiting alive read t refl passes.form
 ending_taken g me s b say.Kept alive read passes t = ending_kept g s b s.phase alive read t refl
@@ -543,7 +520,7 @@ unfolding step
 ending g me s (input.Call o) may t =
     ending_asked g s (input.Call o) _ refl refl refl (λ w. w) (λ plain e. refl) (λ objects c. absurd (mode_apart objects may.1.0)) (λ d e. call_fetch (s.calls + 1) o d e) (λ c e. absurd (not_keep (Some (Invokes _ _)) c refl e))
 ending g me s (input.Object c) may t = ending_object g s c may.1.0
-ending g me s input.Poll may t = ending_asked g s input.Poll _ refl refl refl (λ w. w) (λ plain e. e) (λ objects c n o load e. absurd (reply_turn n o load e)) (λ d e. cc) (λ c e. absurd (not_keep (Some Polls) c refl e))
+ending g me s input.Poll may t = ending_asked g s input.Poll _ refl refl refl (λ w. w) (λ plain e. e) (λ objects c n o load e. absurd (rests_turn n o load e)) (λ d e. cc) (λ c e. absurd (not_keep (Some Polls) c refl e))
 ending g me s input.Sync may t = ending_asked g s input.Sync _ refl refl refl (λ w. w) (λ plain e. e) (λ objects c n o load e. absurd cc) (λ d e. cc) (λ c e. absurd (not_keep (Some Syncs) c refl e))
 ending g me s (input.Payload b) may t = ending_payload g me s b s.halted refl may t
 
@@ -566,7 +543,7 @@ stands_on g me s i may t =
 
 pub stands : (g : Group) (h : List TraceStep) → AreSteps g h → (me : ℕ) → Stands g (standing g me h)
 stands g h steps me =
-    at_each_standing g (λ j s. Stands g s) (λ j. record { together = start_together; closed = λ plain. refl; calls = λ objects n o load e. absurd (reply_nothing n o load e) }) (stands_on g) h steps me
+    at_each_standing g (λ j s. Stands g s) (λ j. record { together = nothing_closed; closed = λ plain. refl; calls = λ objects n o load e. absurd (rests_nothing n o load e) }) (stands_on g) h steps me
 
 pub ending_at : (g : Group) (x : TraceStep) (past : List TraceStep) → AreSteps g (x ∷ past) → Ending g (standing g x.client past) x.input (move_of g past x)
 ending_at g x past steps = ending g x.client (standing g x.client past) x.input steps.1.may (stands g past steps.0 x.client).together

@@ -1,5 +1,5 @@
 -- What a text tells.
-use Rattle.std.specs.Prelude.{◌≡◌, ℕ, List, [], ◌∷◌, ◌++◌}
+use Rattle.std.specs.Prelude.{◌≡◌, [], ◌∷◌, ◌++◌}
 use Rattle.std.specs.Int.{w32, to_be_bytes, from_be_bytes}
 use Rattle.std.proofs.Common.{refl, ap, sym, ◌∙◌}
 use Rattle.std.proofs.lemmas.Nat.{from_be_bytes-to_be_bytes_4}
@@ -11,6 +11,7 @@ use Rattle.vic_laws.proofs.Words.{tail_same}
 use Rattle.vic_laws.proofs.Chains.{append_same, same_entry_text}
 use Rattle.vic_laws.proofs.MadeSeals.{seal_text_told}
 use Rattle.vic_laws.proofs.MadeCommits.{commit_told}
+use Rattle.vic_laws.proofs.RealTime.{first_of_list}
 
 one_mode : (k j : Mode) → mode_byte k ≡ mode_byte j → k ≡ j
 one_mode mode.Plain mode.Plain e = refl
@@ -37,12 +38,9 @@ commit_tells m n a b d e small few same text =
 pub seal_tells : SealTells
 seal_tells m n a b r q small few same text = seal_text_told m n a b r q small few same text
 
-starts : (a b : ℕ) (x y : List ℕ) → a ∷ x ≡ b ∷ y → a ≡ b
-starts a b x y e = cc
-
 pub kinds_apart : KindsApart
 kinds_apart = record {
-  call_status = λ e n a d same. let first : 17 ≡ 18 = starts 17 18 _ _ same in absurd cc;
-  call_seal = λ e n a r same. let first : 17 ≡ 19 = starts 17 19 _ _ same in absurd cc;
-  status_seal = λ m n a b r d same. let first : 18 ≡ 19 = starts 18 19 _ _ same in absurd cc;
+  call_status = λ e n a d same. let first : 17 ≡ 18 = first_of_list 17 18 _ _ same in absurd cc;
+  call_seal = λ e n a r same. let first : 17 ≡ 19 = first_of_list 17 19 _ _ same in absurd cc;
+  status_seal = λ m n a b r d same. let first : 18 ≡ 19 = first_of_list 18 19 _ _ same in absurd cc;
 }

@@ -41,10 +41,10 @@ no_key : (k w : List ℕ) → ◌≡◌ {A = Option (List ℕ)} (map.get nothing
 no_key k w e = none_is_some (sym (map.get-empty (slice_cmp nat_cmp) k) ∙ e)
 
 -- a look-up after an insert or a removal
-after_put : (d : Dictionary) (q u k : List ℕ) → map.get (map.insert d q u) k ≡ cond (bytes_eq k q) (Some u) (map.get d k)
+pub after_put : (d : Dictionary) (q u k : List ℕ) → map.get (map.insert d q u) k ≡ cond (bytes_eq k q) (Some u) (map.get d k)
 after_put d q u k = map.get-insert nat_list_cmp_total d q u k ∙ ap (λ b. cond b (Some u) (map.get d k)) (is_eq-slice_cmp k q)
 
-after_del : (d : Dictionary) (q k : List ℕ) → map.get (map.remove d q) k ≡ cond (bytes_eq k q) None (map.get d k)
+pub after_del : (d : Dictionary) (q k : List ℕ) → map.get (map.remove d q) k ≡ cond (bytes_eq k q) None (map.get d k)
 after_del d q k = map.get-remove nat_list_cmp_total d q k ∙ ap (λ b. cond b None (map.get d k)) (is_eq-slice_cmp k q)
 
 by_put : (k w : List ℕ) (x : Shown) (v : List Shown) (q u : List ℕ) → is_done x.outcome ≡ true → x.entry.op ≡ op.Put q u → (b : Bool) → bytes_eq k q ≡ b

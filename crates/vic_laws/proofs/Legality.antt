@@ -1,38 +1,31 @@
 -- Each answer in a view is that of a dictionary after the calls before it.
 use Rattle.std.specs.Prelude.{◌≡◌, ℕ, ◌<◌, ◌≤◌, ◌⊎◌, List, [], ◌∷◌, ◌++◌, length, Option, Some, None}
-use Rattle.std.proofs.Common.{refl, ap, subst, sym, ◌∙◌, inl, inr, arith, append_assoc, le_refl, le_of_suc-le-suc}
+use Rattle.std.proofs.Common.{refl, ap, subst, sym, ◌∙◌, inl, inr, arith, append_assoc, le_of_suc-le-suc}
 use Rattle.std.proofs.lemmas.Bool.{cases_lt}
 use Rattle.vic_dict.specs.declared.op.Op.{Op}
 use Rattle.vic_dict.specs.declared.op.Entry.{Entry}
 use Rattle.vic_dict.specs.Lists.{IsIn, front}
-use Rattle.std.specs.List.{AllByRecursion}
-use Rattle.vic_dict.specs.Dictionary.{Dictionary, reply, IsProper}
-use Rattle.vic_wire.specs.Messages.{IsEntry}
-use Rattle.vic_wire.specs.Trees.{tree_of}
-use Rattle.vic_wire.specs.Cuts.{IsCut}
+use Rattle.vic_dict.specs.Dictionary.{Dictionary, reply}
 use Rattle.vic_wire.specs.Parts.{walked}
 use Rattle.vic_commute.proofs.Heeding.{HeededAlike, looked_alike, heeded_reply}
-use Rattle.vic_tree.proofs.Alike.{alike as alike_on_cut}
-use Rattle.vic_roots.proofs.Proper.{byte_keys-proper}
-use Rattle.vic_laws.proofs.Paths.{all_drop, path_spelled}
 use Rattle.vic_wire.specs.Hashes.{Group}
 use Rattle.vic_rules.specs.declared.trace.TraceStep.{TraceStep}
 use Rattle.vic_rules.specs.declared.trace.Shown.{Shown}
 use Rattle.vic_rules.specs.Client.{Standing, in_the_way, decided_outcome, decision, own_calls_over}
-use Rattle.vic_rules.specs.History.{standing, path, move_of, AreSteps, Completion, completions}
+use Rattle.vic_rules.specs.History.{standing, path, AreSteps, Completion, completions}
 use Rattle.vic_rules.specs.Views.{confirmation, confirmed_calls, shown_as, left_by, last_prefix, view_of, Explains, IsLegal}
-use Rattle.vic_rules.specs.Trust.{IsForged, Collides, parts_in}
-use Rattle.vic_laws.specs.Claims.{SealHolds, ViewsAreLegal}
+use Rattle.vic_rules.specs.Trust.{IsForged, Collides}
+use Rattle.vic_laws.specs.Claims.{ViewsAreLegal}
 use Rattle.vic_laws.specs.OrderClaims.{effect_of, was_done}
 use Rattle.vic_laws.proofs.Steps.{call_of}
-use Rattle.vic_laws.proofs.Standings.{standing_moved, earlier_steps}
+use Rattle.vic_laws.proofs.Standings.{earlier_steps}
 use Rattle.vic_laws.proofs.Calls.{RepliedAt, completed_by, completion_after}
 use Rattle.vic_laws.proofs.Agreement.{confirmed_tells}
-use Rattle.vic_laws.proofs.Dictionaries.{leaves_done, left_proper}
-use Rattle.vic_laws.proofs.Growth.{front_grows, front_whole, confirmed_calls_stay, completions_grow}
-use Rattle.vic_laws.proofs.SealsHeld.{all_hold, part_is_left, taken_at}
+use Rattle.vic_laws.proofs.Dictionaries.{leaves_done}
+use Rattle.vic_laws.proofs.Growth.{front_grows, front_whole}
 use Rattle.vic_laws.proofs.OwnLaid.{own_op, own_laid, lays_at}
 use Rattle.vic_laws.proofs.AnswersStand.{effect_above, effect_below, effects_alike, reply_stands}
+use Rattle.vic_laws.proofs.SealedAnswers.{part_shows}
 
 -- ---- what the calls of a path leave
 
@@ -100,44 +93,6 @@ module _ (g : Group) (whole : List TraceStep) (lawful : AreSteps g whole) (hones
       below : List Entry
       below = r.others ++ path g x.client past
 
-      p : List Entry
-      p = call_of x.client r.seq r.op ∷ (r.others ++ path g x.client past)
-
-      steps : AreSteps g (x ∷ past)
-      steps = earlier_steps g later (x ∷ past) (subst (AreSteps g) e lawful)
-
-      here : standing g x.client (x ∷ past) ≡ (move_of g past x).next
-      here = standing_moved g x.client x past refl
-
-      path_is : path g x.client (x ∷ past) ≡ p
-      path_is = ap (λ w. w.path) here ∙ ap (λ v. v.next.path) r.moved
-
-      sealed_is : (standing g x.client (x ∷ past)).sealed ≡ r.seal.position
-      sealed_is = ap (λ w. w.sealed) here ∙ ap (λ v. v.next.sealed) r.moved
-
-      root_is : (standing g x.client (x ∷ past)).root ≡ r.seal.root.bytes
-      root_is = ap (λ w. w.root) here ∙ ap (λ v. v.next.root) r.moved
-
-      holds : SealHolds (completions g (x ∷ past)) p r.seal.position r.seal.root.bytes
-      holds = subst (λ q. SealHolds (completions g (x ∷ past)) q r.seal.position r.seal.root.bytes) path_is
-          (subst (λ n. SealHolds (completions g (x ∷ past)) (path g x.client (x ∷ past)) n r.seal.root.bytes) sealed_is
-          (subst (SealHolds (completions g (x ∷ past)) (path g x.client (x ∷ past)) (standing g x.client (x ∷ past)).sealed) root_is
-          ((all_hold g whole lawful honest apart later (x ∷ past) e).1 x.client)))
-
-      more : (ds : List Completion) × (completions g (later ++ x ∷ past) ≡ ds ++ completions g (x ∷ past))
-      more = completions_grow g later (x ∷ past)
-
-      -- what the calls up to the seal leave is one, in the whole history
-      same_left : left_by (confirmed_calls (completions g (x ∷ past)) (front r.seal.position p)) ≡ left_by (confirmed_calls (completions g whole) (front r.seal.position below))
-      same_left = ap left_by (sym (confirmed_calls_stay more.0 (completions g (x ∷ past)) (front r.seal.position p) holds.all)
-          ∙ (ap (λ cs. confirmed_calls cs (front r.seal.position p)) (sym more.1 ∙ ap (completions g) (sym e))
-          ∙ ap (confirmed_calls (completions g whole)) (front_grows (call_of x.client r.seq r.op ∷ []) below r.seal.position (le_of_suc-le-suc r.below))))
-
-      -- the part is a cut of the tree of that
-      told : IsCut r.part (tree_of (left_by (confirmed_calls (completions g whole) (front r.seal.position below))))
-      told = subst (λ d. IsCut r.part (tree_of d)) same_left (part_is_left g whole lawful honest apart later x past e r.bytes r.part r.seal.position r.seal.root.bytes
-          (subst (λ o. IsIn (parts_in o) r.bytes) (sym (taken_at g past x _ r.takes)) (inl refl)) r.are_bytes r.is_part r.root_is (subst (λ n. r.seal.position ≤ n) (sym sealed_is) (le_refl r.seal.position)) p path_is holds)
-
       -- what is laid over it is laid by the path
       laid_is : own_calls_over s.own r.seal.position (walked r.part r.op) ≡ own_laid (completions g whole) x.client r.seal.position (walked r.part r.op) below
       laid_is = lays_at g whole lawful later x past e r
@@ -152,15 +107,9 @@ module _ (g : Group) (whole : List TraceStep) (lawful : AreSteps g whole) (hones
           base_left : Dictionary
           base_left = left_by (confirmed_calls (completions g whole) (front r.seal.position below))
 
-          spelled : AllByRecursion IsEntry p
-          spelled = subst (AllByRecursion IsEntry) path_is (path_spelled g (x ∷ past) steps x.client)
-
-          proper : IsProper base_left
-          proper = left_proper (completions g whole) (front r.seal.position below) (all_drop IsEntry _ below spelled.1)
-
           -- the walk shows what the calls up to the seal leave wherever the operation looks
           shows_base : HeededAlike r.op (walked r.part r.op) base_left
-          shows_base = looked_alike r.op (walked r.part r.op) base_left (alike_on_cut base_left (byte_keys-proper base_left proper) r.part told r.op spelled.0.op.1 r.reached)
+          shows_base = looked_alike r.op (walked r.part r.op) base_left (part_shows g whole lawful honest apart later x past e r)
 
   -- each confirmed call is explained by the confirmed calls below it
   confirmed_explains : (e : Entry) (p : List Entry) (c : Completion) → confirmation (completions g whole) (e ∷ p) ≡ Some c

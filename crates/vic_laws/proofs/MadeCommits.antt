@@ -22,6 +22,7 @@ use Rattle.vic_laws.proofs.Paths.{all_drop, texts_drop, path_listed, path_spelle
 use Rattle.vic_laws.proofs.Calls.{kind_of, completed_by, completion_joins, completion_stays}
 use Rattle.vic_laws.proofs.Growth.{path_later, texts_below}
 use Rattle.vic_laws.proofs.Agreement.{confirmed_by}
+use Rattle.vic_laws.proofs.SealsHeld.{first_apart}
 
 -- ---- one text, one commit
 
@@ -55,14 +56,11 @@ record SentCommit (g : Group) (me : ℕ) (s : Standing) (i : Input) (v : Move) (
   replied : Replied g me s i v
   is : t ≡ commit_text (length (completed_by replied).prefix) (chain g (completed_by replied).prefix) (is_done (completed_by replied).outcome)
 
-starts_apart : (a b : ℕ) (x y t : List ℕ) → (a ≡ b → ⊥) → a ∷ x ≡ t → t ≡ b ∷ y → ⊥
-starts_apart a b x y t differ e f = differ (cc)
-
 sent_commit : (g : Group) (me : ℕ) (s : Standing) (i : Input) (v : Move) → Kind g me s i v → (t rest : List ℕ) → t ≡ 18 ∷ rest → IsIn (text_sent g me v.next v.sends) t → SentCommit g me s i v t
 unfolding commit_text_on seal_text_on
 sent_commit g me s i v (is_quiet k) t rest e there = absurd (subst (λ ts. IsIn ts t) k.sends_nothing there)
 sent_commit g me s i v (is_called k) t rest e there = elim (subst (λ w. IsIn (text_sent g me w.next w.sends) t) k.moved there) [
-  | inl same ↦ absurd (starts_apart 17 18 _ rest t (λ q. omega (arith, q)) same e)
+  | inl same ↦ absurd (first_apart 17 18 _ rest t (λ q. omega (arith, q)) same e)
   | inr none ↦ absurd none
 ]
 sent_commit g me s i v (is_replied k) t rest e there = elim (subst (λ w. IsIn (text_sent g me w.next w.sends) t) k.moved there) [
@@ -70,7 +68,7 @@ sent_commit g me s i v (is_replied k) t rest e there = elim (subst (λ w. IsIn (
   | inr none ↦ absurd none
 ]
 sent_commit g me s i v (is_updated k) t rest e there = elim (subst (λ w. IsIn (text_sent g me w.next w.sends) t) k.moved there) [
-  | inl same ↦ absurd (starts_apart 19 18 _ rest t (λ q. omega (arith, q)) same e)
+  | inl same ↦ absurd (first_apart 19 18 _ rest t (λ q. omega (arith, q)) same e)
   | inr none ↦ absurd none
 ]
 sent_commit g me s i v (is_listed k) t rest e there = absurd (subst (λ w. IsIn (text_sent g me w.next w.sends) t) k.moved there)

@@ -18,7 +18,6 @@ use Rattle.vic_rules.specs.declared.object.ObjectOutcome.TheVariants as ended
 use Rattle.vic_rules.specs.declared.object.Next.TheVariants as next
 use Rattle.vic_rules.specs.declared.object.Phase.{Phase}
 use Rattle.vic_rules.specs.declared.object.Phase.TheVariants as phase
-use Rattle.vic_rules.specs.declared.state.Awaiting.TheVariants as awaits
 use Rattle.vic_rules.specs.declared.trace.TraceStep.{TraceStep}
 use Rattle.vic_rules.specs.Objects.{ObjectStep, final_outcome, step_on_outcome, after_decision, outcome_after_decision, is_reference, hash_in, length_in}
 use Rattle.vic_rules.specs.Client.{Standing, Move, Sending, Invokes, Commits, Polls, Seals, Syncs, Keeps, Fetches, payload_of}
@@ -30,10 +29,11 @@ use Rattle.vic_laws.specs.ObjectClaims.{EndsObject, ObjectsEndSo, FoundSince, Fe
 use Rattle.vic_laws.proofs.Words.{some_same, none_is_some, in_either, tail_same}
 use Rattle.vic_laws.proofs.Standings.{standing_moved, standing_kept, earlier_steps}
 use Rattle.vic_laws.proofs.ByCases.{took_is}
+use Rattle.vic_laws.proofs.RealTime.{took_is as took_plainly}
 use Rattle.vic_laws.proofs.Phases.{Together, Finds}
 use Rattle.vic_laws.proofs.Contents.{all_together, phased_at, fetching_takes, known_sent, known_taken, known_since}
 use Rattle.vic_laws.proofs.Asked.{calls_what_it_is_asked}
-use Rattle.vic_laws.proofs.Endings.{Returned, is_nothing, is_decided, is_refused, is_refused_content, is_content, is_halted, Calls, Left, Fetched, Stands, stands, ending_at}
+use Rattle.vic_laws.proofs.Endings.{Returned, is_nothing, is_decided, is_refused, is_refused_content, is_content, is_halted, Calls, Left, Fetched, Stands, stands, ending_at, turn_nothing}
 
 -- ---- what is returned of a call on objects
 
@@ -221,10 +221,6 @@ plain_none s took v closed t (is_refused_content f) = absurd ((subst (λ (p : Ph
 plain_none s took v closed t (is_content f) = absurd ((subst (λ (p : Phase). Together p s.awaiting) closed t).0 f.digest f.len f.awaited)
 plain_none s took v closed t (is_halted q) = q.object
 
-took_by : (g : Group) (past : List TraceStep) (x : TraceStep) → answer_taken g past x ≡ answer_unless_halted (move_of g past x).next x.input
-unfolding answer_taken
-took_by g past x = refl
-
 ends_object : (g : Group) (x : TraceStep) (past : List TraceStep) → AreSteps g (x ∷ past) → g.mode ≡ mode.Objects → EndsObject g past x
 ends_object g x past steps objects =
     let s : Standing = standing g x.client past in
@@ -244,7 +240,7 @@ ends_object g x past steps objects =
       names = λ l. (to (ended.Names l) (outcome.Done (answer.Names l)) refl tt, from (ended.Names l) (outcome.Done (answer.Names l)) refl tt);
       aborted = λ u. (to (ended.Aborted u) (outcome.Aborted u) refl tt, from (ended.Aborted u) (outcome.Aborted u) refl tt);
       refused = λ n. (refuses n, refuses_from n);
-      content = λ c. (gives c, λ it. steps.1.object ∙ content_to s t v r c (sym (took_by g past x) ∙ it));
+      content = λ c. (gives c, λ it. steps.1.object ∙ content_to s t v r c (sym (took_plainly g past x) ∙ it));
       found = λ w given. (let f : FoundIt s v w = found_it s t v calls r w (sym steps.1.returned ∙ given) in (steps.1.object ∙ f.object, eqb-true (length w) 36 f.size));
       halted = λ k given. steps.1.object ∙ halted_so s t v r k (sym steps.1.returned ∙ given);
     }
@@ -252,15 +248,15 @@ ends_object g x past steps objects =
     refuses : (n : ℕ) → x.object ≡ Some (ended.Refused n) → (x.returned ≡ Some (outcome.Refused n)) ⊎ ((x.returned ≡ None) × (answer_taken g past x ≡ Some (say.Refused n)))
     refuses n given = elim (refused_to (standing g x.client past) _ (move_of g past x) ((stands g past steps.0 x.client).calls objects) (ending_at g x past steps).returned n (sym steps.1.object ∙ given)) [
       | inl a ↦ inl (steps.1.returned ∙ a)
-      | inr b ↦ inr (steps.1.returned ∙ b.0, took_by g past x ∙ b.1)
+      | inr b ↦ inr (steps.1.returned ∙ b.0, took_plainly g past x ∙ b.1)
     ]
 
     refuses_from : (n : ℕ) → (x.returned ≡ Some (outcome.Refused n)) ⊎ ((x.returned ≡ None) × (answer_taken g past x ≡ Some (say.Refused n))) → x.object ≡ Some (ended.Refused n)
     refuses_from n (inl a) = steps.1.object ∙ refused_call (standing g x.client past) _ (move_of g past x) ((stands g past steps.0 x.client).calls objects) (ending_at g x past steps).returned n (sym steps.1.returned ∙ a)
-    refuses_from n (inr b) = steps.1.object ∙ refused_content (standing g x.client past) _ (move_of g past x) (ending_at g x past steps).returned n (sym steps.1.returned ∙ b.0) (sym (took_by g past x) ∙ b.1)
+    refuses_from n (inr b) = steps.1.object ∙ refused_content (standing g x.client past) _ (move_of g past x) (ending_at g x past steps).returned n (sym steps.1.returned ∙ b.0) (sym (took_plainly g past x) ∙ b.1)
 
     gives : (c : List ℕ) → x.object ≡ Some (ended.Content c) → answer_taken g past x ≡ Some (say.Content c)
-    gives c given = took_by g past x ∙ ((phased_at g x past steps).content c (sym steps.1.object ∙ given)).took_it
+    gives c given = took_plainly g past x ∙ ((phased_at g x past steps).content c (sym steps.1.object ∙ given)).took_it
 
 pub objects_end_so : ObjectsEndSo
 objects_end_so g h lawful later x past is =
@@ -361,28 +357,25 @@ left_since g me w (y ∷ between) x past steps objects alone own found =
       | inr differ ↦ subst (λ (s : Standing). Left s (digest_in w) (length_in w)) (sym (standing_kept g me y (between ++ x ∷ past) differ)) before
     ]
 
-turn_apart : awaits.Turn ≡ awaits.Nothing → ⊥
-turn_apart e = cc
-
 fetches_from : (g : Group) (x : TraceStep) (past : List TraceStep) → AreSteps g (x ∷ past) → g.mode ≡ mode.Objects → (d : Digest32) → answer_taken g past x ≡ Some say.Wait → FoundSince past x.client d.bytes
     → x.sent ≡ Some (request_text (ask.Fetch d))
 fetches_from g x past steps objects d it f =
     let e = ending_at g x past steps in
-    let took_it : answer_unless_halted (move_of g past x).next x.input ≡ Some say.Wait = sym (took_by g past x) ∙ it in
+    let took_it : answer_unless_halted (move_of g past x).next x.input ≡ Some say.Wait = sym (took_plainly g past x) ∙ it in
     let left : Left (standing g x.client past) (digest_in f.value) (length_in f.value) =
     subst (λ (h : List TraceStep). Left (standing g x.client h) (digest_in f.value) (length_in f.value)) (sym f.since)
     (left_since g x.client f.value f.between f.reply f.before (subst (AreSteps g) f.since steps.0) objects f.alone f.owner f.found) in
     elim left [
       | inl fetching ↦ steps.1.sent ∙ (ap (payload_of g x.client (move_of g past x).next) (e.waits took_it (digest_in f.value) (length_in f.value) fetching)
           ∙ ap (λ (b : List ℕ). Some (0x28 ∷ b)) (sym f.is))
-      | inr nothing ↦ absurd (turn_apart (sym (e.turn took_it) ∙ nothing))
+      | inr nothing ↦ absurd (turn_nothing (sym (e.turn took_it) ∙ nothing))
     ]
 
 fetches_to : (g : Group) (x : TraceStep) (past : List TraceStep) → AreSteps g (x ∷ past) → (d : Digest32) → x.sent ≡ Some (request_text (ask.Fetch d)) → (answer_taken g past x ≡ Some say.Wait) × FoundSince past x.client d.bytes
 fetches_to g x past steps d sent =
     let sends : (move_of g past x).sends ≡ Some (Fetches d.bytes) = fetch_told g x.client (move_of g past x).next (move_of g past x).sends d (sym steps.1.sent ∙ sent) in
     let f : Fetched (standing g x.client past) (answer_unless_halted (move_of g past x).next x.input) d.bytes = (ending_at g x past steps).fetches d.bytes sends in
-    (took_by g past x ∙ f.took_it, subst (FoundSince past x.client) (sym f.is) (found_since g past steps.0 x.client f.digest f.len f.fetching))
+    (took_plainly g past x ∙ f.took_it, subst (FoundSince past x.client) (sym f.is) (found_since g past steps.0 x.client f.digest f.len f.fetching))
 
 -- a group without objects has none to fetch
 no_fetch : (g : Group) (x : TraceStep) (past : List TraceStep) → AreSteps g (x ∷ past) → (d : Digest32) → g.mode ≡ mode.Plain → x.sent ≡ Some (request_text (ask.Fetch d)) → ⊥

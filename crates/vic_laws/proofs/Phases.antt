@@ -11,7 +11,6 @@ use Rattle.vic_dict.specs.declared.op.Outcome.TheVariants as outcome
 use Rattle.vic_wire.specs.declared.message.Digest32.{Digest32}
 use Rattle.vic_wire.specs.declared.message.Seal.{Seal}
 use Rattle.vic_dict.specs.Lists.{AreBytes}
-use Rattle.vic_wire.specs.declared.message.Tagged.{Tagged}
 use Rattle.vic_wire.specs.declared.message.ToClient.{ToClient}
 use Rattle.vic_wire.specs.declared.message.ToClient.TheVariants as say
 use Rattle.vic_wire.specs.Hashes.{Group}
@@ -33,11 +32,11 @@ use Rattle.vic_rules.specs.declared.object.Next.{Next}
 use Rattle.vic_rules.specs.declared.object.Next.TheVariants as next
 use Rattle.vic_rules.specs.Objects.{final_outcome, content_hash, reference_text, is_reference, hash_in, length_in, is_content_of, first_step, step_on_kept, after_decision, outcome_after_decision, ObjectStep}
 use Rattle.vic_rules.specs.Views.{AsksFor}
-use Rattle.vic_rules.specs.Client.{is_wanted, Standing, Move, Sending, Invokes, Commits, Polls, Syncs, Seals, Keeps, Fetches as Fetch, move_with_object, move_to_call, move_by_object_step, move_on_wait, move_on_refusal, move_on_reply, move_on_update, move_to_halt, is_load, is_awaited, is_done, decision, awaits_nothing, MayStep, move_on_answer, move_on_verdict, move_on_payload, step, verdict, verdict_on, path_with_entries}
+use Rattle.vic_rules.specs.Client.{is_wanted, Standing, Move, Sending, Invokes, Polls, Syncs, Keeps, Fetches as Fetch, move_with_object, move_to_call, move_by_object_step, move_on_wait, move_on_refusal, move_on_reply, move_on_update, move_to_halt, is_load, is_awaited, is_done, decision, awaits_nothing, MayStep, move_on_answer, move_on_verdict, move_on_payload, step, verdict, verdict_on, path_with_entries}
 use Rattle.vic_rules.specs.Trust.{answer_unless_halted}
 use Rattle.vic_laws.proofs.Words.{none_is_some}
 use Rattle.vic_laws.proofs.Steps.{Passes}
-use Rattle.vic_laws.proofs.StepKinds.{all_passed, takes_read}
+use Rattle.vic_laws.proofs.StepKinds.{all_passed, takes_read, awaits_update, awaits_entries, no_commit, no_seal, nothing_sent}
 
 -- what is awaited goes with how far the call has come
 abbrev pub Together : Phase → Awaiting → Type 0
@@ -92,9 +91,6 @@ pub record Phased (s : Standing) (i : Input) (v : Move) : Type 0 where
 nothing_ended : (c : List ℕ) → ◌≡◌ {A = Option ObjectOutcome} None (Some (ended.Content c)) → ⊥
 nothing_ended c e = cc
 
-nothing_sent : (n : ℕ) (o : Op) → ◌≡◌ {A = Option Sending} None (Some (Invokes n o)) → ⊥
-nothing_sent n o e = cc
-
 phased_halt : (s : Standing) (i : Input) (k : ℕ) → Together s.phase s.awaiting → Phased s i (move_to_halt s k)
 phased_halt s i k t = record {
   together = t;
@@ -106,19 +102,19 @@ phased_halt s i k t = record {
   calls = λ n o e. absurd (nothing_sent n o e);
 }
 
-closed_apart : (h : Digest32) (len : ℕ) → phase.Closed ≡ phase.Fetching h len → ⊥
+pub closed_apart : (h : Digest32) (len : ℕ) → phase.Closed ≡ phase.Fetching h len → ⊥
 closed_apart h len e = cc
 
 closed_kept : (k : List ℕ) (h : Digest32) (len : ℕ) → phase.Closed ≡ phase.Keeping k h len → ⊥
 closed_kept k h len e = cc
 
-calling_apart : (h : Digest32) (len : ℕ) → phase.Calling ≡ phase.Fetching h len → ⊥
+pub calling_apart : (h : Digest32) (len : ℕ) → phase.Calling ≡ phase.Fetching h len → ⊥
 calling_apart h len e = cc
 
 calling_kept : (k : List ℕ) (h : Digest32) (len : ℕ) → phase.Calling ≡ phase.Keeping k h len → ⊥
 calling_kept k h len e = cc
 
-keeping_apart : (k : List ℕ) (g : Digest32) (l : ℕ) (h : Digest32) (len : ℕ) → phase.Keeping k g l ≡ phase.Fetching h len → ⊥
+pub keeping_apart : (k : List ℕ) (g : Digest32) (l : ℕ) (h : Digest32) (len : ℕ) → phase.Keeping k g l ≡ phase.Fetching h len → ⊥
 keeping_apart k g l h len e = cc
 
 fetching_kept : (g : Digest32) (l : ℕ) (k : List ℕ) (h : Digest32) (len : ℕ) → phase.Fetching g l ≡ phase.Keeping k h len → ⊥
@@ -222,7 +218,7 @@ phased_closed s i a sends returns object p is t gives quiet = record {
   calls = λ n o e. absurd (quiet n o e);
 }
 
-nothing_closed : Together phase.Closed awaits.Nothing
+pub nothing_closed : Together phase.Closed awaits.Nothing
 nothing_closed = ((λ h len e. cc), (λ e. cc))
 
 turn_closed : Together phase.Closed awaits.Turn
@@ -313,12 +309,6 @@ decided_content phase.Calling (outcome.Done (answer.Found v)) c e = found (is_re
 
 -- ---- what is taken
 
-no_commit : (done : Bool) (n : ℕ) (o : Op) → Some (Commits done) ≡ Some (Invokes n o) → ⊥
-no_commit done n o e = cc
-
-no_seal : (n : ℕ) (o : Op) → Some Seals ≡ Some (Invokes n o) → ⊥
-no_seal n o e = cc
-
 phased_reply : (me : ℕ) (s : Standing) (i : Input) (seal : Seal) (path : List Entry) (part : Option Part) (a : Awaiting) → Together s.phase s.awaiting → s.awaiting ≡ a
     → Phased s i (move_on_reply me s seal path part a)
 phased_reply me s i seal (e ∷ below) (Some part) (awaits.Reply n o load) t same =
@@ -363,14 +353,6 @@ wait_awaited (awaits.Reply n o load) e = absurd (true≢false (sym e))
 wait_awaited awaits.Entries e = absurd (true≢false (sym e))
 wait_awaited awaits.Kept e = absurd (true≢false (sym e))
 wait_awaited (awaits.Content h len) e = absurd (true≢false (sym e))
-
-pub update_awaited : (a : Awaiting) (seal : Seal) (part : List ℕ) → is_awaited a (say.Update seal part) ≡ true → a ≡ awaits.Turn
-update_awaited awaits.Turn seal part e = refl
-update_awaited awaits.Nothing seal part e = absurd (true≢false (sym e))
-update_awaited (awaits.Reply n o load) seal part e = absurd (true≢false (sym e))
-update_awaited awaits.Entries seal part e = absurd (true≢false (sym e))
-update_awaited awaits.Kept seal part e = absurd (true≢false (sym e))
-update_awaited (awaits.Content h len) seal part e = absurd (true≢false (sym e))
 
 no_content : (s : Standing) (took : Option ToClient) (c : List ℕ) → ◌≡◌ {A = Option ObjectOutcome} None (Some (ended.Content c)) → Fetches s took c
 no_content s took c e = absurd (nothing_ended c e)
@@ -459,20 +441,12 @@ entries_awaited a m phase.Calling e t = absurd (let f = sym e ∙ t.3 in cc)
 entries_awaited a m (phase.Fetching h len) e (inl f) = absurd (let w : awaits.Entries ≡ awaits.Turn = sym e ∙ f in cc)
 entries_awaited a m (phase.Fetching h len) e (inr f) = absurd (let w : awaits.Entries ≡ awaits.Content h len = sym e ∙ f in cc)
 
-pub awaits_entries : (a : Awaiting) (seal : Seal) (entries : List Tagged) → is_awaited a (say.Entries seal entries) ≡ true → a ≡ awaits.Entries
-awaits_entries awaits.Entries seal entries e = refl
-awaits_entries awaits.Nothing seal entries e = absurd (true≢false (sym e))
-awaits_entries (awaits.Reply n o load) seal entries e = absurd (true≢false (sym e))
-awaits_entries awaits.Turn seal entries e = absurd (true≢false (sym e))
-awaits_entries awaits.Kept seal entries e = absurd (true≢false (sym e))
-awaits_entries (awaits.Content h len) seal entries e = absurd (true≢false (sym e))
-
 phased_taken : (g : Group) (me : ℕ) (s : Standing) (b : List ℕ) (m : ToClient) → s.halted ≡ None → read_answer b ≡ Some m → Passes g me s m → Together s.phase s.awaiting → Phased s (input.Payload b) (move_on_answer me s m)
 phased_taken g me s b say.Hi alive read passes t = phased_halt s (input.Payload b) 1 t
 phased_taken g me s b (say.Reply seal entries part) alive read passes t = phased_reply me s (input.Payload b) seal (path_with_entries s entries) (read_part part) s.awaiting t refl
 phased_taken g me s b say.Wait alive read passes t = phased_wait s (input.Payload b) s.phase refl (subst (Together s.phase) (wait_awaited s.awaiting passes.form) t)
 phased_taken g me s b (say.Update seal part) alive read passes t =
-    phased_update s (input.Payload b) seal (read_part part) s.own t (update_awaited s.awaiting seal part (and_parts (is_awaited s.awaiting (say.Update seal part)) _ passes.form).0)
+    phased_update s (input.Payload b) seal (read_part part) s.own t (awaits_update s.awaiting seal part (and_parts (is_awaited s.awaiting (say.Update seal part)) _ passes.form).0)
 phased_taken g me s b (say.Entries seal entries) alive read passes t =
     let closed : s.phase ≡ phase.Closed = entries_awaited s.awaiting (say.Entries seal entries) s.phase (awaits_entries s.awaiting seal entries (and_parts (is_awaited s.awaiting (say.Entries seal entries)) _ passes.form).0) t in
     record {

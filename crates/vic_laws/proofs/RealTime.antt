@@ -38,7 +38,7 @@ other_kind a b s t differ e = differ (ap first e)
 rest_of : (a b : ℕ) (s t : List ℕ) → a ∷ s ≡ b ∷ t → s ≡ t
 rest_of a b s t e = cc
 
-first_of_list : (a b : ℕ) (s t : List ℕ) → a ∷ s ≡ b ∷ t → a ≡ b
+pub first_of_list : (a b : ℕ) (s t : List ℕ) → a ∷ s ≡ b ∷ t → a ≡ b
 first_of_list a b s t e = cc
 
 length-w32 : (n : ℕ) → length (to_be_bytes w32 n) ≡ 4
@@ -183,7 +183,7 @@ new_entry_checked g me s i v (is_listed l) e w =
       | inr old ↦ inl old
     ]
 
-took_is : (g : Group) (past : List TraceStep) (x : TraceStep) → answer_taken g past x ≡ answer_unless_halted (move_of g past x).next x.input
+pub took_is : (g : Group) (past : List TraceStep) (x : TraceStep) → answer_taken g past x ≡ answer_unless_halted (move_of g past x).next x.input
 unfolding answer_taken
 took_is g past x = refl
 
@@ -287,7 +287,7 @@ in_order_if cs p a b older_a older_b s t never (m ∷ mid) e =
     entries_after : (x y : Entry) (v w : List Entry) → x ∷ v ≡ y ∷ w → v ≡ w
     entries_after x y v w e = cc
 
-in_order_at : (g : Group) (h : List TraceStep) → AreSteps g h → (IsForged g h → ⊥) → (p : List Entry) → IsInRealTime g h (confirmed_calls (completions g h) p)
+pub in_order_at : (g : Group) (h : List TraceStep) → AreSteps g h → (IsForged g h → ⊥) → (p : List Entry) → IsInRealTime g h (confirmed_calls (completions g h) p)
 in_order_at g h steps honest p a b wa wb r =
     let cs : List Completion = completions g h in
     let fa : (older : List Shown) × ShownAt cs p a older = shown_in cs p a wa in

@@ -10,6 +10,7 @@ use Rattle.vic_dict.specs.Lists.{front, newest}
 use Rattle.vic_rules.specs.Client.{same_op, same_entry, least_above, or_this}
 use Rattle.vic_laws.proofs.Words.{op_same, entry_same}
 use Rattle.vic_laws.specs.OrderClaims.{SameOpIs, SameEntryIs, PassesAt, IsLeastAbove, LeastAboveIs, NoneAboveIs}
+use Rattle.vic_laws.proofs.Growth.{front_whole}
 
 itself : (k : List ℕ) → bytes_eq k k ≡ true
 itself k = (bytes_eq-Decides k k).1 refl
@@ -46,12 +47,6 @@ pub front_below : {X : Type 0} (u : ℕ) (x : X) (xs : List X) → u ≤ length 
 front_below u x xs le =
     let e : suc (length xs) - u ≡ suc (length xs - u) = omega arith in
     ap (λ (k : ℕ). drop k (x ∷ xs)) e
-
--- the front as long as the list is the list
-pub front_whole : {X : Type 0} (u : ℕ) (xs : List X) → length xs ≤ u → front u xs ≡ xs
-front_whole u xs le =
-    let e : length xs - u ≡ zero = omega arith in
-    ap (λ (k : ℕ). drop k xs) e
 
 -- ---- the least position
 

@@ -37,7 +37,7 @@ use Rattle.vic_laws.proofs.AnswersStand.{answers_stand}
 
 module _ (g : Group) (whole : List TraceStep) (lawful : AreSteps g whole) (honest : IsForged g whole → ⊥) (apart : Collides g whole → ⊥) where
   -- the walk of a Reply's part shows what the calls up to its seal leave wherever the operation looks
-  part_shows : (later : List TraceStep) (x : TraceStep) (past : List TraceStep) → whole ≡ later ++ x ∷ past → (r : RepliedAt g past x)
+  pub part_shows : (later : List TraceStep) (x : TraceStep) (past : List TraceStep) → whole ≡ later ++ x ∷ past → (r : RepliedAt g past x)
       → Alike r.op (walked r.part r.op) (left_by (confirmed_calls (completions g whole) (front r.seal.position (r.others ++ path g x.client past))))
   part_shows later x past e r = alike_on_cut base_left (byte_keys-proper base_left proper) r.part told r.op spelled.0.op.1 r.reached
     where

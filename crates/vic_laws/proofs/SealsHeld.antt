@@ -57,7 +57,7 @@ record SentSeal (g : Group) (v : Move) (t : List ℕ) : Type 0 where
   is : t ≡ seal_text_on g v.next.path v.next.sealed v.next.root
   few : length v.next.path ≤ 1048576
 
-first_apart : (a b : ℕ) (x y t : List ℕ) → (a ≡ b → ⊥) → a ∷ x ≡ t → t ≡ b ∷ y → ⊥
+pub first_apart : (a b : ℕ) (x y t : List ℕ) → (a ≡ b → ⊥) → a ∷ x ≡ t → t ≡ b ∷ y → ⊥
 first_apart a b x y t differ e f = differ (cc)
 
 sent_seal : (g : Group) (me : ℕ) (s : Standing) (i : Input) (v : Move) → Kind g me s i v → (t rest : List ℕ) → t ≡ 19 ∷ rest → IsIn (text_sent g me v.next v.sends) t → SentSeal g v t

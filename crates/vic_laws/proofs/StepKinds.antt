@@ -23,7 +23,7 @@ use Rattle.vic_rules.specs.declared.state.Awaiting.{Awaiting}
 use Rattle.vic_rules.specs.declared.state.Awaiting.TheVariants as awaits
 use Rattle.vic_rules.specs.declared.trace.Input.{Input}
 use Rattle.vic_rules.specs.declared.trace.Input.TheVariants as input
-use Rattle.vic_rules.specs.Client.{is_write, Standing, Sending, Polls, Syncs, move_without_object, IsIdle, MayStep, awaits_nothing, onto, newest_first, path_with_entries, is_awaited, has_form, has_members, has_tags, has_turn, is_other, is_reply_to, is_not_older, is_sealed, keeps_own, has_root, has_open_op, has_own_op, is_next, is_proved, entries_of, seal_of, seal_text_on, first_failing, verdict_on, verdict, move_to_halt, move_on_reply, move_on_outcome, move_on_update, move_to_seal, move_on_entries, new_root, decision, is_done, move_on_answer, move_on_verdict, move_on_payload, step, has_content, move_to_call, move_on_wait, move_by_object_step, move_on_refusal, move_with_object, Invokes, Keeps, Fetches}
+use Rattle.vic_rules.specs.Client.{is_write, Standing, Sending, Polls, Syncs, move_without_object, IsIdle, MayStep, awaits_nothing, onto, newest_first, path_with_entries, is_awaited, has_form, has_members, has_tags, has_turn, is_other, is_reply_to, is_not_older, is_sealed, keeps_own, has_root, has_open_op, has_own_op, is_next, is_proved, entries_of, seal_of, seal_text_on, first_failing, verdict_on, verdict, move_to_halt, move_on_reply, move_on_outcome, move_on_update, move_to_seal, move_on_entries, new_root, decision, is_done, move_on_answer, move_on_verdict, move_on_payload, step, has_content, move_to_call, move_on_wait, move_by_object_step, move_on_refusal, move_with_object, Invokes, Commits, Seals, Keeps, Fetches}
 use Rattle.vic_rules.specs.Trust.{answer_unless_halted, checked_texts, seal_texts, parts_in, text_sent}
 use Rattle.std.specs.Prelude.{◌<◌, ◌^◌}
 use Rattle.std.specs.Int.{w32, to_be_bytes}
@@ -131,11 +131,11 @@ awaits_reply : (a : Awaiting) (seal : Seal) (entries : List Tagged) (part : List
 awaits_reply (awaits.Reply n o load) seal entries part e = (n, o, load, refl)
 awaits_reply _ seal entries part e = absurd (true≢false (sym e))
 
-awaits_update : (a : Awaiting) (seal : Seal) (part : List ℕ) → is_awaited a (say.Update seal part) ≡ true → a ≡ awaits.Turn
+pub awaits_update : (a : Awaiting) (seal : Seal) (part : List ℕ) → is_awaited a (say.Update seal part) ≡ true → a ≡ awaits.Turn
 awaits_update awaits.Turn seal part e = refl
 awaits_update _ seal part e = absurd (true≢false (sym e))
 
-awaits_entries : (a : Awaiting) (seal : Seal) (entries : List Tagged) → is_awaited a (say.Entries seal entries) ≡ true → a ≡ awaits.Entries
+pub awaits_entries : (a : Awaiting) (seal : Seal) (entries : List Tagged) → is_awaited a (say.Entries seal entries) ≡ true → a ≡ awaits.Entries
 awaits_entries awaits.Entries seal entries e = refl
 awaits_entries _ seal entries e = absurd (true≢false (sym e))
 
@@ -206,7 +206,7 @@ quiet_answer g me s b m a turned sends returns object alive r e1 e2 e3 e4 e5 wai
       shows_nothing = ap parts_in t ∙ e3;
     }
 
-rests_nothing : (n : ℕ) (o : Op) (load : Bool) → awaits.Nothing ≡ awaits.Reply n o load → ⊥
+pub rests_nothing : (n : ℕ) (o : Op) (load : Bool) → awaits.Nothing ≡ awaits.Reply n o load → ⊥
 rests_nothing n o load e = cc
 
 rests_content : (h : Digest32) (len : ℕ) (n : ℕ) (o : Op) (load : Bool) → awaits.Content h len ≡ awaits.Reply n o load → ⊥
@@ -467,7 +467,16 @@ no_sync n o e = cc
 no_keep : (c : List ℕ) (n : ℕ) (o : Op) → Some (Keeps c) ≡ Some (Invokes n o) → ⊥
 no_keep c n o e = cc
 
-rests_turn : (n : ℕ) (o : Op) (load : Bool) → awaits.Turn ≡ awaits.Reply n o load → ⊥
+pub no_commit : (done : Bool) (n : ℕ) (o : Op) → Some (Commits done) ≡ Some (Invokes n o) → ⊥
+no_commit done n o e = cc
+
+pub no_seal : (n : ℕ) (o : Op) → Some Seals ≡ Some (Invokes n o) → ⊥
+no_seal n o e = cc
+
+pub nothing_sent : (n : ℕ) (o : Op) → ◌≡◌ {A = Option Sending} None (Some (Invokes n o)) → ⊥
+nothing_sent n o e = cc
+
+pub rests_turn : (n : ℕ) (o : Op) (load : Bool) → awaits.Turn ≡ awaits.Reply n o load → ⊥
 rests_turn n o load e = cc
 
 rests_entries : (n : ℕ) (o : Op) (load : Bool) → awaits.Entries ≡ awaits.Reply n o load → ⊥

@@ -13,9 +13,9 @@ use Rattle.vic_wire.specs.Bits.{is_odd}
 use Rattle.vic_spellings.proofs.Bytes.{bytes-cons}
 use Rattle.vic_spellings.proofs.Steps.{bytes-nil}
 use Rattle.vic_laws.proofs.Words.{all_append}
+use Rattle.vic_laws.proofs.Paths.{all_drop}
 use Rattle.vic_honest.proofs.SentParts.{sent_for, sent_bare}
 use Rattle.vic_honest.proofs.Spoken.{TaggedBytes}
-use Rattle.vic_honest.proofs.Words.{all-drop}
 use Rattle.vic_order.specs.Order.{Server, serve}
 use Rattle.vic_attacks.specs.declared.HostileKind.{HostileKind}
 use Rattle.vic_attacks.specs.declared.HostileKind.TheVariants as kind
@@ -45,7 +45,7 @@ all-reverse P (x ∷ xs) h = subst (AllByRecursion P) (sym (reverse-append (x �
 entries_with_swap-bytes : (ts : List Tagged) → AllByRecursion TaggedBytes ts → AllByRecursion TaggedBytes (entries_with_swap ts)
 entries_with_swap-bytes ts h =
     all_append TaggedBytes (reverse (take (length ts - 1) ts)) (drop (length ts - 1) ts) (all-reverse TaggedBytes (take (length ts - 1) ts) (all-take TaggedBytes (length ts - 1) ts h))
-    (all-drop TaggedBytes (length ts - 1) ts h)
+    (all_drop TaggedBytes (length ts - 1) ts h)
 
 swap-bytes : LeavesBytes with_swap
 swap-bytes say.Hi h = h

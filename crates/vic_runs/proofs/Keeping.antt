@@ -29,10 +29,11 @@ use Rattle.vic_spellings.proofs.SpelledRequests.{request_fits, request_holds_byt
 use Rattle.vic_roots.proofs.Proper.{proper-nothing, proper-after}
 use Rattle.vic_honest.proofs.SentParts.{sent_for, sent_update}
 use Rattle.vic_laws.proofs.Words.{all_append}
+use Rattle.vic_laws.proofs.Paths.{all_drop}
 use Rattle.vic_order.specs.declared.Stage.{Stage}
 use Rattle.vic_order.specs.declared.Stage.TheVariants as stage
 use Rattle.vic_order.specs.Order.{Ordered, Member, Server, fresh_server, Answered, answer_alone, answer_with_change, answer_by_tests, answer_unless_refused, no_seal, seal_at_position, top_seal, size, sealed_count, ordered_at, commit_at, tagged_entry, entries_above, set_stage, update_part, turn, turn_on, with_commit, with_seal, applied_to, content_with, is_kept, is_member, is_ready, is_away, is_open_at, is_put, same_mode, member, owns_committed, op_weight, weight, ordered_next, on_request, on_hello, serve_read, serve}
-use Rattle.vic_honest.proofs.Words.{all-drop, newest_seal}
+use Rattle.vic_honest.proofs.Words.{newest_seal}
 use Rattle.vic_honest.proofs.Spoken.{TaggedBytes, seal_bytes, entries_bytes}
 use Rattle.vic_runs.specs.Reached.{OrderedHolds, SealHolds, ServerHolds, IfThere}
 
@@ -58,14 +59,14 @@ found-holds P test (x ∷ xs) h =
 seal-holds : (s : Server) (n : ℕ) → ServerHolds s → SealHolds (seal_at_position s n)
 seal-holds s n h =
     let first : SealHolds no_seal = record { root = bytes-sha256 _; tag = bytes-replicate 32 0 (omega arith) } in
-    newest_seal SealHolds (front n s.seals) first (all-drop SealHolds (length s.seals - n) s.seals h.seals)
+    newest_seal SealHolds (front n s.seals) first (all_drop SealHolds (length s.seals - n) s.seals h.seals)
 
 -- the entry at a position, if there is one
 ordered-holds : (s : Server) (n : ℕ) → ServerHolds s → IfThere OrderedHolds (ordered_at s n)
 ordered-holds s n h =
     elim (nat_lt (size s) n) as (λ b. IfThere OrderedHolds (if b then None else newest (front n s.log))) [
       | true ↦ tt
-      | false ↦ newest-holds OrderedHolds (front n s.log) (all-drop OrderedHolds (length s.log - n) s.log h.log)
+      | false ↦ newest-holds OrderedHolds (front n s.log) (all_drop OrderedHolds (length s.log - n) s.log h.log)
     ]
 
 -- the entries that are told
@@ -231,7 +232,7 @@ module _ (s : Server) (who : ℕ) (h : ServerHolds s) where
       let x : Seal = seal_at_position s (min (sealed_count s) e) in
       let ts : List Tagged = entries_above known (front e s.log) in
       guards s ((5, is_ready (member s who).stage && nat_le known (size s)) ∷ []) _ h refl (answer_alone-keeps s (say.Entries x ts) h
-      (seal-holds s (min (sealed_count s) e) h, above-holds known (front e s.log) (all-drop OrderedHolds (length s.log - e) s.log h.log)))
+      (seal-holds s (min (sealed_count s) e) h, above-holds known (front e s.log) (all_drop OrderedHolds (length s.log - e) s.log h.log)))
 
   keep-keeps : (content : List ℕ) → IsRead (ask.Keep content) → KeepsBytes (on_request s who (ask.Keep content))
   keep-keeps content is =
