@@ -97,8 +97,8 @@ fn finds_one(state: &State, entries: &TaggedList, base: u32, part: &Pruned, op: 
     }
 }
 
-/// Whether what a load found is a reference, and a content the one that was to be fetched. It costs what the entries above the seal and
-/// the own calls cost, and of a content its hash.
+/// The check CONTENT: whether what a load found is a reference, and a content the one that was to be fetched. It costs what the
+/// entries above the seal and the own calls cost, and of a content its hash.
 pub fn has_content(state: &State, message: &ToClient, part: Option<&Pruned>) -> bool
     requires spelled { HasSpelling message.now }
     requires part { part_seen (option_copied part) ≡ part_of message.now }

@@ -57,8 +57,8 @@ fn update_fits(length: u32, position: u32) -> bool
     position <= length
 }
 
-/// Whether the answer has the form that is awaited, for a path of this length; `is_part` tells whether the bytes of its part
-/// spell one. It costs nothing that grows.
+/// The check FORM: whether the answer has the form that is awaited, for a path of this length; `is_part` tells whether the bytes
+/// of its part spell one. It costs nothing that grows.
 pub fn has_form(length: u32, awaiting: &Awaiting, message: &ToClient, is_part: bool) -> bool
     requires room { length ≤ MOST_ENTRIES }
     requires spelled { HasSpelling message.now }

@@ -14,9 +14,12 @@ use crate::members::{has_members, has_tags};
 use crate::seals::{is_proved, is_sealed};
 use crate::state::{OwnList, State, Verdict};
 use vic_prune::Pruned;
+use vic_rules::check::{
+    BASE_BACK, CONTENT, FORM, INVOKE_TAG, MEMBERS, OWN_UNSETTLED, PROOF, SEAL_TAG, TURN,
+};
 use vic_wire::ToClient;
 
-// Whether the seal isn't older than the highest one.
+// The check BASE_BACK: whether the seal isn't older than the highest one.
 fn is_not_older(sealed: u32, message: &ToClient) -> bool
     ensures exact { (s : Standing) → s.sealed ≡ sealed → result ≡ is_not_older s (seal_of message.now) }
     ensures above { IsTrue result → IsAbove sealed message.now }
@@ -29,7 +32,8 @@ fn is_not_older(sealed: u32, message: &ToClient) -> bool
     }
 }
 
-// Whether no own call that isn't sealed stands at or below the seal. It costs what these calls cost.
+// The check OWN_UNSETTLED: whether no own call that isn't sealed stands at or below the seal. It costs what these calls
+// cost.
 fn keeps_own(own: &OwnList, message: &ToClient) -> bool
     ensures { (s : Standing) → s.own ≡ own.now → result ≡ own_kept s (seal_of message.now) }
 {
@@ -51,7 +55,7 @@ fn is_next(own: &OwnList, position: u32) -> bool
     }
 }
 
-// Whether it is the client's turn, where the answer says so.
+// The check TURN: whether it is the client's turn, where the answer says so.
 fn has_turn(own: &OwnList, message: &ToClient) -> bool
     requires { IsLow message.now }
     ensures exact { (s : Standing) → s.own ≡ own.now → result ≡ turn s message.now }
@@ -63,7 +67,7 @@ fn has_turn(own: &OwnList, message: &ToClient) -> bool
     }
 }
 
-// The verdict on an answer that could be read.
+// The verdict on an answer that could be read: the checks of `vic_rules::check`, in the order of their numbers.
 fn judge_message(state: &State, message: &ToClient, part: Option<&Pruned>) -> Verdict
     requires spelled { HasSpelling message.now }
     requires part { part_seen (option_copied part) ≡ part_of message.now }
@@ -78,38 +82,38 @@ fn judge_message(state: &State, message: &ToClient, part: Option<&Pruned>) -> Ve
     let length = state.window.length();
     let is_part = part.is_some();
     if !has_form(length, &state.awaiting, message, is_part) {
-        return Verdict::Halt(1);
+        return Verdict::Halt(FORM);
     }
     if !has_members(state.count, state.id, &state.awaiting, message) {
-        return Verdict::Halt(2);
+        return Verdict::Halt(MEMBERS);
     }
     if !has_tags(&state.key, message) {
-        return Verdict::Halt(3);
+        return Verdict::Halt(INVOKE_TAG);
     }
     if !is_not_older(state.window.sealed(), message) {
-        return Verdict::Halt(4);
+        return Verdict::Halt(BASE_BACK);
     }
     if !is_sealed(&state.key, &state.window, message) {
-        return Verdict::Halt(5);
+        return Verdict::Halt(SEAL_TAG);
     }
     if !keeps_own(&state.own, message) {
-        return Verdict::Halt(6);
+        return Verdict::Halt(OWN_UNSETTLED);
     }
     if !is_proved(part, &state.awaiting, &state.own, message) {
-        return Verdict::Halt(7);
+        return Verdict::Halt(PROOF);
     }
     if !has_turn(&state.own, message) {
-        return Verdict::Halt(8);
+        return Verdict::Halt(TURN);
     }
     if !has_content(state, message, part) {
-        return Verdict::Halt(9);
+        return Verdict::Halt(CONTENT);
     }
     Verdict::Pass
 }
 
-/// The verdict on an answer: `message` is what its bytes spell, if they spell one, and `part` what the bytes of the part that
-/// it carries spell, if they do. It takes no memory. It costs what the answer's entries, its part and the own calls that
-/// aren't sealed cost, and of a content its hash.
+/// The verdict on an answer: `message` is what its bytes spell, if they spell one (else the check FORM fails), and `part` what the
+/// bytes of the part that it carries spell, if they do. It takes no memory. It costs what the answer's entries, its part and the own
+/// calls that aren't sealed cost, and of a content its hash.
 pub fn judge(state: &State, message: Option<&ToClient>, part: Option<&Pruned>) -> Verdict
     requires spelled { IfSome (option_copied message) HasSpelling }
     requires part { part_seen (option_copied part) ≡ part_in (option_copied message) }
@@ -124,6 +128,6 @@ pub fn judge(state: &State, message: Option<&ToClient>, part: Option<&Pruned>) -
 {
     match message {
         Some(message) => judge_message(state, message, part),
-        None => Verdict::Halt(1),
+        None => Verdict::Halt(FORM),
     }
 }

@@ -61,8 +61,8 @@ fn is_reply_to(count: u8, me: u8, awaiting: &Awaiting, items: &[Tagged]) -> bool
     is_headed(count, me, awaiting, &items[last].entry, &items[..last])
 }
 
-/// Whether the entries of an answer are those of members, and the last one of a Reply is the open call. It costs what the
-/// entries cost.
+/// The check MEMBERS: whether the entries of an answer are those of members, and the last one of a Reply is the open call. It
+/// costs what the entries cost.
 pub fn has_members(count: u8, me: u8, awaiting: &Awaiting, message: &ToClient) -> bool
     ensures { (g : Group) (s : Standing) → g.count ≡ count → s.awaiting ≡ awaiting.now → result ≡ members g me s message.now }
 {
@@ -93,7 +93,7 @@ fn are_tagged(key: &GroupKey, items: &[Tagged]) -> bool
     true
 }
 
-/// Whether the tag of each entry holds. It costs what the entries cost.
+/// The check INVOKE_TAG: whether the tag of each entry holds. It costs what the entries cost.
 pub fn has_tags(key: &GroupKey, message: &ToClient) -> bool
     requires { HasSpelling message.now }
     ensures { (g : Group) → g.key ≡ key.now → result ≡ tags g message.now }

@@ -85,7 +85,8 @@ fn holds_there(key: &GroupKey, window: &Window, seal: &Seal) -> bool
     seal_holds(key, seal, &hash)
 }
 
-/// Whether the tag of the answer's seal holds on the client's path with the answer's entries. It costs what the entries cost.
+/// The check SEAL_TAG: whether the tag of the answer's seal holds on the client's path with the answer's entries. It costs
+/// what the entries cost.
 pub fn is_sealed(key: &GroupKey, window: &Window, message: &ToClient) -> bool
     requires spelled { HasSpelling message.now }
     requires above { IsAbove window.now.sealed message.now }
@@ -163,9 +164,9 @@ fn has_own_op(found: Option<&Pruned>, own: &OwnList) -> bool
     }
 }
 
-/// Whether the part, if the answer carries one, has the root of the answer's seal and shows what is walked over: in a Reply by
-/// the open call, in an Update by the call that is sealed next. `found` is what the bytes of the answer's part spell. It costs
-/// what the part costs.
+/// The check PROOF: whether the part, if the answer carries one, has the root of the answer's seal and shows what is walked
+/// over: in a Reply by the open call, in an Update by the call that is sealed next. `found` is what the bytes of the answer's
+/// part spell. It costs what the part costs.
 pub fn is_proved(
     found: Option<&Pruned>,
     awaiting: &Awaiting,

@@ -126,6 +126,6 @@ pub struct State {
 #[derive(Clone, Copy, Debug, PartialEq, Eq)]
 pub enum Verdict {
     Pass,
-    /// The number of the first check that failed.
+    /// The number of the first check that failed, of `vic_rules::check`.
     Halt(u8),
 }

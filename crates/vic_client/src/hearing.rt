@@ -28,6 +28,7 @@ use vic_frames::decode_answer;
 use vic_proof::ProofFault;
 use vic_proxy::{ObjectOutcome, Proxy, reference};
 use vic_prune::Pruned;
+use vic_rules::check::FORM;
 use vic_rules::{Awaiting, Phase};
 use vic_wire::{Digest32, Seal, TaggedList, ToClient, ToServer};
 
@@ -99,7 +100,7 @@ fn hear_reply(
 {
     match (awaited_op(alloc, &state.awaiting)?, part) {
         (Some(op), Some(part)) => take_reply(alloc, state, seal, entries, &part, op, calling),
-        _ => Ok(Pending::halts(1)),
+        _ => Ok(Pending::halts(FORM)),
     }
 }
 
@@ -120,7 +121,7 @@ fn hear_update(
 {
     match part {
         Some(part) => take_update(alloc, state, seal, &part),
-        None => Ok(Pending::halts(1)),
+        None => Ok(Pending::halts(FORM)),
     }
 }
 
@@ -181,7 +182,7 @@ fn hear_kept(alloc: Global, state: &State, calls: u32, proxy: &Proxy) -> Result<
 {
     match proxy.phase() {
         Phase::Keeping(name, hash, len) => put_reference(alloc, state, calls, name, hash, *len),
-        _ => Ok(Pending::halts(1)),
+        _ => Ok(Pending::halts(FORM)),
     }
 }
 
@@ -244,7 +245,7 @@ fn hear_message(
         ToClient::Refused(reason) => Ok(hear_refused(state, is_calling(proxy), reason)),
         ToClient::Kept => hear_kept(alloc, state, calls, proxy),
         ToClient::Content(content) => Ok(Pending::ends(None, ObjectOutcome::Content(content))),
-        _ => Ok(Pending::halts(1)),
+        _ => Ok(Pending::halts(FORM)),
     }
 }
 
@@ -275,7 +276,7 @@ fn hear_passed(
 {
     match message {
         Some(message) => hear_message(alloc, state, calls, proxy, message, part),
-        None => Ok(Pending::halts(1)),
+        None => Ok(Pending::halts(FORM)),
     }
 }
 
