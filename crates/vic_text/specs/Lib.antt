@@ -2,3 +2,4 @@ pub mod ClientLines
 pub mod Splits
 pub mod Statuses
 pub mod Numbers
+pub mod BadKinds

@@ -5,8 +5,9 @@ ghost use Rattle.hex.specs.Hex.{encode_lower};
 ghost use Rattle.std.specs.List.{flat_map, list_all};
 ghost use Rattle.std.specs.Fmt.{decimal};
 ghost use Rattle.vic_script.specs.Words.{is_plain as plain_test, bytes_word, space, op_words, answer_words, outcome_words, object_words};
-ghost use Rattle.vic_script.specs.Print.{kind_text as kind_words, bad_line};
+ghost use Rattle.vic_script.specs.Print.{bad_line};
 
+use crate::bad::BadKind;
 use crate::word::are_plain;
 use std::alloc::Global;
 use vic_dict::{Answer, Bytes, Names, NoMemory, Op, Outcome};
@@ -158,23 +159,9 @@ fn bad_line_text(alloc: Global, number: u32, kind: u8) -> Result<Bytes, NoMemory
     let mut text = Bytes::new(alloc);
     put_numbered(&mut text, alloc, b"line ", number)?;
     text.append(b": ")?;
-    text.append(kind_text(kind))?;
+    text.append(BadKind::of_number(kind).text())?;
     text.append(b"\n")?;
     Ok(text)
-}
-
-fn kind_text(kind: u8) -> &'static [u8]
-    ensures { result.now ≡ kind_words kind }
-{
-    match kind {
-        2 => b"no such client",
-        3 => b"client has halted",
-        4 => b"client is busy",
-        5 => b"nothing waiting",
-        6 => b"no such server",
-        7 => b"script too long",
-        _ => b"not a line of this script",
-    }
 }
 
 // ---- parts of a text that is being made; where memory runs out, some of the part may stand there
