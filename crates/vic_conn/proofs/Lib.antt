@@ -4,3 +4,4 @@ pub mod Left
 pub mod Growing
 pub mod Spelled
 pub mod Pieces
+pub mod Streams

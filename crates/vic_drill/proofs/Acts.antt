@@ -6,7 +6,7 @@ use Rattle.std.proofs.lemmas.Fmt.{length-decimal-le, IsAscii-decimal}
 use Rattle.vic_dict.specs.Lists.{AreBytes}
 use Rattle.vic_dict.specs.declared.op.Op.{Op}
 use Rattle.vic_dict.specs.declared.op.Op.TheVariants as op
-use Rattle.vic_spellings.proofs.Bytes.{bytes-cons}
+use Rattle.vic_dict.proofs.ByteLists.{AreBytes-cons, AreBytes-nil}
 use Rattle.vic_gen.specs.declared.Act.TheVariants as act
 use Rattle.vic_drill.specs.MayBe.{MayCall, MayAct}
 use Rattle.vic_gen.specs.Drawing.{Drawing, number_drawn, next_of, client_drawn, op_drawn, key_drawn, prefix_drawn, two_digits, three_digits, is_poll, act_of, drawing_after_act, drawing_with_act, next_drawing}
@@ -15,23 +15,20 @@ use Rattle.vic_gen.specs.Drawing.{Drawing, number_drawn, next_of, client_drawn, 
 digit-byte : (n : ℕ) → 48 + n % 10 < 256
 digit-byte n = omega arith
 
-no-bytes : AreBytes []
-no-bytes i = lit< tt
-
 two-bytes : (a b : ℕ) → AreBytes ((48 + a % 10) ∷ (48 + b % 10) ∷ [])
-two-bytes a b = bytes-cons (48 + a % 10) ((48 + b % 10) ∷ []) (digit-byte a) (bytes-cons (48 + b % 10) [] (digit-byte b) no-bytes)
+two-bytes a b = AreBytes-cons (48 + a % 10) ((48 + b % 10) ∷ []) (digit-byte a) (AreBytes-cons (48 + b % 10) [] (digit-byte b) AreBytes-nil)
 
 three-bytes : (a b c : ℕ) → AreBytes ((48 + a % 10) ∷ (48 + b % 10) ∷ (48 + c % 10) ∷ [])
-three-bytes a b c = bytes-cons (48 + a % 10) ((48 + b % 10) ∷ (48 + c % 10) ∷ []) (digit-byte a) (two-bytes b c)
+three-bytes a b c = AreBytes-cons (48 + a % 10) ((48 + b % 10) ∷ (48 + c % 10) ∷ []) (digit-byte a) (two-bytes b c)
 
 pub key-bytes : (x : ℕ) → AreBytes (key_drawn x)
-key-bytes x = bytes-cons 107 (three_digits (number_drawn x 200)) (lit< tt) (three-bytes (number_drawn x 200 / 100) (number_drawn x 200 / 10) (number_drawn x 200))
+key-bytes x = AreBytes-cons 107 (three_digits (number_drawn x 200)) (lit< tt) (three-bytes (number_drawn x 200 / 100) (number_drawn x 200 / 10) (number_drawn x 200))
 
 pub prefix-bytes : (x : ℕ) → AreBytes (prefix_drawn x)
-prefix-bytes x = bytes-cons 107 (two_digits (number_drawn x 20)) (lit< tt) (two-bytes (number_drawn x 20 / 10) (number_drawn x 20))
+prefix-bytes x = AreBytes-cons 107 (two_digits (number_drawn x 20)) (lit< tt) (two-bytes (number_drawn x 20 / 10) (number_drawn x 20))
 
 pub value-bytes : (call : ℕ) → call < 2 ^ 32 → AreBytes (118 ∷ decimal call)
-value-bytes call few = bytes-cons 118 (decimal call) (lit< tt) (λ i. omega (arith, IsAscii-decimal call (omega arith) i))
+value-bytes call few = AreBytes-cons 118 (decimal call) (lit< tt) (λ i. omega (arith, IsAscii-decimal call (omega arith) i))
 
 put-may : (x call : ℕ) → call < 2 ^ 32 → MayCall (op.Put (key_drawn x) (codes "v" ++ decimal call))
 put-may x call few = record {

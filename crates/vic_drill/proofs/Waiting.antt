@@ -1,5 +1,5 @@
 -- Which client is the first for whom something waits, and what holds of a log holds of what stands in it.
-use Rattle.std.proofs.Common.{◌≡◌, ℕ, zero, suc, ◌+◌, ◌-◌, ◌<◌, ◌≤◌, Bool, true, false, List, [], ◌∷◌, length, drop, Option, Some, None, if◌then◌else◌, nat_lt, inl, inr, refl, sym, subst, arith}
+use Rattle.std.proofs.Common.{◌≡◌, ℕ, zero, suc, ◌+◌, ◌-◌, ◌<◌, ◌≤◌, Bool, true, false, List, [], ◌∷◌, length, Option, Some, None, if◌then◌else◌, nat_lt, inl, inr, refl, sym, subst, arith}
 use Rattle.std.specs.List.{AllByRecursion}
 use Rattle.std.proofs.lemmas.Bool.{cases_eq}
 use Rattle.std.proofs.lemmas.List.{nil_from_length}
@@ -9,6 +9,7 @@ use Rattle.vic_order.specs.Order.{Ordered, Server, size, ordered_at}
 use Rattle.vic_order.specs.Scenes.{Queue, Scene, queue_of, waits_in}
 use borrow.Author.Tests.{ltb-false}
 use Rattle.vic_drill.specs.Drills.{waits_for, first_waiting}
+use Rattle.vic_laws.proofs.Paths.{all_drop}
 
 -- ---- what waits
 
@@ -42,14 +43,9 @@ newest-holds : {X : Type 0} (P : X → Type 0) (xs : List X) (x : X) → newest 
 newest-holds P [] x e h = absurd cc
 newest-holds P (y ∷ ys) x e h = subst P (same_Some y x e) h.0
 
-drop-holds : {X : Type 0} (P : X → Type 0) (n : ℕ) (xs : List X) → AllByRecursion P xs → AllByRecursion P (drop n xs)
-drop-holds P zero xs h = h
-drop-holds P (suc n) [] h = tt
-drop-holds P (suc n) (x ∷ xs) h = drop-holds P n xs h.1
-
 at_by : (P : Ordered → Type 0) (log : List Ordered) (n : ℕ) (o : Ordered) (b : Bool) → (if b then None else newest (front n log)) ≡ Some o → AllByRecursion P log → P o
 at_by P log n o true e h = absurd cc
-at_by P log n o false e h = newest-holds P (front n log) o e (drop-holds P (length log - n) log h)
+at_by P log n o false e h = newest-holds P (front n log) o e (all_drop P (length log - n) log h)
 
 pub at-holds : (P : Ordered → Type 0) (s : Server) (n : ℕ) (o : Ordered) → ordered_at s n ≡ Some o → AllByRecursion P s.log → P o
 at-holds P s n o e h = at_by P s.log n o (nat_lt (size s) n) e h

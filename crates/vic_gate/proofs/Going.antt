@@ -1,21 +1,20 @@
 -- A worker that goes on: what holds between two frames, and what it did where it ends.
-use Rattle.std.proofs.Common.{◌≡◌, ◌≢◌, ◌⊎◌, inl, inr, ℕ, List, [], ◌∷◌, ◌++◌, map, Option, Some, None, Ok, Err, true, refl, sym, ap, subst, ◌∙◌, append_assoc, append-nil}
-use Rattle.std.specs.Prelude.{min, ◌+◌, ◌-◌, ◌^◌, ◌≤◌}
-use Rattle.std.specs.List.{flat_map}
+use Rattle.std.proofs.Common.{◌≡◌, inl, inr, ℕ, List, [], ◌∷◌, ◌++◌, map, Option, Some, None, Ok, Err, refl, sym, ap, subst, ◌∙◌, append_assoc, append-nil}
+use Rattle.std.specs.Prelude.{◌+◌, ◌-◌}
 use Rattle.std.proofs.lemmas.List.{map-append}
 use Rattle.std.proofs.lemmas.Grind.{flat_map-append}
-use Rattle.vic_conn.specs.Frames.{Waits, Whole, Broken, front_of, frame_text, frames_of}
+use Rattle.vic_conn.specs.Frames.{Waits, front_of, frame_text, frames_of}
 use Rattle.vic_conn.proofs.Growing.{stays}
 use Rattle.vic_conn.proofs.Pieces.{one_by_one}
+use Rattle.vic_conn.proofs.Streams.{Splits, splits_none, splits_fed, splits_taken, splits_waits, splits_broken, splits_any}
 use Rattle.vic_ports.specs.Causes.{Rose, LeavesBehind}
 use Rattle.vic_ports.specs.Written.{AppendedAll, AppendedFront}
 use Rattle.vic_ports.specs.Links.{Told}
+use Rattle.vic_ports.proofs.Told.{none_read, behind_more, all_all, all_front, all_is_front, none_all}
 use Rattle.vic_gate.specs.declared.worker.WorkEnd.{WorkEnd}
 use Rattle.vic_gate.specs.declared.worker.WorkEnd.TheVariants as ends
 use Rattle.vic_gate.specs.Workers.{Handled, Manner, Chain, LastStep, EndsBy, IsWorked, StopsBy, Waited, Handles, frames}
-use Rattle.vic_gate.proofs.Streams.{Splits, splits_none, splits_fed, splits_taken, splits_waits, splits_broken}
 use Rattle.vic_gate.proofs.Chains.{chain_more}
-use Rattle.vic_gate.proofs.Told.{none_read, behind_more, all_all, all_front, all_is_front, none_sent}
 
 pub record Going {A G P : Type 0} (manner : Manner A G) (answers : P → ℕ → List ℕ → Option A → P → Type 0) (old : Told) (p : P) (now : Told) (q : P) (known : G) (left : List ℕ) : Type 0 where
   pub read : List ℕ
@@ -25,13 +24,6 @@ pub record Going {A G P : Type 0} (manner : Manner A G) (answers : P → ℕ →
   pub chain : Chain manner answers manner.first p handled known q
   pub sent : AppendedAll (frames manner handled) old.written now.written
   pub quiet : now.faults ≡ old.faults
-
-none_all : (held : Option (List ℕ)) → AppendedAll [] held held
-none_all None = refl
-none_all (Some l) = ap Some (sym (append-nil l))
-
-pub splits_any : (all : List ℕ) (ps : List (List ℕ)) (left : List ℕ) → Splits all ps left → frames_of all ≡ (ps ++ (frames_of left).0, (frames_of left).1)
-splits_any all ps left s = ap frames_of (sym (append-nil all)) ∙ s.so [] ∙ ap (λ (l : List ℕ). (ps ++ (frames_of l).0, (frames_of l).1)) (append-nil left)
 
 frames_more : {A G : Type 0} (manner : Manner A G) (handled : List (Handled A)) (x : Handled A) → frames manner (handled ++ x ∷ []) ≡ frames manner handled ++ frame_text (manner.text x.answer)
 frames_more {A = A} manner handled x = flat_map-append (λ (y : Handled A). frame_text (manner.text y.answer)) handled (x ∷ []) ∙ ap (λ (l : List ℕ). frames manner handled ++ l) (append-nil (frame_text (manner.text x.answer)))

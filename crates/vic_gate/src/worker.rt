@@ -101,7 +101,7 @@ fn framed(alloc: Global, answer: &ToClient) -> Result<Bytes, NoMemory>
 }
 
 // Sends an answer, as its frame; the answer itself is let go before.
-#[tactic(auto, using(crate::proofs::Told::none_sent))]
+#[tactic(auto, using(vic_ports::proofs::Told::none_sent))]
 fn send_answer<L: Link>(alloc: Global, link: &mut L, answer: ToClient) -> Result<(), WorkEnd>
     requires spelled { HasSpelling answer }
     requires short { length (answer_text answer) ≤ 16777211 }
@@ -119,7 +119,7 @@ fn send_answer<L: Link>(alloc: Global, link: &mut L, answer: ToClient) -> Result
 }
 
 // Answers one request.
-#[tactic(auto, using(crate::proofs::Told::none_sent))]
+#[tactic(auto, using(vic_ports::proofs::Told::none_sent))]
 fn handle<L: Link, D: Desk, G: Gate, R: Wait>(
     rt: &R,
     alloc: Global,

@@ -10,7 +10,7 @@ use Rattle.vic_dict.specs.declared.op.Outcome.{Outcome}
 use Rattle.vic_dict.specs.declared.op.Outcome.TheVariants as outcome
 use Rattle.vic_dict.specs.Dictionary.{Dictionary, after}
 use Rattle.std.specs.Int.{w32, to_be_bytes}
-use Rattle.vic_spellings.proofs.Bytes.{bytes-append, bytes-w32}
+use Rattle.vic_spellings.proofs.Bytes.{bytes-w32}
 use Rattle.vic_dict.specs.declared.op.Answer.{Answer}
 use Rattle.vic_dict.specs.declared.op.Answer.TheVariants as answer
 use Rattle.vic_dict.specs.declared.op.Mode.{Mode}
@@ -34,6 +34,7 @@ use Rattle.vic_wire.specs.Cuts.{IsCut, cut_for}
 use Rattle.vic_wire.specs.Parts.{Part, read_part, part_for, reaches, root_after}
 use Rattle.vic_wire.specs.Messages.{IsEntry}
 use Rattle.vic_dict.specs.Dictionary.{IsProper, AreBytesIn}
+use Rattle.vic_dict.proofs.ByteLists.{AreBytes-append}
 use Rattle.vic_order.specs.Order.{update_part}
 use Rattle.vic_roots.proofs.Proper.{byte_keys-proper}
 use Rattle.vic_tree.proofs.Alike.{byte_entries, byte_words, alike as alike_on_cut}
@@ -330,7 +331,7 @@ module _ (g : Group) (made : List (List ℕ)) (s : Server) (k : ServerKnows g s)
             awaiting = refl;
             number = refl;
             new = omega (arith, keeps.last);
-            fits = ((w.0.0, omega (arith, reference_long c.h.bytes c.len w.1.0)), (w.0.1, bytes-append c.h.bytes (to_be_bytes w32 c.len) w.1.1 (bytes-w32 c.len)));
+            fits = ((w.0.0, omega (arith, reference_long c.h.bytes c.len w.1.0)), (w.0.1, AreBytes-append c.h.bytes (to_be_bytes w32 c.len) w.1.1 (bytes-w32 c.len)));
             calm = record { ready = c.calm.ready; sealed = c.calm.sealed; others = c.calm.others };
           });
           fates = tt;

@@ -10,6 +10,7 @@ use Rattle.sha2.proofs.Facts256.{length-sha256}
 use Rattle.vic_dict.specs.Lists.{IsIn, AreBytes, front, newest}
 use Rattle.vic_dict.specs.declared.op.Op.{Op}
 use Rattle.vic_dict.specs.Dictionary.{Dictionary, IsProper}
+use Rattle.vic_dict.proofs.ByteLists.{AreBytes-nil, AreBytes-cons, AreBytes-append, AreBytes-replicate}
 use Rattle.vic_wire.specs.declared.message.Seal.{Seal}
 use Rattle.vic_wire.specs.declared.message.Tagged.{Tagged}
 use Rattle.vic_wire.specs.declared.message.Digest32.{Digest32}
@@ -20,8 +21,7 @@ use Rattle.vic_wire.specs.Hashes.{Group, IsGroup, chain, tag_of, hash}
 use Rattle.vic_wire.specs.Messages.{IsEntry, IsTagged, HasSpelling, request_text, answer_text, seal_field, entries_field}
 use Rattle.vic_wire.specs.Parts.{part_for}
 use Rattle.vic_rules.specs.Client.{Standing, Sending, Invokes, Commits, Polls, Seals, Syncs, Keeps, Fetches, request_of, seal_of, entries_of, seal_text_on, commit_text_on, digest, tag_for, first_failing}
-use Rattle.vic_spellings.proofs.Bytes.{bytes-cons, bytes-append, bytes-replicate, bytes-sha256}
-use Rattle.vic_spellings.proofs.Steps.{bytes-nil}
+use Rattle.vic_spellings.proofs.Bytes.{bytes-sha256}
 use Rattle.vic_spellings.proofs.Seals.{first_is_seal}
 use Rattle.vic_spellings.proofs.SpelledRequests.{request_again}
 use Rattle.vic_roots.proofs.Proper.{proper-after}
@@ -62,7 +62,7 @@ pub first_seal_fits : (g : Group) (made : List (List ℕ)) (log : List Ordered) 
 first_seal_fits g made log = record {
   spelled = first_is_seal;
   root_bytes = bytes-sha256 _;
-  tag_bytes = bytes-replicate 32 0 (omega arith);
+  tag_bytes = AreBytes-replicate 32 0 (omega arith);
   within = omega arith;
   text = λ above. absurd (omega arith);
 }
@@ -139,7 +139,7 @@ module _ (g : Group) (made : List (List ℕ)) (log seen newer : List Ordered) wh
     split = sym (append-nil newer);
     listed = refl;
     spelled = fits.spelled;
-    bytes = bytes-append (0x44 ∷ seal_field x) part (bytes-cons 0x44 (seal_field x) (omega arith) (seal_bytes x fits.root_bytes fits.tag_bytes)) part_bytes;
+    bytes = AreBytes-append (0x44 ∷ seal_field x) part (AreBytes-cons 0x44 (seal_field x) (omega arith) (seal_bytes x fits.root_bytes fits.tag_bytes)) part_bytes;
     texts = λ text i. absurd i;
     seal = fits;
   }
@@ -152,8 +152,8 @@ module _ (g : Group) (made : List (List ℕ)) (log seen newer : List Ordered) wh
     split = split;
     listed = refl;
     spelled = (fits.spelled, (omega (arith, length-told between), (omega (arith, length-told between), tagged_told made between all)));
-    bytes = bytes-append (0x42 ∷ seal_field x ++ entries_field (told between)) part
-        (bytes-append (0x42 ∷ seal_field x) (entries_field (told between)) (bytes-cons 0x42 (seal_field x) (omega arith) (seal_bytes x fits.root_bytes fits.tag_bytes)) (entries_bytes (told between) (bytes_told made between all)))
+    bytes = AreBytes-append (0x42 ∷ seal_field x ++ entries_field (told between)) part
+        (AreBytes-append (0x42 ∷ seal_field x) (entries_field (told between)) (AreBytes-cons 0x42 (seal_field x) (omega arith) (seal_bytes x fits.root_bytes fits.tag_bytes)) (entries_bytes (told between) (bytes_told made between all)))
         part_bytes;
     texts = made_told made between all;
     seal = fits;
@@ -167,7 +167,7 @@ module _ (g : Group) (made : List (List ℕ)) (log seen newer : List Ordered) wh
     split = split;
     listed = refl;
     spelled = (fits.spelled, (omega (arith, length-told between), tagged_told made between all));
-    bytes = bytes-append (0x45 ∷ seal_field x) (entries_field (told between)) (bytes-cons 0x45 (seal_field x) (omega arith) (seal_bytes x fits.root_bytes fits.tag_bytes)) (entries_bytes (told between) (bytes_told made between all));
+    bytes = AreBytes-append (0x45 ∷ seal_field x) (entries_field (told between)) (AreBytes-cons 0x45 (seal_field x) (omega arith) (seal_bytes x fits.root_bytes fits.tag_bytes)) (entries_bytes (told between) (bytes_told made between all));
     texts = made_told made between all;
     seal = fits;
   }
@@ -188,13 +188,13 @@ entry_fits made s n o all e =
 -- the turn is told by an Update, or there is none to be told
 turn_on_comes : (g : Group) (made : List (List ℕ)) (s : Server) (who : ℕ) (seen newer : List Ordered) (o : Option Ordered) (status : Option Bool) → ServerFits g made s
     → AnswerComes g made s.log seen newer (turn_on s who o status)
-turn_on_comes g made s who seen newer None status stands = plain_comes g made s.log seen newer say.Wait refl refl tt (bytes-cons 0x43 [] (omega arith) bytes-nil)
-turn_on_comes g made s who seen newer (Some o) None stands = plain_comes g made s.log seen newer say.Wait refl refl tt (bytes-cons 0x43 [] (omega arith) bytes-nil)
+turn_on_comes g made s who seen newer None status stands = plain_comes g made s.log seen newer say.Wait refl refl tt (AreBytes-cons 0x43 [] (omega arith) AreBytes-nil)
+turn_on_comes g made s who seen newer (Some o) None stands = plain_comes g made s.log seen newer say.Wait refl refl tt (AreBytes-cons 0x43 [] (omega arith) AreBytes-nil)
 turn_on_comes g made s who seen newer (Some o) (Some done) stands =
     elim (nat_eq o.entry.client who) as (λ b. AnswerComes g made s.log seen newer (if b then say.Update (top_seal s) (update_part s.dictionary o.entry.op done) else say.Wait)) [
       | true ↦ update_comes g made s.log seen newer (top_seal s) (update_part s.dictionary o.entry.op done) (seal_fits g made s (sealed_count s) stands)
           (sent_update s.dictionary stands.dictionary o.entry.op done).1.are_bytes
-      | false ↦ plain_comes g made s.log seen newer say.Wait refl refl tt (bytes-cons 0x43 [] (omega arith) bytes-nil)
+      | false ↦ plain_comes g made s.log seen newer say.Wait refl refl tt (AreBytes-cons 0x43 [] (omega arith) AreBytes-nil)
     ]
 
 turn_comes : (g : Group) (made : List (List ℕ)) (s : Server) (who : ℕ) (seen newer : List Ordered) → ServerFits g made s → AnswerComes g made s.log seen newer (turn s who)
@@ -221,7 +221,7 @@ module _ (g : Group) (group : IsGroup g) (made : List (List ℕ)) (s : Server) (
   refuses : (tests : List (ℕ × Bool)) (a : Answered) → AreReasons tests → (first_failing tests ≡ None → Gives a) → Gives (answer_by_tests s tests a)
   refuses tests a reasons goes = passed Gives s (first_failing tests) a
       (λ r e. let limit = reason_is tests r reasons e in
-      stays (say.Refused r) (plain_comes g made s.log seen newer (say.Refused r) refl refl limit (bytes-cons 0x46 (r ∷ []) (omega arith) (bytes-cons r [] (omega (arith, limit.1)) bytes-nil))))
+      stays (say.Refused r) (plain_comes g made s.log seen newer (say.Refused r) refl refl limit (AreBytes-cons 0x46 (r ∷ []) (omega arith) (AreBytes-cons r [] (omega (arith, limit.1)) AreBytes-nil))))
       goes
 
   length-path : length t.path ≡ length seen
@@ -348,14 +348,14 @@ module _ (g : Group) (group : IsGroup g) (made : List (List ℕ)) (s : Server) (
   -- a content is kept, or was, or there is no room
   kept_is : (content : List ℕ) → AreBytes content → length content ≤ 8388608 → (b c : Bool)
       → Gives (if b then answer_alone s say.Kept else answer_by_tests s ((7, c) ∷ []) (answer_with_change (record s { contents = content ∷ s.contents }) say.Kept))
-  kept_is content bytes small true c = stays say.Kept (plain_comes g made s.log seen newer say.Kept refl refl tt (bytes-cons 0x47 [] (omega arith) bytes-nil))
+  kept_is content bytes small true c = stays say.Kept (plain_comes g made s.log seen newer say.Kept refl refl tt (AreBytes-cons 0x47 [] (omega arith) AreBytes-nil))
   kept_is content bytes small false c =
       refuses ((7, c) ∷ []) (answer_with_change (record s { contents = content ∷ s.contents }) say.Kept) ((omega arith, omega arith), tt)
       (λ ok. record {
         new = [];
         is = refl;
         server = record { log = stands.log; seals = stands.seals; dictionary = stands.dictionary; room = stands.room; contents = ((small, bytes), stands.contents) };
-        answer = plain_comes g made s.log seen newer say.Kept refl refl tt (bytes-cons 0x47 [] (omega arith) bytes-nil);
+        answer = plain_comes g made s.log seen newer say.Kept refl refl tt (AreBytes-cons 0x47 [] (omega arith) AreBytes-nil);
       })
 
   keep_served : (content : List ℕ) → RequestGoes g made me t (Keeps content) → Gives (on_request s me (request_of g me t (Keeps content)))
@@ -376,8 +376,8 @@ module _ (g : Group) (group : IsGroup g) (made : List (List ℕ)) (s : Server) (
       ] e
 
       by_found : (o : Option (List ℕ)) → ((c : List ℕ) → o ≡ Some c → IsContent c) → AnswerComes g made s.log seen newer (elim o [ Some c ↦ say.Content c | None ↦ say.Absent ])
-      by_found (Some c) each = plain_comes g made s.log seen newer (say.Content c) refl refl (each c refl).0 (bytes-cons 0x48 c (omega arith) (each c refl).1)
-      by_found None each = plain_comes g made s.log seen newer say.Absent refl refl tt (bytes-cons 0x4a [] (omega arith) bytes-nil)
+      by_found (Some c) each = plain_comes g made s.log seen newer (say.Content c) refl refl (each c refl).0 (AreBytes-cons 0x48 c (omega arith) (each c refl).1)
+      by_found None each = plain_comes g made s.log seen newer say.Absent refl refl tt (AreBytes-cons 0x4a [] (omega arith) AreBytes-nil)
 
   -- a request that is read as it was sent
   request_served : (sending : Sending) → RequestGoes g made me t sending → Gives (serve_read s me (Some (request_of g me t sending)))

@@ -5,6 +5,7 @@ use Rattle.std.proofs.lemmas.Bool.{cases_lt}
 use Rattle.std.proofs.lemmas.List.{take_all}
 use Rattle.std.proofs.lemmas.Bool.Decides.{nat_tests}
 use Rattle.vic_wire.specs.Bits.{is_odd, bits_of_byte, key_bits, key_bit, bit_of, shared_front, shared_bits}
+use Rattle.vic_wire.proofs.KeyBits.{key_bit-later, key_bit-nothing}
 use Rattle.vic_keybits.specs.LowBits.{low_bits}
 use Rattle.vic_keybits.specs.Apart.{AreApartAt}
 
@@ -31,11 +32,6 @@ bit_of-low zero b j rest h = absurd (omega arith)
 bit_of-low (suc k) b zero rest h = ap (λ n. is_odd (b / 2 ^ n)) (omega arith)
 bit_of-low (suc k) b (suc j) rest h = bit_of-low k b j rest (omega arith) ∙ ap (λ n. is_odd (b / 2 ^ n)) (omega arith)
 
--- the bits of a key after its first byte
-pub key_bit-later : (b : ℕ) (key : List ℕ) (i : ℕ) → key_bit (b ∷ key) (9 + i) ≡ key_bit key i
-unfolding key_bit key_bits bits_of_byte
-key_bit-later b key i = bit_of-skip (true ∷ low_bits 8 b) (key_bits key) i
-
 pub key_bit-mark : (b : ℕ) (key : List ℕ) → key_bit (b ∷ key) 0 ≡ true
 unfolding key_bit key_bits
 key_bit-mark b key = refl
@@ -43,11 +39,6 @@ key_bit-mark b key = refl
 pub key_bit-byte : (b : ℕ) (key : List ℕ) (j : ℕ) → j < 8 → key_bit (b ∷ key) (suc j) ≡ is_odd (b / 2 ^ (7 - j))
 unfolding key_bit key_bits bits_of_byte
 key_bit-byte b key j h = bit_of-low 8 b j (key_bits key) h
-
-pub key_bit-end : (i : ℕ) → key_bit [] i ≡ false
-unfolding key_bit key_bits
-key_bit-end zero = refl
-key_bit-end (suc i) = refl
 
 -- the mark of a byte, a bit of a byte, and the zeros after the key
 pub key_bit-mark_at : (key : List ℕ) (place : ℕ) → place < length key → key_bit key (9 * place) ≡ true
@@ -61,16 +52,10 @@ key_bit-byte_at (b ∷ key) zero j d h small = same_at (key_bit (b ∷ key)) (9 
 key_bit-byte_at (b ∷ key) (suc place) j d h small = same_at (key_bit (b ∷ key)) (9 * suc place + suc j) (9 + (9 * place + suc j)) (omega arith) ∙ key_bit-later b key (9 * place + suc j) ∙ key_bit-byte_at key place j d (omega arith) small
 
 pub key_bit-past : (key : List ℕ) (i : ℕ) → 9 * length key ≤ i → key_bit key i ≡ false
-key_bit-past [] i h = key_bit-end i
+key_bit-past [] i h = key_bit-nothing i
 key_bit-past (b ∷ key) i h =
     let e : i ≡ 9 + (i - 9) = omega arith in
     ap (key_bit (b ∷ key)) e ∙ key_bit-later b key (i - 9) ∙ key_bit-past key (i - 9) (omega arith)
-
--- how many bits a key has
-pub length-key_bits : (key : List ℕ) → length (key_bits key) ≡ 9 * length key + 1
-unfolding key_bits bits_of_byte
-length-key_bits [] = refl
-length-key_bits (b ∷ key) = omega (arith, length-key_bits key)
 
 -- ---- the first difference
 
@@ -95,13 +80,6 @@ shared_end_right x xs = refl
 pub shared_here : (x y : ℕ) (xs ys : List ℕ) (n : ℕ) → ((r s : List Bool) → n ≡ length (shared_front (low_bits 8 x ++ r) (low_bits 8 y ++ s))) → shared_bits (x ∷ xs) (y ∷ ys) ≡ suc n
 unfolding key_bits bits_of_byte
 shared_here x y xs ys n h = ap suc (sym (h (key_bits xs) (key_bits ys)))
-
--- two bits that are the same, or not
-pub common_same : (b c : Bool) (bs cs : List Bool) → b ≡ c → length (shared_front (b ∷ bs) (c ∷ cs)) ≡ suc (length (shared_front bs cs))
-common_same true true bs cs e = refl
-common_same false false bs cs e = refl
-common_same true false bs cs e = absurd cc
-common_same false true bs cs e = absurd cc
 
 pub common_apart : (b c : Bool) (bs cs : List Bool) → (b ≡ c → ⊥) → length (shared_front (b ∷ bs) (c ∷ cs)) ≡ 0
 common_apart true true bs cs e = absurd (e refl)

@@ -115,10 +115,10 @@ nil_splits : (newer older : List Shown) (x : Shown) → ◌≡◌ {A = List Show
 nil_splits [] older x e = cc
 nil_splits (y ∷ newer) older x e = cc
 
-head_of : (x y : Shown) (v w : List Shown) → x ∷ v ≡ y ∷ w → x ≡ y
+pub head_of : (x y : Shown) (v w : List Shown) → x ∷ v ≡ y ∷ w → x ≡ y
 head_of x y v w e = cc
 
-tail_of : (x y : Shown) (v w : List Shown) → x ∷ v ≡ y ∷ w → v ≡ w
+pub tail_of : (x y : Shown) (v w : List Shown) → x ∷ v ≡ y ∷ w → v ≡ w
 tail_of x y v w e = cc
 
 shown_above : (cs : List Completion) (e : Entry) (p : List Entry) (x : Shown) (older : List Shown) → ShownAt cs p x older → ShownAt cs (e ∷ p) x older

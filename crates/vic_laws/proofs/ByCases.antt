@@ -256,7 +256,7 @@ texts_taken_are g past x t = (taken_to g past x t, taken_from g past x t)
 
 -- ---- what was made
 
-only_one : (a t : List ℕ) → IsIn (a ∷ []) t → t ≡ a
+pub only_one : (a t : List ℕ) → IsIn (a ∷ []) t → t ≡ a
 only_one a t (inl same) = sym same
 only_one a t (inr none) = absurd none
 

@@ -2,7 +2,7 @@
 use Rattle.std.specs.Prelude.{◌≡◌, ◌≢◌, ℕ, ◌⊎◌, List, [], ◌∷◌, ◌++◌, length}
 use Rattle.std.specs.List.{AllByRecursion}
 use Rattle.std.specs.Str.{bytes_eq}
-use Rattle.std.proofs.Common.{refl, ap, sym, ◌∙◌, inl, inr, true≢false, arith}
+use Rattle.std.proofs.Common.{refl, ap, sym, ◌∙◌, inl, inr, true≢false}
 use Rattle.std.proofs.lemmas.Bool.{cases_Bool}
 use Rattle.std.proofs.lemmas.Slice.Eq.{bytes_eq-Decides}
 use Rattle.sha2.proofs.Facts256.{length-sha256}
@@ -15,6 +15,7 @@ use Rattle.vic_rules.specs.Trust.{chain_texts}
 use Rattle.vic_spellings.proofs.Entries.{entry_again}
 use Rattle.vic_spellings.proofs.Steps.{ok_is}
 use Rattle.vic_laws.proofs.Words.{tail_same}
+use Rattle.vic_tree.proofs.Binding.{same_parts}
 
 -- two different texts of a kind that have one hash
 abbrev pub TwoTexts : (List ℕ → Type 0) → Type 0
@@ -26,19 +27,6 @@ told_by_hash IsOne t u a b e = elim (cases_Bool (bytes_eq t u)) [
   | inl same ↦ inl ((bytes_eq-Decides t u).0 same)
   | inr differ ↦ inr (t, u, a, b, (λ same. true≢false (sym ((bytes_eq-Decides t u).1 same) ∙ differ)), e)
 ]
-
--- fronts of one length tell the rests
-pub append_same : (a b x y : List ℕ) → length a ≡ length b → a ++ x ≡ b ++ y → (a ≡ b) × (x ≡ y)
-append_same [] [] x y l e = (refl, e)
-append_same [] (c ∷ b) x y l e = absurd (omega (arith, l))
-append_same (c ∷ a) [] x y l e = absurd (omega (arith, l))
-append_same (c ∷ a) (d ∷ b) x y l e =
-    let head : c ≡ d = cc in
-    let rest = append_same a b x y (omega (arith, l)) (cc) in
-    (cons_same c d a b head rest.0, rest.1)
-  where
-    cons_same : (c d : ℕ) (a b : List ℕ) → c ≡ d → a ≡ b → c ∷ a ≡ d ∷ b
-    cons_same c d a b p q = cc
 
 pub length-chain : (g : Group) (p : List Entry) → length (chain g p) ≡ 32
 unfolding chain
@@ -77,7 +65,7 @@ module _ (g : Group) (IsOne : List ℕ → Type 0) (genesis : IsOne (genesis_tex
       joined x y = cc
 
       both : chain_text (chain g p) e ≡ chain_text (chain g q) f → (chain g p ≡ chain g q) × (entry_text e ≡ entry_text f)
-      both t = append_same (chain g p) (chain g q) (entry_text e) (entry_text f) (length-chain g p ∙ sym (length-chain g q)) (tail_same 1 1 (chain g p ++ entry_text e) (chain g q ++ entry_text f) t)
+      both t = same_parts (chain g p) (chain g q) (entry_text e) (entry_text f) (length-chain g p ∙ sym (length-chain g q)) (tail_same 1 1 (chain g p ++ entry_text e) (chain g q ++ entry_text f) t)
 
       after : e ≡ f → (p ≡ q) ⊎ TwoTexts IsOne → (e ∷ p ≡ f ∷ q) ⊎ TwoTexts IsOne
       after x (inl y) = inl (joined x y)

@@ -8,10 +8,11 @@ use Rattle.vic_dict.specs.declared.op.Mode.TheVariants as mode
 use Rattle.vic_wire.specs.Texts.{entry_text, mode_byte, status_byte}
 use Rattle.vic_laws.specs.Fields.{GenesisTells, InvokeTells, CommitTells, SealTells, KindsApart}
 use Rattle.vic_laws.proofs.Words.{tail_same}
-use Rattle.vic_laws.proofs.Chains.{append_same, same_entry_text}
+use Rattle.vic_laws.proofs.Chains.{same_entry_text}
 use Rattle.vic_laws.proofs.MadeSeals.{seal_text_told}
 use Rattle.vic_laws.proofs.MadeCommits.{commit_told}
 use Rattle.vic_laws.proofs.RealTime.{first_of_list}
+use Rattle.vic_tree.proofs.Binding.{same_parts}
 
 one_mode : (k j : Mode) → mode_byte k ≡ mode_byte j → k ≡ j
 one_mode mode.Plain mode.Plain e = refl
@@ -31,7 +32,7 @@ invoke_tells e f a b same = same_entry_text e f a b (tail_same 17 17 (entry_text
 pub commit_tells : CommitTells
 commit_tells m n a b d e small few same text =
     let rest = tail_same 18 18 (to_be_bytes w32 m ++ a ++ status_byte d ∷ []) (to_be_bytes w32 n ++ b ++ status_byte e ∷ []) text in
-    let first = append_same (to_be_bytes w32 m) (to_be_bytes w32 n) (a ++ status_byte d ∷ []) (b ++ status_byte e ∷ []) refl rest in
+    let first = same_parts (to_be_bytes w32 m) (to_be_bytes w32 n) (a ++ status_byte d ∷ []) (b ++ status_byte e ∷ []) refl rest in
     let told = commit_told m n a b d e same text in
     (sym (from_be_bytes-to_be_bytes_4 m small) ∙ (ap (from_be_bytes w32) first.0 ∙ from_be_bytes-to_be_bytes_4 n few), told.0, told.1)
 

@@ -17,12 +17,13 @@ use Rattle.vic_laws.specs.Claims.{CommittedAs, CommitsTellIn, CommitsTell}
 use Rattle.vic_laws.proofs.Words.{tail_same, in_either}
 use Rattle.vic_laws.proofs.Steps.{Kind, is_quiet, is_called, is_replied, is_updated, is_listed, Replied}
 use Rattle.vic_laws.proofs.Standings.{standing_moved, earlier_steps}
-use Rattle.vic_laws.proofs.Chains.{TwoTexts, append_same, told_by_chain, length-chain}
+use Rattle.vic_laws.proofs.Chains.{TwoTexts, told_by_chain, length-chain}
 use Rattle.vic_laws.proofs.Paths.{all_drop, texts_drop, path_listed, path_spelled, collides_from}
 use Rattle.vic_laws.proofs.Calls.{kind_of, completed_by, completion_joins, completion_stays}
 use Rattle.vic_laws.proofs.Growth.{path_later, texts_below}
 use Rattle.vic_laws.proofs.Agreement.{confirmed_by}
 use Rattle.vic_laws.proofs.SealsHeld.{first_apart}
+use Rattle.vic_tree.proofs.Binding.{same_parts}
 
 -- ---- one text, one commit
 
@@ -34,9 +35,9 @@ one_status false false h = refl
 
 pub commit_told : (n m : ℕ) (a b : List ℕ) (d e : Bool) → length a ≡ length b → commit_text n a d ≡ commit_text m b e → (a ≡ b) × (d ≡ e)
 commit_told n m a b d e same h =
-    let outer = append_same (to_be_bytes w32 n) (to_be_bytes w32 m) (a ++ status_byte d ∷ []) (b ++ status_byte e ∷ []) refl
+    let outer = same_parts (to_be_bytes w32 n) (to_be_bytes w32 m) (a ++ status_byte d ∷ []) (b ++ status_byte e ∷ []) refl
     (tail_same 18 18 (to_be_bytes w32 n ++ a ++ status_byte d ∷ []) (to_be_bytes w32 m ++ b ++ status_byte e ∷ []) h) in
-    let inner = append_same a b (status_byte d ∷ []) (status_byte e ∷ []) same outer.1 in
+    let inner = same_parts a b (status_byte d ∷ []) (status_byte e ∷ []) same outer.1 in
     (inner.0, one_status d e inner.1)
 
 -- ---- what was made

@@ -18,8 +18,9 @@ use Rattle.vic_rules.specs.Views.{confirmed_calls, left_by}
 use Rattle.vic_rules.specs.Trust.{checked_texts, seal_texts, chain_texts}
 use Rattle.vic_laws.specs.Claims.{AllConfirmed}
 use Rattle.vic_laws.proofs.Words.{tail_same, in_left}
-use Rattle.vic_laws.proofs.Chains.{TwoTexts, append_same, told_by_chain, length-chain}
+use Rattle.vic_laws.proofs.Chains.{TwoTexts, told_by_chain, length-chain}
 use Rattle.vic_laws.proofs.Growth.{all_confirmed_stays, confirmed_calls_stay}
+use Rattle.vic_tree.proofs.Binding.{same_parts}
 
 -- the text of a seal above position 0 is checked
 pub seal_checked : (g : Group) (p : List Entry) (m : ToClient) (s : Seal) → seal_of m ≡ Some s → s.position ≢ 0 → IsIn (checked_texts g p (Some m)) (seal_text_on g p s.position s.root.bytes)
@@ -32,10 +33,10 @@ seal_checked g p m s e away = in_left (seal_texts g p (seal_of m)) _ _ (subst (�
 
 pub seal_text_told : (n m : ℕ) (a b r q : List ℕ) → n < 2 ^ 32 → m < 2 ^ 32 → length a ≡ length b → seal_text n a r ≡ seal_text m b q → (n ≡ m) × (a ≡ b) × (r ≡ q)
 seal_text_told n m a b r q small few l e =
-    let outer = append_same (to_be_bytes w32 n ++ a) (to_be_bytes w32 m ++ b) r q
+    let outer = same_parts (to_be_bytes w32 n ++ a) (to_be_bytes w32 m ++ b) r q
     (omega (arith, length-append (to_be_bytes w32 n) a, length-append (to_be_bytes w32 m) b))
     (tail_same 19 19 (to_be_bytes w32 n ++ a ++ r) (to_be_bytes w32 m ++ b ++ q) e) in
-    let inner = append_same (to_be_bytes w32 n) (to_be_bytes w32 m) a b refl outer.0 in
+    let inner = same_parts (to_be_bytes w32 n) (to_be_bytes w32 m) a b refl outer.0 in
     (sym (from_be_bytes-to_be_bytes_4 n small) ∙ (ap (from_be_bytes w32) inner.0 ∙ from_be_bytes-to_be_bytes_4 m few), inner.1, outer.1)
 
 -- a seal text whose seal holds of the front of a path

@@ -6,6 +6,7 @@ use Rattle.vic_dict.specs.declared.op.Outcome.{Outcome}
 use Rattle.vic_dict.specs.declared.op.Outcome.TheVariants as outcome
 use Rattle.vic_dict.specs.declared.op.Entry.{Entry}
 use Rattle.vic_dict.specs.Lists.{IsIn, AreBytes}
+use Rattle.vic_dict.proofs.ByteLists.{AreBytes-tail}
 use Rattle.vic_wire.specs.Hashes.{Group}
 use Rattle.vic_wire.specs.Messages.{IsEntry}
 use Rattle.vic_wire.specs.Parts.{Part, read_part, part_text, node_field}
@@ -16,7 +17,6 @@ use Rattle.vic_rules.specs.History.{standing, path, move_of, AreSteps, Completio
 use Rattle.vic_rules.specs.Trust.{answer_taken, answer_unless_halted, parts_in, parts_taken}
 use Rattle.vic_rules.specs.Views.{last_prefix, view_of}
 use Rattle.vic_spellings.specs.Spellings.{PartHoldsBytes}
-use Rattle.vic_spellings.proofs.Steps.{bytes-rest}
 use Rattle.vic_spellings.proofs.SpelledParts.{part_takes, node_holds_bytes}
 use Rattle.vic_laws.specs.Claims.{DictionariesAreProper, ViewsLeaveProper, IsProperPart, PartsAreProper}
 use Rattle.vic_laws.proofs.Words.{all_append, in_either}
@@ -63,7 +63,7 @@ views_leave_proper g h lawful me = left_proper (completions g h) (last_prefix me
 -- ---- parts
 
 part_holds : (part : Part) → AreBytes (part_text part) → PartHoldsBytes part
-part_holds part h = node_holds_bytes part (bytes-rest 1 (node_field part) h)
+part_holds part h = node_holds_bytes part (AreBytes-tail 1 (node_field part) h)
 
 proper_part : (read : List ℕ) (part : Part) (bytes : List ℕ) → AreBytes read → read_part read ≡ Some part → IsIn (read ∷ []) bytes → IsProperPart bytes
 proper_part read part bytes are_bytes is (inl e) = subst IsProperPart e (let t = part_takes read part are_bytes is in record { part = part; is = is; proper = t.0; holds = part_holds part (subst AreBytes t.1 are_bytes) })

@@ -2,7 +2,6 @@
 use Rattle.std.proofs.Common.{◌≡◌, ℕ, zero, suc, ◌-◌, ◌<◌, ◌≤◌, ◌⊎◌, inl, inr, Bool, true, false, ◌&&◌, List, [], ◌∷◌, length, drop, Option, Some, None, bytes_eq, nat_eq, nat_lt, if◌then◌else◌, refl, sym, ◌∙◌, ap, subst, arith, ltb-true, lt-ltb, Decides, true≢false}
 use Rattle.std.proofs.lemmas.Bool.{and_parts, and_from}
 use Rattle.std.proofs.lemmas.Bool.Decides.{Decides-eqb}
-use Rattle.std.proofs.lemmas.Slice.Eq.{bytes_eq-Decides}
 use Rattle.vic_dict.specs.declared.op.Op.{Op}
 use Rattle.vic_dict.specs.declared.op.Op.TheVariants as op
 use Rattle.vic_dict.specs.declared.op.Entry.{Entry}
@@ -11,16 +10,14 @@ use Rattle.vic_rules.specs.Client.{same_op, same_entry, least_above, or_this}
 use Rattle.vic_laws.proofs.Words.{op_same, entry_same}
 use Rattle.vic_laws.specs.OrderClaims.{SameOpIs, SameEntryIs, PassesAt, IsLeastAbove, LeastAboveIs, NoneAboveIs}
 use Rattle.vic_laws.proofs.Growth.{front_whole}
-
-itself : (k : List ℕ) → bytes_eq k k ≡ true
-itself k = (bytes_eq-Decides k k).1 refl
+use Rattle.vic_commute.proofs.Commuting.{own_key}
 
 -- an operation passes the test with itself
 pub op_same_itself : (a : Op) → same_op a a ≡ true
-op_same_itself (op.Put k v) = and_from (bytes_eq k k) (bytes_eq v v) (itself k) (itself v)
-op_same_itself (op.Get k) = itself k
-op_same_itself (op.Del k) = itself k
-op_same_itself (op.List k) = itself k
+op_same_itself (op.Put k v) = and_from (bytes_eq k k) (bytes_eq v v) (own_key k) (own_key v)
+op_same_itself (op.Get k) = own_key k
+op_same_itself (op.Del k) = own_key k
+op_same_itself (op.List k) = own_key k
 
 -- the test of two operations finds what is equal, and nothing else
 pub same_op_tells : SameOpIs

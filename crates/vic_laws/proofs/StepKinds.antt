@@ -29,11 +29,12 @@ use Rattle.std.specs.Prelude.{◌<◌, ◌^◌}
 use Rattle.std.specs.Int.{w32, to_be_bytes}
 use Rattle.std.proofs.Common.{length-append}
 use Rattle.sha2.proofs.Facts256.{length-sha256}
-use Rattle.vic_spellings.proofs.Bytes.{bytes-append, bytes-w32, bytes-sha256}
+use Rattle.vic_spellings.proofs.Bytes.{bytes-w32, bytes-sha256}
 use Rattle.vic_dict.specs.Dictionary.{Fits, AreBytesIn}
 use Rattle.vic_dict.specs.declared.op.Op.TheVariants as op
 use Rattle.vic_dict.specs.declared.op.Answer.{Answer}
 use Rattle.vic_dict.specs.declared.op.Answer.TheVariants as answer
+use Rattle.vic_dict.proofs.ByteLists.{AreBytes-append}
 use Rattle.vic_wire.specs.declared.message.Digest32.{Digest32}
 use Rattle.vic_wire.specs.Texts.{content_text}
 use Rattle.vic_rules.specs.declared.object.ObjectCall.{ObjectCall}
@@ -404,7 +405,7 @@ part_bytes : (b before part : List ℕ) → AreBytes b → b ≡ before ++ part 
 part_bytes b before part h e = are_bytes_after before part (subst AreBytes e h)
 
 reference_bytes : (h : List ℕ) (len : ℕ) → AreBytes h → AreBytes (reference_text h len)
-reference_bytes h len a = bytes-append h (to_be_bytes w32 len) a (bytes-w32 len)
+reference_bytes h len a = AreBytes-append h (to_be_bytes w32 len) a (bytes-w32 len)
 
 reference_length : (h : List ℕ) (len : ℕ) → length h ≡ 32 → length (reference_text h len) ≤ 64
 reference_length h len e = let l : length (h ++ to_be_bytes w32 len) ≡ length h + length (to_be_bytes w32 len) = length-append h (to_be_bytes w32 len) in omega (arith, l)

@@ -1,5 +1,5 @@
 -- What a client sends of contents: one within the limits, or the hash in a reference that it found.
-use Rattle.std.specs.Prelude.{◌≡◌, ℕ, zero, suc, ◌+◌, ◌<◌, ◌≤◌, Bool, true, false, List, [], ◌∷◌, ◌++◌, length, take, Option, Some, None, nat_lt, if◌then◌else◌}
+use Rattle.std.specs.Prelude.{◌≡◌, ℕ, ◌+◌, ◌≤◌, Bool, true, false, List, [], ◌∷◌, ◌++◌, length, Option, Some, None, nat_lt, if◌then◌else◌}
 use Rattle.std.specs.List.{AllByRecursion, filter, fold}
 use Rattle.std.specs.FinMap as map
 use Rattle.std.proofs.Common.{refl, ap, subst, sym, ◌∙◌, inl, inr, arith}
@@ -13,6 +13,7 @@ use Rattle.vic_dict.specs.declared.op.Outcome.TheVariants as outcome
 use Rattle.vic_dict.specs.declared.op.Entry.{Entry}
 use Rattle.vic_dict.specs.Lists.{AreBytes}
 use Rattle.vic_dict.specs.Dictionary.{Dictionary, Fits, AreBytesIn, IsKey, IsProper, nothing, answer_of_get, answer_of_del, reply, after}
+use Rattle.vic_dict.proofs.ByteLists.{AreBytes-take}
 use Rattle.vic_wire.specs.declared.message.Digest32.{Digest32}
 use Rattle.vic_wire.specs.declared.message.Seal.{Seal}
 use Rattle.vic_wire.specs.declared.message.ToClient.{ToClient}
@@ -37,7 +38,6 @@ use Rattle.vic_rules.specs.Client.{Standing, Move, Sending, Invokes, Commits, Po
 use Rattle.vic_rules.specs.Objects.{is_reference, hash_in, first_step, step_on_kept}
 use Rattle.vic_rules.specs.History.{standing, AreSteps, completion}
 use Rattle.vic_spellings.specs.Spellings.{PartHoldsBytes}
-use Rattle.vic_spellings.proofs.Bytes.{bytes-cons}
 use Rattle.vic_spellings.proofs.SpelledParts.{part_takes, parts_are_spelled}
 use Rattle.vic_roots.proofs.Proper.{proper-nothing, proper-insert, proper-after}
 use Rattle.vic_laws.proofs.Words.{some_same, none_is_some, all_append}
@@ -145,13 +145,8 @@ found_bytes me s below base part o v own is holds e = now (in_the_way me o base 
 
 -- ---- references that were found
 
-bytes_before : (n : ℕ) (xs : List ℕ) → AreBytes xs → AreBytes (take n xs)
-bytes_before zero xs h = λ i. omega arith
-bytes_before (suc n) [] h = λ i. omega arith
-bytes_before (suc n) (x ∷ xs) h = bytes-cons x (take n xs) (h 0) (bytes_before n xs (λ i. h (suc i)))
-
 hash_before : (v : List ℕ) → is_reference v ≡ true → AreBytes v → IsDigestText (hash_in v)
-hash_before v size bytes = (length-take-le 32 v (let l = eqb-true (length v) 36 size in omega arith), bytes_before 32 v bytes)
+hash_before v size bytes = (length-take-le 32 v (let l = eqb-true (length v) 36 size in omega arith), AreBytes-take 32 v bytes)
 
 -- the hash that a client is to fetch
 abbrev pub FetchFits : Phase → Type 0

@@ -19,7 +19,8 @@ use Rattle.vic_spellings.proofs.Holding.{request-bytes}
 use Rattle.vic_laws.proofs.Words.{some_same, none_is_some, in_left, in_right, in_either}
 use Rattle.vic_laws.proofs.Standings.{standing_moved, earlier_steps}
 use Rattle.vic_laws.proofs.Growth.{front_whole}
-use Rattle.vic_laws.proofs.ByCases.{texts_taken_are}
+use Rattle.vic_laws.proofs.ByCases.{texts_taken_are, only_one}
+use Rattle.vic_laws.proofs.RealTime.{forged_earlier}
 use Rattle.vic_made.specs.MadeTexts.{RequestSent, SentText, of_call, of_status, of_seal, SendingOf, Forgery, SentRequests, MadeTexts, MadeTags, Forgeries}
 use Rattle.vic_made.proofs.Spelled.{IsSpelled, step_spelled}
 
@@ -73,10 +74,6 @@ tag_is g me s Seals = refl
 tag_is g me s Syncs = tt
 tag_is g me s (Keeps content) = tt
 tag_is g me s (Fetches h) = tt
-
-only_one : (a t : List ℕ) → IsIn (a ∷ []) t → t ≡ a
-only_one a t (inl same) = sym same
-only_one a t (inr none) = absurd none
 
 -- ---- at a step
 
@@ -246,16 +243,12 @@ forgery_to g (x ∷ past) steps (inr now) = record {
   unsent = λ s. now.2 (back g past steps.0 now.0 s);
 }
 
-forged_later : (g : Group) (later past : List TraceStep) → IsForged g past → IsForged g (later ++ past)
-forged_later g [] past f = f
-forged_later g (x ∷ later) past f = inl (forged_later g later past f)
-
 forgery_from : (g : Group) (h : List TraceStep) → AreSteps g h → Forgery g h → IsForged g h
 forgery_from g h steps f =
     let here : AreSteps g (f.x ∷ f.past) = steps_at g h f.later f.x f.past steps f.is in
     let taken = (texts_taken_are g f.past f.x f.text).1 f.taken in
     subst (IsForged g) (sym f.is)
-    (forged_later g f.later (f.x ∷ f.past) (inr (f.text, taken, λ i. f.unsent (there g f.past here.0 f.text i))))
+    (forged_earlier g f.later (f.x ∷ f.past) (inr (f.text, taken, λ i. f.unsent (there g f.past here.0 f.text i))))
 
 pub forgeries : Forgeries
 forgeries g h lawful = (forgery_to g h lawful.steps, forgery_from g h lawful.steps)

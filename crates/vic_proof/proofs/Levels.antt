@@ -1,22 +1,18 @@
 -- More levels than a node can have read nothing else.
-use Rattle.std.proofs.Common.{◌≡◌, ℕ, zero, suc, ◌+◌, ◌-◌, ◌<◌, ◌≤◌, Bool, true, false, cond, eqb, ltb, leb, ◌&&◌, List, [], ◌∷◌, ◌++◌, length, Result, Ok, Err, refl, sym, ap, subst, ◌∙◌, arith}
+use Rattle.std.proofs.Common.{◌≡◌, ℕ, zero, suc, ◌+◌, ◌-◌, ◌<◌, ◌≤◌, Bool, true, false, ltb, leb, ◌&&◌, List, [], Result, Ok, Err, refl, ap, subst, ◌∙◌, arith}
 use Rattle.std.specs.Prelude.{◌==◌, if◌then◌else◌}
 use Rattle.std.specs.Int.{w16}
 use Rattle.std.proofs.lemmas.Bool.{ltb-true, leb-true, and_parts}
 use Rattle.vic_wire.specs.Trees.{Tree, Empty, Inner}
-use Rattle.vic_wire.specs.Reading.{FieldFault, Read, ◌>>=◌, byte_at, number_at, if_allowed}
+use Rattle.vic_wire.specs.Reading.{Read, ◌>>=◌, byte_at, number_at, if_allowed}
 use Rattle.vic_wire.specs.Reading as reading
 use Rattle.vic_wire.specs.Parts.{PartFault, PartRead, BadTag, IndexNotRising, ◌then◌, place, field, leaf_at, index_at, stub_at, node_at, tree_at}
 use Rattle.vic_proof.specs.Nodes.{node_from, inner_from, after_byte}
+use Rattle.vic_spellings.proofs.SpelledParts.{field_ok}
 
 then_same : {A B : Type 0} (r : Result A PartFault) (f g : A → Result B PartFault) → ((x : A) → r ≡ Ok x → f x ≡ g x) → (r then f) ≡ (r then g)
 then_same (Ok x) f g h = h x refl
 then_same (Err d) f g h = refl
-
-field_ok : {A : Type 0} (all : ℕ) (left : List ℕ) (bad : ℕ → PartFault) (r : Read A) (x : A × List ℕ) → field all left bad r ≡ Ok x → r ≡ Ok x
-field_ok all left bad (Ok y) x e = cc
-field_ok all left bad (Err reading.Short) x e = absurd cc
-field_ok all left bad (Err reading.Value) x e = absurd cc
 
 allowed_small : (b : Bool) (i x : ℕ × List ℕ) → if_allowed b i ≡ Ok x → (b ≡ true) × (i ≡ x)
 allowed_small true i x e = (refl, cc)

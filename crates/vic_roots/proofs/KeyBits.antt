@@ -2,8 +2,8 @@
 use Rattle.std.proofs.Common.{◌≡◌, ℕ, ◌+◌, ◌*◌, ◌/◌, ◌%◌, ◌<◌, List, [], ◌∷◌, length, arith, refl}
 use Rattle.std.proofs.lemmas.Bool.Decides.{nat_tests}
 use Rattle.vic_dict.specs.Lists.{AreBytes}
+use Rattle.vic_dict.proofs.ByteLists.{AreBytes-head, AreBytes-tail}
 use Rattle.vic_wire.specs.Bits.{is_odd, bits_of_byte, key_bits}
-use Rattle.vic_roots.proofs.Bytes.{AreBytes-head, AreBytes-tail}
 use Rattle.vic_roots.proofs.Fronts.{IsFront}
 
 -- numbers with the same last bit have the same remainder

@@ -1,5 +1,4 @@
 pub mod Keys
-pub mod Bytes
 pub mod Proper
 pub mod Fronts
 pub mod KeyBits

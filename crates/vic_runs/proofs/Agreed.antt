@@ -17,7 +17,7 @@ use Rattle.vic_rules.specs.declared.trace.Shown.{Shown}
 use Rattle.vic_rules.specs.Client.{same_entry}
 use Rattle.vic_rules.specs.Views.{view_of}
 use Rattle.vic_script.specs.Print.{same_answer, same_outcome, same_shown, agreement}
-use Rattle.vic_laws.proofs.Agreement.{views_agree}
+use Rattle.vic_laws.proofs.Agreement.{views_agree, head_of, tail_of}
 use Rattle.vic_laws.proofs.SameOp.{same_entry_tells}
 use Rattle.vic_runs.specs.Agreements.{SameShownIs, BeginSame, AgreementIs, AgreementsCount}
 
@@ -95,12 +95,6 @@ agreement_begins [] w = record { first = omega arith; second = omega arith; same
 agreement_begins (x ∷ v) [] = record { first = omega arith; second = omega arith; same = refl }
 agreement_begins (x ∷ v) (y ∷ w) = begin_more x y v w (agreement v w) (same_shown x y) refl (agreement_begins v w)
 
-heads_same : (x y : Shown) (v w : List Shown) → x ∷ v ≡ y ∷ w → x ≡ y
-heads_same x y v w e = cc
-
-tails_same : (x y : Shown) (v w : List Shown) → x ∷ v ≡ y ∷ w → v ≡ w
-tails_same x y v w e = cc
-
 agreement_same : (x y : Shown) (v w : List Shown) → x ≡ y → agreement (x ∷ v) (y ∷ w) ≡ agreement v w + 1
 agreement_same x y v w e = ap (λ (same : Bool). if same then agreement v w + 1 else 0) ((same_shown_tells x y).1 e)
 
@@ -114,8 +108,8 @@ agreement_most (x ∷ v) (y ∷ w) (suc n) b =
     let first : suc n ≤ suc (length v) = b.first in
     let second : suc n ≤ suc (length w) = b.second in
     let below : n ≤ agreement v w =
-    agreement_most v w n (record { first = omega arith; second = omega arith; same = tails_same x y (take n v) (take n w) both }) in
-    let counted : agreement (x ∷ v) (y ∷ w) ≡ agreement v w + 1 = agreement_same x y v w (heads_same x y (take n v) (take n w) both) in
+    agreement_most v w n (record { first = omega arith; second = omega arith; same = tail_of x y (take n v) (take n w) both }) in
+    let counted : agreement (x ∷ v) (y ∷ w) ≡ agreement v w + 1 = agreement_same x y v w (head_of x y (take n v) (take n w) both) in
     omega arith
 
 pub agreement_tells : AgreementIs

@@ -6,12 +6,11 @@ use Rattle.std.proofs.lemmas.List.{reverse-append}
 use Rattle.vic_dict.specs.Lists.{AreBytes}
 use Rattle.vic_dict.specs.declared.op.Op.{Op}
 use Rattle.vic_dict.specs.Dictionary.{Dictionary, IsProper}
+use Rattle.vic_dict.proofs.ByteLists.{AreBytes-nil, AreBytes-cons, AreBytes-take}
 use Rattle.vic_wire.specs.declared.message.Tagged.{Tagged}
 use Rattle.vic_wire.specs.declared.message.ToClient.{ToClient}
 use Rattle.vic_wire.specs.declared.message.ToClient.TheVariants as say
 use Rattle.vic_wire.specs.Bits.{is_odd}
-use Rattle.vic_spellings.proofs.Bytes.{bytes-cons}
-use Rattle.vic_spellings.proofs.Steps.{bytes-nil}
 use Rattle.vic_laws.proofs.Words.{all_append}
 use Rattle.vic_laws.proofs.Paths.{all_drop}
 use Rattle.vic_honest.proofs.SentParts.{sent_for, sent_bare}
@@ -60,7 +59,7 @@ swap-bytes say.Gone h = h
 swap-bytes say.Absent h = h
 
 empty-bytes : AreBytes empty_part
-empty-bytes = bytes-cons 1 (0 ∷ []) (omega arith) (bytes-cons 0 [] (omega arith) bytes-nil)
+empty-bytes = AreBytes-cons 1 (0 ∷ []) (omega arith) (AreBytes-cons 0 [] (omega arith) AreBytes-nil)
 
 empty_part-bytes : LeavesBytes with_empty_part
 empty_part-bytes say.Hi h = h
@@ -90,12 +89,6 @@ part_of-bytes d proper next say.Kept h = h
 part_of-bytes d proper next (say.Content content) h = h
 part_of-bytes d proper next say.Gone h = h
 part_of-bytes d proper next say.Absent h = h
-
--- the first so many bytes
-taken-bytes : (n : ℕ) (bytes : List ℕ) → AreBytes bytes → AreBytes (take n bytes)
-taken-bytes zero bytes h = bytes-nil
-taken-bytes (suc n) [] h = bytes-nil
-taken-bytes (suc n) (b ∷ bs) h = bytes-cons b (take n bs) (h 0) (taken-bytes n bs (λ i. h (suc i)))
 
 -- ---- what is kept
 
@@ -165,7 +158,7 @@ module _ (who : ℕ) (payload : List ℕ) (above : 0 < who) (upto : who ≤ 64) 
   by_last_answer-keeps None there h holds = going-keeps answer_as_is answer_as_is-bytes h holds
 
   truncate-keeps : (r : List ℕ × Hostile) → KeepsBytes r → KeepsBytes (without_last r.0, r.1)
-  truncate-keeps r h = (h.0, taken-bytes (length r.0 - 1) r.0 h.1)
+  truncate-keeps r h = (h.0, AreBytes-take (length r.0 - 1) r.0 h.1)
 
   by_late_request-keeps : (k : HostileKind) (h : Hostile) → HostileHolds h → KeepsBytes (by_late_request k h who payload)
   by_late_request-keeps kind.Honest h holds = going-keeps answer_as_is answer_as_is-bytes h holds

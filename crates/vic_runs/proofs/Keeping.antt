@@ -9,6 +9,7 @@ use Rattle.vic_dict.specs.declared.op.Op.{Op}
 use Rattle.vic_dict.specs.declared.op.Mode.{Mode}
 use Rattle.vic_dict.specs.declared.op.Mode.TheVariants as mode
 use Rattle.vic_dict.specs.Dictionary.{Dictionary, IsProper}
+use Rattle.vic_dict.proofs.ByteLists.{AreBytes-nil, AreBytes-cons, AreBytes-append, AreBytes-replicate}
 use Rattle.vic_wire.specs.declared.message.Digest32.{Digest32}
 use Rattle.vic_wire.specs.declared.message.Seal.{Seal}
 use Rattle.vic_wire.specs.declared.message.Tagged.{Tagged}
@@ -23,8 +24,7 @@ use Rattle.vic_wire.specs.Parts.{part_for}
 use Rattle.vic_wire.specs.Reading.{read_request}
 use Rattle.vic_rules.specs.Client.{first_failing}
 use Rattle.vic_spellings.specs.Spellings.{RequestHoldsBytes}
-use Rattle.vic_spellings.proofs.Bytes.{bytes-cons, bytes-append, bytes-replicate, bytes-sha256}
-use Rattle.vic_spellings.proofs.Steps.{bytes-nil}
+use Rattle.vic_spellings.proofs.Bytes.{bytes-sha256}
 use Rattle.vic_spellings.proofs.SpelledRequests.{request_fits, request_holds_bytes}
 use Rattle.vic_roots.proofs.Proper.{proper-nothing, proper-after}
 use Rattle.vic_honest.proofs.SentParts.{sent_for, sent_update}
@@ -58,7 +58,7 @@ found-holds P test (x ∷ xs) h =
 -- the seal of a position, also where there is none
 seal-holds : (s : Server) (n : ℕ) → ServerHolds s → SealHolds (seal_at_position s n)
 seal-holds s n h =
-    let first : SealHolds no_seal = record { root = bytes-sha256 _; tag = bytes-replicate 32 0 (omega arith) } in
+    let first : SealHolds no_seal = record { root = bytes-sha256 _; tag = AreBytes-replicate 32 0 (omega arith) } in
     newest_seal SealHolds (front n s.seals) first (all_drop SealHolds (length s.seals - n) s.seals h.seals)
 
 -- the entry at a position, if there is one
@@ -103,22 +103,22 @@ SpeaksBytes say.Absent = Unit {0}
 
 -- an answer of one byte
 bare-bytes : (kind : ℕ) → kind < 256 → AreBytes (kind ∷ [])
-bare-bytes kind lt = bytes-cons kind [] lt bytes-nil
+bare-bytes kind lt = AreBytes-cons kind [] lt AreBytes-nil
 
 sealed-bytes : (kind : ℕ) → kind < 256 → (x : Seal) → SealHolds x → AreBytes (kind ∷ seal_field x)
-sealed-bytes kind lt x h = bytes-cons kind (seal_field x) lt (seal_bytes x h.root h.tag)
+sealed-bytes kind lt x h = AreBytes-cons kind (seal_field x) lt (seal_bytes x h.root h.tag)
 
 -- so it is bytes as a whole
 pub spoken-bytes : (m : ToClient) → SpeaksBytes m → AreBytes (answer_text m)
 spoken-bytes say.Hi h = bare-bytes 0x41 (omega arith)
 spoken-bytes (say.Reply x ts part) h =
-    bytes-append (0x42 ∷ seal_field x ++ entries_field ts) part (bytes-append (0x42 ∷ seal_field x) (entries_field ts) (sealed-bytes 0x42 (omega arith) x h.0) (entries_bytes ts h.1.0)) h.1.1
+    AreBytes-append (0x42 ∷ seal_field x ++ entries_field ts) part (AreBytes-append (0x42 ∷ seal_field x) (entries_field ts) (sealed-bytes 0x42 (omega arith) x h.0) (entries_bytes ts h.1.0)) h.1.1
 spoken-bytes say.Wait h = bare-bytes 0x43 (omega arith)
-spoken-bytes (say.Update x part) h = bytes-append (0x44 ∷ seal_field x) part (sealed-bytes 0x44 (omega arith) x h.0) h.1
-spoken-bytes (say.Entries x ts) h = bytes-append (0x45 ∷ seal_field x) (entries_field ts) (sealed-bytes 0x45 (omega arith) x h.0) (entries_bytes ts h.1)
-spoken-bytes (say.Refused r) h = bytes-cons 0x46 (r ∷ []) (omega arith) (bare-bytes r h)
+spoken-bytes (say.Update x part) h = AreBytes-append (0x44 ∷ seal_field x) part (sealed-bytes 0x44 (omega arith) x h.0) h.1
+spoken-bytes (say.Entries x ts) h = AreBytes-append (0x45 ∷ seal_field x) (entries_field ts) (sealed-bytes 0x45 (omega arith) x h.0) (entries_bytes ts h.1)
+spoken-bytes (say.Refused r) h = AreBytes-cons 0x46 (r ∷ []) (omega arith) (bare-bytes r h)
 spoken-bytes say.Kept h = bare-bytes 0x47 (omega arith)
-spoken-bytes (say.Content content) h = bytes-cons 0x48 content (omega arith) h
+spoken-bytes (say.Content content) h = AreBytes-cons 0x48 content (omega arith) h
 spoken-bytes say.Gone h = bare-bytes 0x49 (omega arith)
 spoken-bytes say.Absent h = bare-bytes 0x4a (omega arith)
 

@@ -5,7 +5,7 @@ use Rattle.std.specs.List.{AllByRecursion}
 use Rattle.std.proofs.lemmas.List.{length-take}
 use Rattle.vic_script.specs.Lines.{lines_of, line_of}
 use Rattle.vic_script.specs.Run.{script_limit, Progress, Before, scene_in, ScriptRun, run_to_bad_line, run_after_text, Trial, Fails, Does, trial_of_line, mode_in, run_by_trial, line_end, bad_end, run_from, run_of}
-use Rattle.vic_runs.proofs.Words.{length-lines_of}
+use Rattle.vic_script.proofs.Lines.{length-lines_of}
 
 -- nothing is asked of a line's text
 abbrev pub AnyText : List ℕ → Type 0

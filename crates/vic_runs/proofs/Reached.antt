@@ -235,7 +235,7 @@ reached-after_joining s n r i k there =
 abbrev Any : Event → Type 0
 Any m = Unit {0}
 
-any : (events : List Event) → AllByRecursion Any events
+pub any : (events : List Event) → AllByRecursion Any events
 any [] = tt
 any (m ∷ before) = (tt, any before)
 

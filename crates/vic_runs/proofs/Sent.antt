@@ -4,13 +4,13 @@ use Rattle.std.specs.Prelude.{if◌then◌else◌, nat_eq, slice_get, slice_set,
 use Rattle.std.specs.Int.Bits.{bit_xor}
 use Rattle.std.proofs.lemmas.Nat.{xor_of_8}
 use Rattle.vic_dict.specs.Lists.{AreBytes}
+use Rattle.vic_dict.proofs.ByteLists.{AreBytes-cons}
 use Rattle.vic_wire.specs.Hashes.{Group}
 use Rattle.vic_rules.specs.declared.trace.Input.{Input}
 use Rattle.vic_rules.specs.declared.trace.Input.TheVariants as input
 use Rattle.vic_rules.specs.declared.trace.TraceStep.{TraceStep}
 use Rattle.vic_rules.specs.Client.{Standing, MayStep}
 use Rattle.vic_rules.specs.History.{standing, IsLawful}
-use Rattle.vic_spellings.proofs.Bytes.{bytes-cons}
 use Rattle.vic_made.proofs.Made.{sent_requests}
 use Rattle.vic_order.specs.Scenes.{or_before, payload_in, last_taken, last_sent, payload_with_flip}
 use Rattle.vic_runs.specs.Reached.{IfThere}
@@ -67,8 +67,8 @@ last_taken-bytes g (x ∷ past) lawful i =
 
 bytes-set : (payload : List ℕ) (n b : ℕ) → b < 256 → AreBytes payload → AreBytes (slice_set payload n b)
 bytes-set [] n b lt h = h
-bytes-set (x ∷ payload) zero b lt h = bytes-cons b payload lt (λ i. h (suc i))
-bytes-set (x ∷ payload) (suc n) b lt h = bytes-cons x (slice_set payload n b) (h 0) (bytes-set payload n b lt (λ i. h (suc i)))
+bytes-set (x ∷ payload) zero b lt h = AreBytes-cons b payload lt (λ i. h (suc i))
+bytes-set (x ∷ payload) (suc n) b lt h = AreBytes-cons x (slice_set payload n b) (h 0) (bytes-set payload n b lt (λ i. h (suc i)))
 
 bytes-get : (payload : List ℕ) (n : ℕ) → AreBytes payload → unwrap_or (slice_get payload n) 0 < 256
 bytes-get [] n h = omega arith

@@ -1,1 +1,2 @@
 pub mod Forged
+pub mod Lines

@@ -15,15 +15,16 @@ use Rattle.vic_script.specs.declared.line.Line.TheVariants as line
 use Rattle.vic_script.specs.Lines.{lines_of, line_of, kind_named}
 use Rattle.vic_script.specs.Scenes.{events_of, done_line, bad_kind}
 use Rattle.vic_script.specs.Run.{script_limit, Bad, Attack, no_attack, ScriptHeader, opening_as, opening_by, Progress, Before, Heads, Stands, scene_in, ScriptRun, run_to_bad_line, Trial, Fails, Does, trial_by, trial_in_scene, trial_of_line, mode_in, run_by_trial, line_end, bad_end, run_from, run_of}
+use Rattle.vic_script.proofs.Lines.{length-lines_of}
 use Rattle.vic_runs.specs.Claims.{FitsLine}
 use Rattle.vic_runs.specs.Reached.{IsReached}
 use Rattle.vic_runs.proofs.Events.{after-joined, may-joined, good-joined}
 use Rattle.vic_runs.proofs.Headers.{turned, first_so, header_so}
 use Rattle.vic_runs.proofs.Lines.{few_calls, line-may}
 use Rattle.vic_runs.proofs.Lists.{all_each}
-use Rattle.vic_runs.proofs.Reached.{reached-seated}
+use Rattle.vic_runs.proofs.Reached.{reached-seated, any}
 use Rattle.vic_runs.proofs.Runs.{ReachedIn, TriedReaches, tried}
-use Rattle.vic_runs.proofs.Words.{FitsIn, text_fits, length-lines_of}
+use Rattle.vic_runs.proofs.Words.{FitsIn, text_fits}
 use Rattle.vic_script_runs.specs.Events.{line_events, events_then, events_from, script_events}
 use Rattle.vic_script_runs.specs.Claims.{attack_in, attacks_in, attacks_of, ScriptsComeOfTheirLines}
 use Rattle.vic_script_runs.proofs.Attacks.{names_alike, first_names_none, good_names_none, IsNamed, turned_named}
@@ -220,9 +221,6 @@ module _ (Each : Event → Type 0) (Good : Option Line → Type 0) (makes : (s :
 
 abbrev Any : Event → Type 0
 Any m = Unit {0}
-
-any : (events : List Event) → AllByRecursion Any events
-any events = all_each Any (λ m. tt) events
 
 abbrev AnyLine : Option Line → Type 0
 AnyLine l = Unit {0}

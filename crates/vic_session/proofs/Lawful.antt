@@ -1,11 +1,11 @@
 -- The steps of a talk are a lawful history of its client alone.
-use Rattle.std.proofs.Common.{◌≡◌, ℕ, zero, suc, ◌+◌, ◌<◌, ◌≤◌, Bool, true, false, List, [], ◌∷◌, ◌++◌, fold, length, take, drop, Option, Some, None, if◌then◌else◌, eq-eqb, refl, sym, ap, subst, ◌∙◌, arith}
+use Rattle.std.proofs.Common.{◌≡◌, ℕ, zero, suc, ◌+◌, ◌<◌, ◌≤◌, Bool, true, false, List, [], ◌∷◌, ◌++◌, fold, length, Option, Some, None, if◌then◌else◌, eq-eqb, refl, sym, ap, subst, ◌∙◌, arith}
 use Rattle.std.specs.Prelude.{nat_eq, nat_lt}
 use Rattle.std.specs.List.{AllByRecursion}
 use Rattle.std.specs.Int.{w32, to_be_bytes}
-use Rattle.std.proofs.lemmas.Grind.{common_steps}
 use Rattle.std.proofs.lemmas.Bool.{ltb-false}
 use Rattle.vic_dict.specs.Lists.{AreBytes}
+use Rattle.vic_dict.proofs.ByteLists.{AreBytes-first, AreBytes-second}
 use Rattle.vic_wire.specs.Hashes.{Group}
 use Rattle.vic_rules.specs.declared.trace.Input.{Input}
 use Rattle.vic_rules.specs.declared.trace.Input.TheVariants as input
@@ -15,9 +15,9 @@ use Rattle.vic_rules.specs.History.{standing, IsStep, AreSteps}
 use Rattle.vic_conn.specs.Frames.{Goes, Waits, Whole, Broken, front_of, split_by, frames_within, frames_of}
 use Rattle.vic_conn.proofs.Spelled.{fronts_are}
 use Rattle.vic_ports.specs.Causes.{LeavesBehind}
-use Rattle.vic_spellings.proofs.Steps.{bytes-take, bytes-drop}
 use Rattle.vic_script.specs.Lines.{lines_of}
 use Rattle.vic_script.specs.Run.{script_limit}
+use Rattle.vic_script.proofs.Lines.{length-lines_of}
 use Rattle.vic_text.specs.declared.client_line.ClientLine.{ClientLine}
 use Rattle.vic_text.specs.declared.client_line.ClientLine.TheVariants as line
 use Rattle.vic_text.specs.ClientLines.{client_line_of}
@@ -28,7 +28,7 @@ use Rattle.vic_session.proofs.Steps.{heard}
 use Rattle.vic_session.specs.Talking.{calls_of}
 use Rattle.vic_session.proofs.Begins.{calls_poll, calls_sync, calls_call, calls_object}
 use Rattle.vic_session.proofs.Extends.{here, after_step}
-use Rattle.vic_session.proofs.Fitting.{CanIn, spelled-can, length-lines_of}
+use Rattle.vic_session.proofs.Fitting.{CanIn, spelled-can}
 
 -- ---- one step
 
@@ -178,19 +178,13 @@ talks_are_lawful g me script taken group some most all = record { group = group;
 
 -- ---- sessions
 
-bytes_first : (xs ys : List ℕ) → AreBytes (xs ++ ys) → AreBytes xs
-bytes_first xs ys all = let is : take (length xs) (xs ++ ys) ≡ xs = grind (arith, common_steps) in subst (λ (l : List ℕ). AreBytes l) is (bytes-take (length xs) (xs ++ ys) all)
-
-bytes_last : (xs ys : List ℕ) → AreBytes (xs ++ ys) → AreBytes ys
-bytes_last xs ys all = let is : drop (length xs) (xs ++ ys) ≡ ys = grind (arith, common_steps) in subst (λ (l : List ℕ). AreBytes l) is (bytes-drop (length xs) (xs ++ ys) all)
-
 payload_front : (split : List ℕ → List (List ℕ) × List ℕ) (bytes : List ℕ) → AreBytes bytes → ((behind : List ℕ) → AreBytes behind → AllByRecursion AreBytes (split behind).0)
     → (goes_on : Goes) → front_of bytes ≡ goes_on → AllByRecursion AreBytes (split_by split bytes goes_on).0
 payload_front split bytes all more Waits e = tt
 payload_front split bytes all more (Broken k) e = tt
 payload_front split bytes all more (Whole p behind) e =
     let there : AreBytes ((to_be_bytes w32 (length p) ++ p) ++ behind) = subst (λ (l : List ℕ). AreBytes l) (fronts_are.whole bytes p behind all e) all in
-    (bytes_last (to_be_bytes w32 (length p)) p (bytes_first (to_be_bytes w32 (length p) ++ p) behind there), more behind (bytes_last (to_be_bytes w32 (length p) ++ p) behind there))
+    (AreBytes-second (to_be_bytes w32 (length p)) p (AreBytes-first (to_be_bytes w32 (length p) ++ p) behind there), more behind (AreBytes-second (to_be_bytes w32 (length p) ++ p) behind there))
 
 -- the payloads of frames of bytes hold bytes
 payload_bytes : (n : ℕ) (bytes : List ℕ) → AreBytes bytes → AllByRecursion AreBytes (frames_within n bytes).0
@@ -211,5 +205,5 @@ pub sessions_are_lawful : SessionsAreLawful
 unfolding frames_of
 sessions_are_lawful g me script old new out printed end s group some most bytes told all =
     let took : LeavesBehind s.read (Some bytes) new.left = subst (λ (l : Option (List ℕ)). LeavesBehind s.read l new.left) told s.took in
-    let read : AreBytes s.read = bytes_first s.read took.0 (subst (λ (l : List ℕ). AreBytes l) took.2 all) in
+    let read : AreBytes s.read = AreBytes-first s.read took.0 (subst (λ (l : List ℕ). AreBytes l) took.2 all) in
     talks_are_lawful g me script s.taken group some most (taken_bytes s.stage (frames_of s.read).0 s.taken s.more s.reads (payload_bytes (length s.read) s.read read))

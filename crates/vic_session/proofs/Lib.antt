@@ -9,6 +9,5 @@ pub mod Lined
 pub mod Sessions
 pub mod Short
 pub mod Steps
-pub mod Streams
 pub mod Told
 pub mod Wires

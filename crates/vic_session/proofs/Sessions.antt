@@ -9,8 +9,10 @@ use Rattle.vic_rules.specs.Client.{Standing, at_start}
 use Rattle.vic_rules.specs.History.{standing}
 use Rattle.vic_client.specs.Kept.{KeptClient, StandsFor, kept_group}
 use Rattle.vic_conn.specs.Frames.{frames_of}
+use Rattle.vic_conn.proofs.Streams.{splits_any}
 use Rattle.vic_ports.specs.Written.{AppendedAll, AppendedFront}
 use Rattle.vic_ports.specs.Links.{Told}
+use Rattle.vic_ports.proofs.Told.{all_front, all_is_front, none_sent}
 use Rattle.vic_script.specs.Lines.{lines_of}
 use Rattle.vic_script.specs.Words.{newline}
 use Rattle.vic_session.specs.declared.wire.WireFault.{WireFault}
@@ -25,11 +27,10 @@ use Rattle.vic_session.specs.Talking.{On, Went, GoesTo, IsDoing, IsBusy, PrintsF
 use Rattle.vic_session.specs.Wires.{frames, Asks}
 use Rattle.vic_session.specs.Sessions.{Stage, Greets, Talks, Goes_away, hello, bye, requests, Read, IsOver, IsOwed, IsAt, AllAwaited, EndsBy, Sent, Prints, printed_at, stands_at, IsLeftAt, IsLeftShort, StandsShort, StandsBehind, IsSessionOf}
 use Rattle.vic_session.specs.Running.{Greeted, JudgedHello, JudgedBye, Unanswered, PrintsBye, Parted, Left}
-use Rattle.vic_session.proofs.Told.{all_front, all_is_front, none_sent}
 use Rattle.vic_session.proofs.Extends.{extends_hears}
 use Rattle.vic_session.proofs.Short.{talk_there, reaches_on, reaches_step, reaches_behind, reaches_hears}
 use Rattle.vic_session.proofs.Steps.{sent_step}
-use Rattle.vic_session.proofs.Wires.{Wire, Failed, Cause, wire_start, wire_asked, wire_failed, splits_any, frames_more}
+use Rattle.vic_session.proofs.Wires.{Wire, Failed, Cause, wire_start, wire_asked, wire_failed, frames_more}
 
 abbrev end_for : WireFault → SessionEnd
 end_for fault.Link = ends.LinkFault

@@ -4,15 +4,15 @@ use Rattle.std.proofs.lemmas.Grind.{flat_map-append}
 use Rattle.vic_conn.specs.Frames.{Waits, Broken, front_of, frame_text, frames_of}
 use Rattle.vic_conn.proofs.Growing.{stays}
 use Rattle.vic_conn.proofs.Pieces.{one_by_one}
+use Rattle.vic_conn.proofs.Streams.{Splits, splits_none, splits_fed, splits_taken, splits_waits, splits_broken, splits_any}
 use Rattle.vic_ports.specs.Causes.{Rose, LeavesBehind, IsSpent}
 use Rattle.vic_ports.specs.Written.{AppendedAll, AppendedFront}
 use Rattle.vic_ports.specs.Links.{Told}
+use Rattle.vic_ports.proofs.Told.{none_read, behind_more, all_all, all_front, all_is_front, none_all}
 use Rattle.vic_session.specs.declared.wire.WireFault.{WireFault}
 use Rattle.vic_session.specs.declared.wire.WireFault.TheVariants as fault
 use Rattle.vic_session.specs.Talks.{one_of}
 use Rattle.vic_session.specs.Wires.{frames, SendsText, Receives, Asks}
-use Rattle.vic_session.proofs.Streams.{Splits, splits_none, splits_fed, splits_taken, splits_waits, splits_broken}
-use Rattle.vic_session.proofs.Told.{none_read, behind_more, all_all, all_front, all_is_front, none_all}
 
 -- these payloads were read, and this is left; these were sent; no call failed
 pub record Wire (old now : Told) (payloads : List (List ℕ)) (left : List ℕ) (sent : List (List ℕ)) : Type 0 where
@@ -27,9 +27,6 @@ wire_start old = record { read = []; took = none_read old.left; splits = splits_
 
 pub frames_more : (a b : List (List ℕ)) → frames (a ++ b) ≡ frames a ++ frames b
 frames_more a b = flat_map-append frame_text a b
-
-pub splits_any : (all : List ℕ) (ps : List (List ℕ)) (left : List ℕ) → Splits all ps left → frames_of all ≡ (ps ++ (frames_of left).0, (frames_of left).1)
-splits_any all ps left s = ap frames_of (sym (append-nil all)) ∙ s.so [] ∙ ap (λ (l : List ℕ). (ps ++ (frames_of l).0, (frames_of l).1)) (append-nil left)
 
 -- why an exchange failed, of what was sent and to be sent, the whole frames read besides and the bytes behind them
 abbrev pub Cause : WireFault → Told → Told → List ℕ → List (List ℕ) → List (List ℕ) → List ℕ → Type 0

@@ -21,7 +21,7 @@ pub enum WireFault {
 }
 
 // Sends a payload, if there is one.
-#[tactic(auto, using(crate::proofs::Told::none_sent, crate::proofs::Told::none_all, crate::proofs::Told::frames_one))]
+#[tactic(auto, using(vic_ports::proofs::Told::none_sent, vic_ports::proofs::Told::none_all, crate::proofs::Told::frames_one))]
 fn send_one<L: Link>(alloc: Global, link: &mut L, request: &Option<Bytes>) -> Result<(), WireFault>
     requires { IfSome request.now FitsFrame }
     ensures { SendsText (frames (one_of request.now)) (L.told link.old) result (L.told link.new) }

@@ -5,17 +5,18 @@ use Rattle.std.proofs.lemmas.Bool.{ltb-true, ltb-false, le-ltb, leb-true, le-leb
 use Rattle.std.proofs.lemmas.List.{take_at, drop_at, take-append-drop, length-append, length-take}
 use Rattle.std.proofs.lemmas.Nat.{be_bytes_2, be_bytes_4, from_be_bytes-to_be_bytes_2, from_be_bytes-to_be_bytes_4}
 use Rattle.vic_dict.specs.Lists.{AreBytes}
+use Rattle.vic_dict.proofs.ByteLists.{AreBytes-tail, AreBytes-drop, AreBytes-take}
 use Rattle.vic_wire.specs.declared.message.Digest32.{Digest32}
 use Rattle.vic_wire.specs.Texts.{short_text}
 use Rattle.vic_wire.specs.Messages.{IsDigest, IsNumber}
 use Rattle.vic_wire.specs.Reading.{Short, ◌>>=◌, byte_at, bytes_at, number_at, if_allowed, digest_at, short_at}
-use Rattle.vic_spellings.proofs.Steps.{bytes-rest, bytes-drop, bytes-take, bind_ok, guard_ok, allowed_ok, ok_is, Takes}
+use Rattle.vic_spellings.proofs.Steps.{bind_ok, guard_ok, allowed_ok, ok_is, Takes}
 
 -- ---- a byte
 
 pub byte_takes : (bytes : List ℕ) (x : ℕ × List ℕ) → AreBytes bytes → byte_at bytes ≡ Ok x → (bytes ≡ x.0 ∷ x.1) × (x.0 < 256) × AreBytes x.1
 byte_takes [] x fits e = absurd cc
-byte_takes (b ∷ bytes) x fits e = subst (λ (y : ℕ × List ℕ). (b ∷ bytes ≡ y.0 ∷ y.1) × (y.0 < 256) × AreBytes y.1) (ok_is (b, bytes) x e) (refl, fits 0, bytes-rest b bytes fits)
+byte_takes (b ∷ bytes) x fits e = subst (λ (y : ℕ × List ℕ). (b ∷ bytes ≡ y.0 ∷ y.1) × (y.0 < 256) × AreBytes y.1) (ok_is (b, bytes) x e) (refl, fits 0, AreBytes-tail b bytes fits)
 
 -- ---- so many bytes
 
@@ -25,7 +26,7 @@ bytes_takes n bytes x fits e =
     let long : n ≤ length bytes = ltb-false _ _ g.0 in
     let len : length (take n bytes) ≡ n = omega (arith, length-take n bytes) in
     subst (λ (y : List ℕ × List ℕ). Takes bytes y.0 y.1 × (length y.0 ≡ n) × AreBytes y.0) g.1
-    (record { parts = sym (take-append-drop n bytes); rest_fits = bytes-drop n bytes fits }, len, bytes-take n bytes fits)
+    (record { parts = sym (take-append-drop n bytes); rest_fits = AreBytes-drop n bytes fits }, len, AreBytes-take n bytes fits)
 
 pub bytes_again : (n : ℕ) (text rest : List ℕ) → length text ≡ n → bytes_at n (text ++ rest) ≡ Ok (text, rest)
 bytes_again n text rest len =
@@ -62,8 +63,8 @@ number_takes w limit wide bytes x fits e =
     let long : byte_len w ≤ length bytes = ltb-false _ _ g.0 in
     let n-is : from_be_bytes w (take (byte_len w) bytes) ≡ x.0 = ap (λ (p : ℕ × List ℕ). p.0) g.1 in
     let rest-is : drop (byte_len w) bytes ≡ x.1 = ap (λ (p : ℕ × List ℕ). p.1) g.1 in
-    let front : to_be_bytes w x.0 ≡ take (byte_len w) bytes = rw (← n-is) (wide.back (take (byte_len w) bytes) (omega (arith, length-take (byte_len w) bytes)) (bytes-take (byte_len w) bytes fits)) in
-    (record { parts = rw (front, ← rest-is) (sym (take-append-drop (byte_len w) bytes)); rest_fits = rw (← rest-is) (bytes-drop (byte_len w) bytes fits) }, rw (← n-is) (wide.below (take (byte_len w) bytes) (bytes-take (byte_len w) bytes fits)))
+    let front : to_be_bytes w x.0 ≡ take (byte_len w) bytes = rw (← n-is) (wide.back (take (byte_len w) bytes) (omega (arith, length-take (byte_len w) bytes)) (AreBytes-take (byte_len w) bytes fits)) in
+    (record { parts = rw (front, ← rest-is) (sym (take-append-drop (byte_len w) bytes)); rest_fits = rw (← rest-is) (AreBytes-drop (byte_len w) bytes fits) }, rw (← n-is) (wide.below (take (byte_len w) bytes) (AreBytes-take (byte_len w) bytes fits)))
 
 pub number_again : (w : Width) (limit : ℕ) (wide : IsWide w limit) (n : ℕ) (rest : List ℕ) → n < limit → number_at w (to_be_bytes w n ++ rest) ≡ Ok (n, rest)
 number_again w limit wide n rest lt =

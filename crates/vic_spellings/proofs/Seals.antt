@@ -4,6 +4,7 @@ use Rattle.std.specs.Int.{w32, to_be_bytes}
 use Rattle.std.proofs.lemmas.Bool.{eqb-true, eqb-false, cases_Bool}
 use Rattle.sha2.proofs.Facts256.{length-sha256}
 use Rattle.vic_dict.specs.Lists.{AreBytes}
+use Rattle.vic_dict.proofs.ByteLists.{AreBytes-replicate}
 use Rattle.vic_wire.specs.declared.message.Seal.{Seal}
 use Rattle.vic_wire.specs.Texts.{empty_text}
 use Rattle.vic_wire.specs.Hashes.{empty_root}
@@ -11,7 +12,7 @@ use Rattle.vic_wire.specs.Messages.{IsSeal, seal_field}
 use Rattle.vic_wire.specs.Reading.{FieldFault, ◌>>=◌, number_at, digest_at, seal_after, seal_at}
 use Rattle.vic_spellings.specs.Spellings.{HasBytes}
 use Rattle.vic_spellings.proofs.Steps.{bind_ok, chosen, ok_is, Takes, Takes-then}
-use Rattle.vic_spellings.proofs.Bytes.{bytes-sha256, bytes-replicate}
+use Rattle.vic_spellings.proofs.Bytes.{bytes-sha256}
 use Rattle.vic_spellings.proofs.Fields.{w32_takes, w32_again, digest_takes, digest_again}
 
 -- the seal of position 0
@@ -42,7 +43,7 @@ abbrev pub TakesSeal : ℕ → List ℕ → Seal × List ℕ → Type 0
 TakesSeal position bytes x = Takes (to_be_bytes w32 position ++ bytes) (seal_field x.0) x.1 × IsSeal x.0 × HasBytes x.0
 
 first_seal_takes : (bytes : List ℕ) → AreBytes bytes → TakesSeal 0 bytes (first_seal, bytes)
-first_seal_takes bytes fits = (record { parts = refl; rest_fits = fits }, first_is_seal, (bytes-sha256 empty_text, bytes-replicate 32 0 (omega arith)))
+first_seal_takes bytes fits = (record { parts = refl; rest_fits = fits }, first_is_seal, (bytes-sha256 empty_text, AreBytes-replicate 32 0 (omega arith)))
 
 later_seal_takes : (position : ℕ) (bytes : List ℕ) (x : Seal × List ℕ) → position < 2 ^ 32 → eqb position 0 ≡ false → AreBytes bytes
     → (digest_at bytes >>= (λ root. digest_at root.1 >>= (λ tag. Ok (record { position = position; root = root.0; tag = tag.0 }, tag.1)))) ≡ Ok x → TakesSeal position bytes x

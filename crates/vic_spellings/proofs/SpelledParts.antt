@@ -1,20 +1,20 @@
 -- Parts: what is read is what was spelled, and what is spelled is read again.
-use Rattle.std.proofs.Common.{◌≡◌, ℕ, zero, suc, ◌+◌, ◌<◌, ◌≤◌, ◌↔◌, Bool, true, false, cond, eqb, ltb, leb, ◌&&◌, List, [], ◌∷◌, ◌++◌, length, Option, Some, None, Result, Ok, Err, refl, sym, ap, subst, ◌∙◌, append_assoc, arith, inl, inr}
+use Rattle.std.proofs.Common.{◌≡◌, ℕ, zero, suc, ◌+◌, ◌<◌, ◌≤◌, Bool, true, false, cond, eqb, ltb, leb, ◌&&◌, List, [], ◌∷◌, ◌++◌, length, Some, Result, Ok, Err, refl, sym, ap, subst, ◌∙◌, append_assoc, arith, inl, inr}
 use Rattle.std.specs.Prelude.{◌==◌, if◌then◌else◌}
 use Rattle.std.specs.Int.{w16, to_be_bytes}
 use Rattle.std.proofs.lemmas.Bool.{ltb-true, leb-true, lt-ltb, le-leb, eqb-true, and_parts}
 use Rattle.std.proofs.lemmas.List.{nil_from_length, append-nil}
 use Rattle.vic_dict.specs.Lists.{AreBytes}
 use Rattle.vic_dict.specs.Dictionary.{IsKey}
-use Rattle.vic_wire.specs.declared.message.Digest32.{Digest32}
+use Rattle.vic_dict.proofs.ByteLists.{AreBytes-nil, AreBytes-tail, AreBytes-cons, AreBytes-append, AreBytes-first, AreBytes-second}
 use Rattle.vic_wire.specs.Texts.{short_text}
 use Rattle.vic_wire.specs.Trees.{Tree, Empty, Leaf, Inner, Stub}
-use Rattle.vic_wire.specs.Reading.{FieldFault, Read, ◌>>=◌, byte_at, bytes_at, number_at, digest_at, if_allowed}
+use Rattle.vic_wire.specs.Reading.{Read, ◌>>=◌, byte_at, bytes_at, number_at, digest_at, if_allowed}
 use Rattle.vic_wire.specs.Reading as reading
 use Rattle.vic_wire.specs.Parts.{Part, IsNodeFrom, IsPart, node_field, part_text, PartFault, PartRead, BadTag, BadLength, IndexNotRising, ◌then◌, place, field, length_at, text_at, leaf_at, index_at, stub_at, node_at, tree_at, at_end, part_at, if_read, read_part}
 use Rattle.vic_spellings.specs.Spellings.{PartHoldsBytes, PartsAreSpelled}
-use Rattle.vic_spellings.proofs.Steps.{bytes-nil, bytes-rest, bind_ok, allowed_ok, chosen, Takes, Takes-then, Takes-cons}
-use Rattle.vic_spellings.proofs.Bytes.{bytes-cons, bytes-append, bytes-w16}
+use Rattle.vic_spellings.proofs.Steps.{bind_ok, allowed_ok, chosen, Takes, Takes-then, Takes-cons}
+use Rattle.vic_spellings.proofs.Bytes.{bytes-w16}
 use Rattle.vic_spellings.proofs.Fields.{byte_takes, bytes_takes, bytes_again, w16_takes, w16_again, digest_takes, digest_again}
 
 -- ---- steps
@@ -26,7 +26,7 @@ then_ok (Err d) f y e = absurd cc
 then_again : {A B : Type 0} (r : Result A PartFault) (f : A → Result B PartFault) (x : A) → r ≡ Ok x → (r then f) ≡ f x
 then_again r f x e = ap (λ q. q then f) e
 
-field_ok : {A : Type 0} (all : ℕ) (left : List ℕ) (bad : ℕ → PartFault) (r : Read A) (x : A × List ℕ) → field all left bad r ≡ Ok x → r ≡ Ok x
+pub field_ok : {A : Type 0} (all : ℕ) (left : List ℕ) (bad : ℕ → PartFault) (r : Read A) (x : A × List ℕ) → field all left bad r ≡ Ok x → r ≡ Ok x
 field_ok all left bad (Ok y) x e = cc
 field_ok all left bad (Err reading.Short) x e = absurd cc
 field_ok all left bad (Err reading.Value) x e = absurd cc
@@ -244,36 +244,28 @@ part_again t h =
 pub node_in_bytes : (low : ℕ) (t : Tree) → IsNodeFrom low t → PartHoldsBytes t → AreBytes (node_field t)
 node_in_bytes low Empty h b = absurd h
 node_in_bytes low (Leaf k v) h b =
-    bytes-cons 1 (short_text k ++ short_text v) (omega arith)
-    (bytes-append (short_text k) (short_text v) (bytes-cons (length k) k (omega (arith, h.0.1)) b.0) (bytes-cons (length v) v (omega (arith, h.1)) b.1))
+    AreBytes-cons 1 (short_text k ++ short_text v) (omega arith)
+    (AreBytes-append (short_text k) (short_text v) (AreBytes-cons (length k) k (omega (arith, h.0.1)) b.0) (AreBytes-cons (length v) v (omega (arith, h.1)) b.1))
 node_in_bytes low (Inner i l r) h b =
-    bytes-cons 2 (to_be_bytes w16 i ++ node_field l ++ node_field r) (omega arith)
-    (bytes-append (to_be_bytes w16 i ++ node_field l) (node_field r) (bytes-append (to_be_bytes w16 i) (node_field l) (bytes-w16 i) (node_in_bytes (i + 1) l h.2 b.0)) (node_in_bytes (i + 1) r h.3 b.1))
-node_in_bytes low (Stub root) h b = bytes-cons 3 root (omega arith) b
-
-bytes-first : (xs ys : List ℕ) → AreBytes (xs ++ ys) → AreBytes xs
-bytes-first [] ys h = bytes-nil
-bytes-first (x ∷ xs) ys h = bytes-cons x xs (h 0) (bytes-first xs ys (bytes-rest x (xs ++ ys) h))
-
-bytes-second : (xs ys : List ℕ) → AreBytes (xs ++ ys) → AreBytes ys
-bytes-second [] ys h = h
-bytes-second (x ∷ xs) ys h = bytes-second xs ys (bytes-rest x (xs ++ ys) h)
+    AreBytes-cons 2 (to_be_bytes w16 i ++ node_field l ++ node_field r) (omega arith)
+    (AreBytes-append (to_be_bytes w16 i ++ node_field l) (node_field r) (AreBytes-append (to_be_bytes w16 i) (node_field l) (bytes-w16 i) (node_in_bytes (i + 1) l h.2 b.0)) (node_in_bytes (i + 1) r h.3 b.1))
+node_in_bytes low (Stub root) h b = AreBytes-cons 3 root (omega arith) b
 
 pub node_holds_bytes : (t : Tree) → AreBytes (node_field t) → PartHoldsBytes t
 node_holds_bytes Empty h = tt
 node_holds_bytes (Leaf k v) h =
-    let rest = bytes-rest 1 (short_text k ++ short_text v) h in
-    (bytes-rest (length k) k (bytes-first (short_text k) (short_text v) rest), bytes-rest (length v) v (bytes-second (short_text k) (short_text v) rest))
+    let rest = AreBytes-tail 1 (short_text k ++ short_text v) h in
+    (AreBytes-tail (length k) k (AreBytes-first (short_text k) (short_text v) rest), AreBytes-tail (length v) v (AreBytes-second (short_text k) (short_text v) rest))
 node_holds_bytes (Inner i l r) h =
-    let rest = bytes-rest 2 (to_be_bytes w16 i ++ node_field l ++ node_field r) h in
-    (node_holds_bytes l (bytes-second (to_be_bytes w16 i) (node_field l) (bytes-first (to_be_bytes w16 i ++ node_field l) (node_field r) rest)), node_holds_bytes r (bytes-second (to_be_bytes w16 i ++ node_field l) (node_field r) rest))
-node_holds_bytes (Stub root) h = bytes-rest 3 root h
+    let rest = AreBytes-tail 2 (to_be_bytes w16 i ++ node_field l ++ node_field r) h in
+    (node_holds_bytes l (AreBytes-second (to_be_bytes w16 i) (node_field l) (AreBytes-first (to_be_bytes w16 i ++ node_field l) (node_field r) rest)), node_holds_bytes r (AreBytes-second (to_be_bytes w16 i ++ node_field l) (node_field r) rest))
+node_holds_bytes (Stub root) h = AreBytes-tail 3 root h
 
 part_in_bytes : (t : Part) → IsPart t → PartHoldsBytes t → AreBytes (part_text t)
-part_in_bytes Empty h b = bytes-cons 1 (0 ∷ []) (omega arith) (bytes-cons 0 [] (omega arith) bytes-nil)
-part_in_bytes (Leaf k v) h b = bytes-cons 1 (node_field (Leaf k v)) (omega arith) (node_in_bytes 0 (Leaf k v) h b)
-part_in_bytes (Inner i l r) h b = bytes-cons 1 (node_field (Inner i l r)) (omega arith) (node_in_bytes 0 (Inner i l r) h b)
-part_in_bytes (Stub root) h b = bytes-cons 1 (node_field (Stub root)) (omega arith) (node_in_bytes 0 (Stub root) h b)
+part_in_bytes Empty h b = AreBytes-cons 1 (0 ∷ []) (omega arith) (AreBytes-cons 0 [] (omega arith) AreBytes-nil)
+part_in_bytes (Leaf k v) h b = AreBytes-cons 1 (node_field (Leaf k v)) (omega arith) (node_in_bytes 0 (Leaf k v) h b)
+part_in_bytes (Inner i l r) h b = AreBytes-cons 1 (node_field (Inner i l r)) (omega arith) (node_in_bytes 0 (Inner i l r) h b)
+part_in_bytes (Stub root) h b = AreBytes-cons 1 (node_field (Stub root)) (omega arith) (node_in_bytes 0 (Stub root) h b)
 
 some_is : {A : Type 0} (x y : A) → Some x ≡ Some y → x ≡ y
 some_is x y e = cc
@@ -283,5 +275,5 @@ parts_are_spelled = record {
   found = part_takes;
   again = part_again;
   once = λ t u f g e. some_is t u (sym (part_again t f) ∙ ap read_part e ∙ part_again u g);
-  in_bytes = λ t h. (λ b. node_holds_bytes t (bytes-rest 1 (node_field t) b), part_in_bytes t h);
+  in_bytes = λ t h. (λ b. node_holds_bytes t (AreBytes-tail 1 (node_field t) b), part_in_bytes t h);
 }

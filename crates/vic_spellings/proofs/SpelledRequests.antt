@@ -7,6 +7,7 @@ use Rattle.vic_dict.specs.Lists.{AreBytes}
 use Rattle.vic_dict.specs.declared.op.Op.{Op}
 use Rattle.vic_dict.specs.declared.op.Mode.{Mode}
 use Rattle.vic_dict.specs.declared.op.Mode.TheVariants as mode
+use Rattle.vic_dict.proofs.ByteLists.{AreBytes-nil}
 use Rattle.vic_wire.specs.declared.message.Digest32.{Digest32}
 use Rattle.vic_wire.specs.declared.message.ToServer.{ToServer}
 use Rattle.vic_wire.specs.declared.message.ToServer.TheVariants as ask
@@ -14,7 +15,7 @@ use Rattle.vic_wire.specs.Texts.{op_text, mode_byte, status_byte}
 use Rattle.vic_wire.specs.Messages.{IsDigest, request_text, HasRequestSpelling}
 use Rattle.vic_wire.specs.Reading.{FieldFault, Value, ◌>>=◌, byte_at, number_at, if_allowed, digest_at, op_at, if_ended, mode_of, hello_at, invoke_at, commit_at, seal_request_at, sync_at, fetch_at, request_of_kind, some_read, read_request}
 use Rattle.vic_spellings.specs.Spellings.{RequestHoldsBytes}
-use Rattle.vic_spellings.proofs.Steps.{bytes-nil, bind_ok, allowed_ok, by_kind, err_is_none, ended_ok, some_ok, ok_is, Takes, Takes-then}
+use Rattle.vic_spellings.proofs.Steps.{bind_ok, allowed_ok, by_kind, err_is_none, ended_ok, some_ok, ok_is, Takes, Takes-then}
 use Rattle.vic_spellings.proofs.Fields.{byte_takes, w32_takes, w32_again, positive_takes, digest_takes, digest_again}
 use Rattle.vic_spellings.proofs.Operations.{op_takes, op_again}
 
@@ -38,7 +39,7 @@ taken_all kind bytes text rest t e = ap (λ (r : List ℕ). kind ∷ r) (taken_w
 
 -- a byte and a text up to the end
 byte_and_whole : (bytes : List ℕ) (b : ℕ) (after text rest : List ℕ) → bytes ≡ b ∷ after → Takes after text rest → rest ≡ [] → Takes bytes (b ∷ text) []
-byte_and_whole bytes b after text rest e t f = record { parts = e ∙ ap (λ (r : List ℕ). b ∷ r) (t.parts ∙ ap (λ (r : List ℕ). text ++ r) f); rest_fits = bytes-nil }
+byte_and_whole bytes b after text rest e t f = record { parts = e ∙ ap (λ (r : List ℕ). b ∷ r) (t.parts ∙ ap (λ (r : List ℕ). text ++ r) f); rest_fits = AreBytes-nil }
 
 mode_takes : (b : ℕ) (m : Mode) → mode_of b ≡ Ok m → b ≡ mode_byte m
 mode_takes b m e =

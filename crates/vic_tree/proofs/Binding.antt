@@ -10,12 +10,12 @@ use Rattle.vic_wire.specs.Texts.{empty_text, leaf_text, inner_text}
 use Rattle.vic_tree.proofs.HashLength.{length-hash}
 use Rattle.vic_wire.specs.Trees.{Tree, Empty, Leaf, Inner, Stub, root_of, node_texts, pairs_of, tree_of, dictionary_root}
 use Rattle.vic_wire.specs.Cuts.{IsCut}
+use Rattle.vic_wire.proofs.KeyBits.{length-key_bits}
 use Rattle.vic_tree.specs.Grown.{HasKey, IsGrown, IsTree, HasByteEntries, IsSpelled, IsWhole}
 use Rattle.vic_dict.specs.Lists.{IsIn}
 use Rattle.vic_tree.specs.Binding.{Collides}
 use Rattle.std.specs.FinMap as map
 use Rattle.vic_dict.specs.Dictionary.{Dictionary}
-use Rattle.vic_tree.proofs.KeyBits.{length-key_bits}
 use Rattle.vic_tree.proofs.Lists.{HasKey-left, HasKey-right}
 use Rattle.vic_tree.proofs.Grown.{some_key, right_within}
 use Rattle.vic_tree.proofs.Stands.{has_tree}
@@ -30,7 +30,7 @@ IsIn-right [] ys x h = h
 IsIn-right (y ∷ xs) ys x h = inr (IsIn-right xs ys x h)
 
 -- two fronts of one length, of one list
-same_parts : (a b x y : List ℕ) → length a ≡ length b → a ++ x ≡ b ++ y → (a ≡ b) × (x ≡ y)
+pub same_parts : (a b x y : List ℕ) → length a ≡ length b → a ++ x ≡ b ++ y → (a ≡ b) × (x ≡ y)
 same_parts a b x y len e = (
   sym (take_at a x (length a) refl) ∙ ap (take (length a)) e ∙ take_at b y (length a) (sym len),
   sym (drop_at a x (length a) refl) ∙ ap (drop (length a)) e ∙ drop_at b y (length a) (sym len),

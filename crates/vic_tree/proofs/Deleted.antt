@@ -110,7 +110,7 @@ no_empty : IsGrown Empty → ⊥
 unfolding IsGrown
 no_empty g = g
 
-no_stub : (root : List ℕ) → IsGrown (Stub root) → ⊥
+pub no_stub : (root : List ℕ) → IsGrown (Stub root) → ⊥
 unfolding IsGrown
 no_stub root g = g
 

@@ -7,10 +7,11 @@ use Rattle.vic_tree.specs.Grown.{AgreeBelow, PartsAt, HasKey, IsGrown, IsTree, I
 use Rattle.vic_wire.specs.Trees.{Tree, Empty, Leaf, Inner, Stub, pairs_of, root_of}
 use Rattle.vic_wire.specs.Cuts.{IsCut}
 use Rattle.vic_wire.specs.Parts.{IsNodeFrom, IsPart}
-use Rattle.vic_tree.proofs.KeyBits.{length-key_bits}
+use Rattle.vic_wire.proofs.KeyBits.{length-key_bits}
 use Rattle.vic_tree.proofs.Lists.{HasKey-left, HasKey-right, HasKey-cases}
 use Rattle.vic_tree.proofs.Grown.{some_key, left_bit, right_bit, grown_agree, right_within}
 use Rattle.vic_tree.proofs.Found.{grown_left, grown_right, grown_parts}
+use Rattle.vic_tree.proofs.Deleted.{no_stub}
 
 pub is_spelled : (n : ℕ) (t : Tree) → IsNodeFrom n t → IsSpelled t
 is_spelled n Empty h = tt
@@ -90,10 +91,6 @@ short_key (Stub root) f k h = absurd h
 pub no_empty : IsGrown Empty → ⊥
 unfolding IsGrown
 no_empty g = g
-
-pub no_stub : (root : List ℕ) → IsGrown (Stub root) → ⊥
-unfolding IsGrown
-no_stub root g = g
 
 rises : (n : ℕ) (t : Tree) → IsGrown t → LeavesFit t → IndexFrom n t → IsNodeFrom n t
 rises n Empty g f h = no_empty g

@@ -6,9 +6,10 @@ use Rattle.vic_wire.specs.Bits.{key_bits, key_bit, bit_of, same_bit, shared_fron
 use Rattle.vic_dict.specs.Lists.{AreBytes}
 use Rattle.vic_tree.specs.Grown.{AgreeBelow, PartsAt, HasKey, IsGrown}
 use Rattle.vic_wire.specs.Trees.{Tree, Empty, Leaf, Inner, Stub, Pair, common_bits, side, tree_by, pairs_of}
-use Rattle.vic_tree.proofs.KeyBits.{key_bit-later, key_bit-nothing, length-key_bits}
+use Rattle.vic_wire.proofs.KeyBits.{key_bit-later, key_bit-nothing, length-key_bits}
 use Rattle.vic_tree.proofs.KeyOrder.{PartsAt-less}
 use Rattle.vic_tree.proofs.Lists.{HasKey-left, HasKey-right, HasKey-cases, IsSorted, sorted-append, side-append, side-all, side-none}
+use Rattle.vic_tree.proofs.KeyPrefixes.{true_first}
 
 -- ---- agreement
 
@@ -188,17 +189,13 @@ later i x y xs ys p = record {
   right = sym (key_bit-later y ys i) ∙ p.right;
 }
 
-first_true : (y : ℕ) (ys : List ℕ) → key_bit (y ∷ ys) 0 ≡ true
-unfolding key_bit key_bits
-first_true y ys = refl
-
 pub left_within : (a b : List ℕ) (i : ℕ) → PartsAt i a b → i < length (key_bits a)
 left_within [] b zero p = omega (arith, length-key_bits [])
 left_within [] [] (suc i) p = absurd (cross (sym (key_bit-nothing (suc i)) ∙ p.right))
   where
     cross : false ≡ true → ⊥
     cross e = cc
-left_within [] (y ∷ ys) (suc i) p = absurd (cross (sym (key_bit-nothing 0) ∙ p.same 0 (omega arith) ∙ first_true y ys))
+left_within [] (y ∷ ys) (suc i) p = absurd (cross (sym (key_bit-nothing 0) ∙ p.same 0 (omega arith) ∙ true_first y ys))
   where
     cross : false ≡ true → ⊥
     cross e = cc

@@ -2,6 +2,7 @@
 use Rattle.std.proofs.Common.{◌≡◌, ℕ, zero, suc, ◌+◌, ◌-◌, ◌*◌, ◌/◌, ◌%◌, ◌^◌, ◌<◌, ◌≤◌, Bool, true, false, List, [], ◌∷◌, ◌++◌, length, drop, get_or, refl, ap, ◌∙◌, arith, add-one, eqb}
 use Rattle.std.proofs.Math.Nat.{mod-lt}
 use Rattle.vic_wire.specs.Bits.{is_odd, bits_of_byte, key_bits, bit_of, key_bit, shared_front}
+use Rattle.vic_wire.proofs.KeyBits.{key_bit-later, key_bit-nothing, shared_front-same}
 
 -- ---- a bit by its byte
 
@@ -10,27 +11,9 @@ bit_of-left [] cs i h = absurd (omega arith)
 bit_of-left (b ∷ bs) cs zero h = refl
 bit_of-left (b ∷ bs) cs (suc i) h = bit_of-left bs cs i (omega arith)
 
-pub bit_of-right : (bs cs : List Bool) (i : ℕ) → bit_of (bs ++ cs) (length bs + i) ≡ bit_of cs i
-bit_of-right [] cs i = ap (bit_of cs) (omega arith)
-bit_of-right (b ∷ bs) cs i = ap (bit_of (b ∷ (bs ++ cs))) {x = suc (length bs) + i} {y = suc (length bs + i)} (omega arith) ∙ bit_of-right bs cs i
-
-pub key_bit-later : (b : ℕ) (key : List ℕ) (i : ℕ) → key_bit (b ∷ key) (9 + i) ≡ key_bit key i
-unfolding key_bit key_bits bits_of_byte
-key_bit-later b key i = bit_of-right (true ∷ bits_of_byte b) (key_bits key) i
-
 pub key_bit-first : (b : ℕ) (key : List ℕ) (i : ℕ) → i < 9 → key_bit (b ∷ key) i ≡ bit_of (true ∷ bits_of_byte b) i
 unfolding key_bit key_bits bits_of_byte
 key_bit-first b key i h = bit_of-left (true ∷ bits_of_byte b) (key_bits key) i h
-
-pub key_bit-nothing : (i : ℕ) → key_bit [] i ≡ false
-unfolding key_bit key_bits
-key_bit-nothing zero = refl
-key_bit-nothing (suc i) = refl
-
-pub length-key_bits : (key : List ℕ) → length (key_bits key) ≡ 9 * length key + 1
-unfolding key_bits bits_of_byte
-length-key_bits [] = refl
-length-key_bits (b ∷ key) = omega (arith, length-key_bits key)
 
 -- bit i of a key lies in the byte i / 9
 pub key_bit-at : (key : List ℕ) (q r : ℕ) → r < 9 → q < length key → key_bit key (9 * q + r) ≡ bit_of (true ∷ bits_of_byte (get_or key q 0)) r
@@ -70,12 +53,6 @@ drop-bits b (suc (suc (suc (suc (suc zero))))) h = refl
 drop-bits b (suc (suc (suc (suc (suc (suc zero)))))) h = refl
 drop-bits b (suc (suc (suc (suc (suc (suc (suc zero))))))) h = refl
 drop-bits b (suc (suc (suc (suc (suc (suc (suc (suc n)))))))) h = absurd (omega arith)
-
-shared_front-same : (b c : Bool) (bs cs : List Bool) → b ≡ c → length (shared_front (b ∷ bs) (c ∷ cs)) ≡ suc (length (shared_front bs cs))
-shared_front-same true true bs cs e = refl
-shared_front-same false false bs cs e = refl
-shared_front-same true false bs cs e = cc
-shared_front-same false true bs cs e = cc
 
 shared_front-differ : (g h : ℕ) (bs cs : List Bool) → g < 2 → h < 2 → (g ≡ h → ⊥) → length (shared_front (eqb g 1 ∷ bs) (eqb h 1 ∷ cs)) ≡ 0
 shared_front-differ zero zero bs cs p q e = absurd (e refl)

@@ -12,15 +12,11 @@ use Rattle.std.specs.Cmp.{nat_cmp_is, ranks}
 use Rattle.std.specs.Cmp.Lexicographic.{slice_cmp}
 use Rattle.std.specs.FinMap.{nat_cmp-IsAntisymmetric}
 use Rattle.vic_wire.specs.Bits.{is_odd, bits_of_byte, key_bits, bit_of, key_bit, shared_front, shared_bits}
+use Rattle.vic_wire.proofs.KeyBits.{bit_of-right}
 use Rattle.vic_tree.specs.Grown.{bit_cmp, PartsAt}
 use Rattle.vic_dict.specs.Lists.{AreBytes}
-use Rattle.vic_tree.proofs.KeyBits.{bit_of-left, bit_of-right}
-
-pub AreBytes-rest : (x : ℕ) (xs : List ℕ) → AreBytes (x ∷ xs) → AreBytes xs
-AreBytes-rest x xs h = λ i. h (suc i)
-
-pub AreBytes-first : (x : ℕ) (xs : List ℕ) → AreBytes (x ∷ xs) → x < 256
-AreBytes-first x xs h = h 0
+use Rattle.vic_dict.proofs.ByteLists.{AreBytes-tail}
+use Rattle.vic_tree.proofs.KeyBits.{bit_of-left}
 
 -- ---- the order of bytes
 
@@ -89,7 +85,7 @@ bit_order [] (y ∷ ys) h g = refl
 bit_order (x ∷ xs) [] h g = refl
 bit_order (x ∷ xs) (y ∷ ys) h g =
     slice_cmp-append bit_cmp (bits_of_byte x) (bits_of_byte y) (key_bits xs) (key_bits ys) refl
-    ∙ (λ i. ordering_then (byte_order x y (h 0) (g 0) i) (bit_order xs ys (AreBytes-rest x xs h) (AreBytes-rest y ys g) i))
+    ∙ (λ i. ordering_then (byte_order x y (h 0) (g 0) i) (bit_order xs ys (AreBytes-tail x xs h) (AreBytes-tail y ys g) i))
 
 bit_cmp-same : (b c : Bool) → bit_cmp b c ≡ Equal → b ≡ c
 bit_cmp-same true true e = refl
@@ -167,7 +163,7 @@ same_or_part (x ∷ xs) (y ∷ ys) h g =
     elim (same_or_differ (true ∷ bits_of_byte x) (true ∷ bits_of_byte y) (key_bits xs) (key_bits ys) refl) [
       | inl q ↦
           let e = same_byte x y (h 0) (g 0) (ap rest q) in
-          elim (same_or_part xs ys (AreBytes-rest x xs h) (AreBytes-rest y ys g)) [
+          elim (same_or_part xs ys (AreBytes-tail x xs h) (AreBytes-tail y ys g)) [
             | inl r ↦ inl (λ i. e i ∷ r i)
             | inr d ↦
                 let n = sym (length-shared_front-front (true ∷ bits_of_byte x) (key_bits xs) (key_bits ys)) in

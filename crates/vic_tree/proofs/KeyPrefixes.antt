@@ -4,15 +4,17 @@ use Rattle.std.proofs.lemmas.Bool.{and_parts, eqb-true, eq-eqb}
 use Rattle.std.specs.Prelude.{nat_eq}
 use Rattle.std.specs.List.{starts_with}
 use Rattle.vic_wire.specs.Bits.{bits_of_byte, key_bits, bit_of, key_bit}
+use Rattle.vic_wire.proofs.KeyBits.{key_bit-later, key_bit-nothing}
 use Rattle.vic_dict.specs.Lists.{AreBytes}
+use Rattle.vic_dict.proofs.ByteLists.{AreBytes-tail}
 use Rattle.vic_tree.specs.Grown.{AgreeBelow}
-use Rattle.vic_tree.proofs.KeyBits.{key_bit-later, key_bit-first, key_bit-nothing}
-use Rattle.vic_tree.proofs.KeyOrder.{AreBytes-rest, same_byte}
+use Rattle.vic_tree.proofs.KeyBits.{key_bit-first}
+use Rattle.vic_tree.proofs.KeyOrder.{same_byte}
 
 nine : (j : ℕ) → (j < 9) ⊎ (j ≡ 9 + (j - 9))
 nine j = grind arith
 
-true_first : (y : ℕ) (ys : List ℕ) → key_bit (y ∷ ys) 0 ≡ true
+pub true_first : (y : ℕ) (ys : List ℕ) → key_bit (y ∷ ys) 0 ≡ true
 unfolding key_bit key_bits
 true_first y ys = refl
 
@@ -40,7 +42,7 @@ eight b = refl
 cross : true ≡ false → ⊥
 cross e = cc
 
-and_true : (a b : Bool) → a ≡ true → b ≡ true → a && b ≡ true
+pub and_true : (a b : Bool) → a ≡ true → b ≡ true → a && b ≡ true
 and_true a b p q = (λ i. p i && q i)
 
 pub agree_prefix : (p k : List ℕ) → AreBytes p → AreBytes k → AgreeBelow (9 * length p) p k → starts_with nat_eq k p ≡ true
@@ -52,4 +54,4 @@ agree_prefix (y ∷ p) (x ∷ k) f g s =
     let small : j < 8 = omega (arith, eight y) in
     sym (key_bit-first y p (suc j) (omega arith)) ∙ s (suc j) (omega arith) ∙ key_bit-first x k (suc j) (omega arith)) in
     let same : y ≡ x = same_byte y x (f 0) (g 0) bits in
-    and_true _ _ (eq-eqb y x same) (agree_prefix p k (AreBytes-rest y p f) (AreBytes-rest x k g) (λ j h. sym (key_bit-later y p j) ∙ s (9 + j) (omega arith) ∙ key_bit-later x k j))
+    and_true _ _ (eq-eqb y x same) (agree_prefix p k (AreBytes-tail y p f) (AreBytes-tail x k g) (λ j h. sym (key_bit-later y p j) ∙ s (9 + j) (omega arith) ∙ key_bit-later x k j))

@@ -8,10 +8,7 @@ use Rattle.vic_wire.specs.Trees.{Tree, Empty, Leaf, Inner, Stub, root_of}
 use Rattle.vic_wire.specs.Walks.{end_at, is_stub, below, least, leaf_has_prefix, is_whole, reaches}
 use Rattle.vic_wire.specs.Cuts.{IsCut, cut_at, cut_least, cut_below, cut_for}
 use Rattle.vic_tree.proofs.Cuts.{root_of-cut, cut_itself, least-cut, whole-cut}
-
-not_true : (b : Bool) → not b ≡ true → b ≡ false
-not_true true e = absurd cc
-not_true false e = refl
+use Rattle.vic_tree.proofs.Reached.{not_true}
 
 -- ---- the walk of a key
 

@@ -1,5 +1,5 @@
 -- The part that is made for an operation is a cut and reaches the operation.
-use Rattle.std.proofs.Common.{◌≡◌, ℕ, ◌*◌, Bool, true, false, cond, not, ◌&&◌, List, length, refl, sym, ap, subst, ◌∙◌, ltb}
+use Rattle.std.proofs.Common.{◌≡◌, ℕ, ◌*◌, Bool, true, false, cond, not, List, length, refl, sym, ap, subst, ◌∙◌, ltb}
 use Rattle.vic_dict.specs.declared.op.Op.{Op}
 use Rattle.vic_dict.specs.declared.op.Op.TheVariants as op
 use Rattle.vic_wire.specs.Bits.{key_bit}
@@ -10,6 +10,8 @@ use Rattle.vic_tree.specs.Grown.{IsGrown, IsTree}
 use Rattle.vic_tree.proofs.Cuts.{cut_itself, cut_stub, make_cut}
 use Rattle.vic_tree.proofs.Found.{grown_left, grown_right}
 use Rattle.vic_tree.proofs.Reached.{end_is, end_no_stub}
+use Rattle.vic_tree.proofs.Deleted.{no_stub}
+use Rattle.vic_tree.proofs.KeyPrefixes.{and_true}
 
 cut_at-cut : (k : List ℕ) (t : Tree) → IsCut (cut_at k t) t
 cut_at-cut k Empty = cut_itself Empty
@@ -79,19 +81,12 @@ grown_least (Leaf k v) g = refl
 grown_least (Inner i l r) g = grown_least l g.0
 grown_least (Stub root) g = absurd g
 
-and_true : (a b : Bool) → a ≡ true → b ≡ true → a && b ≡ true
-and_true a b p q = λ i. p i && q i
-
 grown_whole : (t : Tree) → IsGrown t → is_whole t ≡ true
 unfolding IsGrown
 grown_whole Empty g = absurd g
 grown_whole (Leaf k v) g = refl
 grown_whole (Inner i l r) g = and_true _ _ (grown_whole l g.0) (grown_whole r g.1)
 grown_whole (Stub root) g = absurd g
-
-no_stub : (root : List ℕ) → IsGrown (Stub root) → ⊥
-unfolding IsGrown
-no_stub root g = g
 
 -- what reaches asks of the prefix's node
 abbrev IsShown : List ℕ → Tree → Type 0

@@ -1,5 +1,5 @@
 -- An operation on a cut that it reaches answers as on the whole dictionary, and leaves its root.
-use Rattle.std.proofs.Common.{◌≡◌, ℕ, Bool, true, false, cond, not, T, ◌&&◌, List, [], ◌∷◌, map, Some, None, refl, sym, ap, subst, ◌∙◌, inl, inr}
+use Rattle.std.proofs.Common.{◌≡◌, ℕ, Bool, true, false, cond, not, T, List, [], ◌∷◌, map, Some, None, refl, sym, ap, subst, ◌∙◌, inl, inr}
 use Rattle.std.specs.declared.cmp.Ordering.{Ordering}
 use Rattle.std.specs.declared.cmp.Ordering.TheVariants.{Less, Equal, Greater}
 use Rattle.std.specs.Ordering.{eq_by_cmp, is_lt}
@@ -18,7 +18,7 @@ use Rattle.vic_wire.specs.Cuts.{IsCut}
 use Rattle.vic_wire.specs.Walks.{end_at, is_stub, below, least, is_whole, leaf_has_prefix, reaches, dictionary_with_pairs, walked, put_in, del_in, tree_after}
 use Rattle.vic_tree.specs.Shown.{value_at, names_below, names_in, answer_shown}
 use Rattle.vic_tree.specs.Grown.{HasKey, IsGrown, IsTree, HasByteEntries, HasByteWords, IsKeyed}
-use Rattle.vic_tree.proofs.Lists.{key_cmp, found, or_else, or_else-none, found-none, same_key, IsSorted, IsBelowAll}
+use Rattle.vic_tree.proofs.Lists.{key_cmp, found, or_else, or_else-none, found-none, same_key, IsSorted, IsBelowAll, first, second}
 use Rattle.vic_tree.proofs.Grown.{grown_sorted}
 use Rattle.vic_tree.proofs.Found.{ends_at, bytes_eq-key, is_put}
 use Rattle.vic_tree.proofs.Deleted.{tree_of_grown, is_del}
@@ -29,19 +29,11 @@ use Rattle.vic_tree.proofs.Cuts.{root_of-cut, end_at-cut, put_in-cut, del_in-cut
 cross : true ≡ false → ⊥
 cross e = cc
 
-not_true : (b : Bool) → not b ≡ true → b ≡ false
+pub not_true : (b : Bool) → not b ≡ true → b ≡ false
 not_true true e = cc
 not_true false e = refl
 
 -- ---- pairs gathered one over another
-
-first : (a b : Bool) → T (a && b) → T a
-first true b p = tt
-first false b p = p
-
-second : (a b : Bool) → T (a && b) → T b
-second true b p = p
-second false b p = absurd p
 
 less_of : (o : Ordering) → T (is_lt o) → o ≡ Less
 less_of Less p = refl

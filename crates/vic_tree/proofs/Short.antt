@@ -13,7 +13,8 @@ use Rattle.vic_wire.specs.Cuts.{cut_at, cut_least, cut_below, cut_for, cut_none}
 use Rattle.vic_wire.specs.Parts.{IsNodeFrom, node_field, part_text}
 use Rattle.vic_tree.specs.Grown.{IsGrown, IsTree, LeavesFit}
 use Rattle.vic_tree.proofs.Found.{grown_left, grown_right}
-use Rattle.vic_tree.proofs.Grammar.{no_empty, no_stub, root_length, tree_is_part}
+use Rattle.vic_tree.proofs.Grammar.{no_empty, root_length, tree_is_part}
+use Rattle.vic_tree.proofs.Deleted.{no_stub}
 
 -- what a pair and a tree weigh
 abbrev weighs_pair : Pair → ℕ

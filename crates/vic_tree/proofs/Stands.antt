@@ -1,5 +1,5 @@
 -- The tree of a dictionary, and how it changes with the dictionary.
-use Rattle.std.proofs.Common.{◌≡◌, ℕ, Bool, true, false, cond, T, ◌&&◌, List, [], ◌∷◌, length, Some, None, refl, sym, ap, subst, ◌∙◌, arith, inl, inr}
+use Rattle.std.proofs.Common.{◌≡◌, ℕ, cond, List, [], ◌∷◌, length, Some, None, refl, sym, ap, subst, ◌∙◌, arith, inl, inr}
 use Rattle.std.specs.Ordering.{eq_by_cmp}
 use Rattle.std.specs.Cmp.Lexicographic.{nat_list_cmp_total}
 use Rattle.std.specs.FinMap.{nat_cmp-IsAntisymmetric, slice_cmp-IsAntisymmetric, same_map, get-from_sorted, entries-from_sorted, entries_sorted, get-insert, get-remove, get-empty, len-entries}
@@ -11,7 +11,7 @@ use Rattle.vic_wire.specs.Trees.{Tree, Empty, Leaf, Inner, Stub, Pair, pairs_of,
 use Rattle.vic_wire.specs.Walks.{end_at, put_in, del_in}
 use Rattle.vic_tree.specs.Shown.{value_at}
 use Rattle.vic_tree.specs.Grown.{HasKey, IsTree, HasByteEntries, dictionary_of}
-use Rattle.vic_tree.proofs.Lists.{key_cmp, found, IsSorted, tied}
+use Rattle.vic_tree.proofs.Lists.{key_cmp, found, IsSorted, tied, second}
 use Rattle.vic_tree.proofs.Grown.{grown_sorted, tree_by-pairs_of}
 use Rattle.vic_tree.proofs.Found.{found-end_at, is_put}
 use Rattle.vic_tree.proofs.Deleted.{tree_of_grown, is_del}
@@ -41,10 +41,6 @@ no_pairs = refl
 
 found_nothing : (k : List ℕ) → found k (pairs_of Empty) ≡ None
 found_nothing k = refl
-
-second : (a b : Bool) → T (a && b) → T b
-second true b p = p
-second false b p = absurd p
 
 by_length : (t : Tree) → IsTree t → tree_by (length (pairs_of t)) (pairs_of t) ≡ t
 by_length Empty g = nothing_by

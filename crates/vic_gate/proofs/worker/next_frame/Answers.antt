@@ -1,7 +1,7 @@
 use Rattle.std.proofs.Common.{◌≡◌, ◌++◌, List, ℕ, take, ap, subst, ◌∙◌, Err}
 use Rattle.vic_conn.specs.Frames.{Broken, front_of}
-use Rattle.vic_gate.proofs.Told.{behind_more}
 use Rattle.vic_gate.proofs.worker.next_frame.Goals as goal
+use Rattle.vic_ports.proofs.Told.{behind_more}
 
 pub returns-in-Err-TooLong : goal.returns-in-Err-TooLong
 returns-in-Err-TooLong g c =

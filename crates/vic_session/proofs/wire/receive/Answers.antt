@@ -3,8 +3,8 @@ use Rattle.std.proofs.lemmas.Grind.{common_steps}
 use Rattle.std.proofs.lemmas.List.{length-append, length-take-le}
 use Rattle.vic_conn.specs.Frames.{Waits, Broken, front_of}
 use Rattle.vic_conn.proofs.Spelled.{fronts_are}
-use Rattle.vic_session.proofs.Told.{behind_more}
 use Rattle.vic_session.proofs.wire.receive.Goals as goal
+use Rattle.vic_ports.proofs.Told.{behind_more}
 
 pub returns-in-Err-TooLong : goal.returns-in-Err-TooLong
 returns-in-Err-TooLong g c =

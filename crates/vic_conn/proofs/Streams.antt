@@ -34,3 +34,7 @@ pub splits_broken : OneByOne → (all : List ℕ) (ps : List (List ℕ)) (left :
 splits_broken o all ps left n s front =
     ap frames_of (sym (append-nil all)) ∙ s.so [] ∙ ap (λ (l : List ℕ). (ps ++ (frames_of l).0, (frames_of l).1)) (append-nil left)
     ∙ ap (λ (f : List (List ℕ) × List ℕ). (ps ++ f.0, f.1)) (o.broken left n front) ∙ ap (λ (l : List (List ℕ)). (l, left)) (append-nil ps)
+
+-- whatever is left
+pub splits_any : (all : List ℕ) (ps : List (List ℕ)) (left : List ℕ) → Splits all ps left → frames_of all ≡ (ps ++ (frames_of left).0, (frames_of left).1)
+splits_any all ps left s = ap frames_of (sym (append-nil all)) ∙ s.so [] ∙ ap (λ (l : List ℕ). (ps ++ (frames_of l).0, (frames_of l).1)) (append-nil left)

@@ -39,3 +39,8 @@ all_front x y (Some held) mid new a b =
 pub all_is_front : (x : List ℕ) (old new : Option (List ℕ)) → AppendedAll x old new → AppendedFront x old new
 all_is_front x None new a = a
 all_is_front x (Some held) new a = (x, [], (sym (append-nil x), a))
+
+-- where nothing was written, all of no text was
+pub none_all : (held : Option (List ℕ)) → AppendedAll [] held held
+none_all None = refl
+none_all (Some l) = ap Some (sym (append-nil l))

@@ -1,5 +1,5 @@
 -- Lists of bytes, their parts and their joins.
-use Rattle.std.proofs.Common.{ℕ, zero, suc, ◌<◌, List, [], ◌∷◌, ◌++◌, take, drop, arith}
+use Rattle.std.proofs.Common.{ℕ, zero, suc, ◌<◌, List, [], ◌∷◌, ◌++◌, take, drop, replicate, arith}
 use Rattle.vic_dict.specs.Lists.{AreBytes}
 
 -- no bytes are bytes
@@ -42,3 +42,9 @@ AreBytes-first (x ∷ xs) ys h = AreBytes-cons x xs (AreBytes-head x (xs ++ ys) 
 pub AreBytes-second : (xs ys : List ℕ) → AreBytes (xs ++ ys) → AreBytes ys
 AreBytes-second [] ys h = h
 AreBytes-second (x ∷ xs) ys h = AreBytes-second xs ys (AreBytes-tail x (xs ++ ys) h)
+
+-- the same byte, so many times
+pub AreBytes-replicate : (n b : ℕ) → b < 256 → AreBytes (replicate n b)
+AreBytes-replicate zero b lt i = omega arith
+AreBytes-replicate (suc n) b lt zero = lt
+AreBytes-replicate (suc n) b lt (suc i) = AreBytes-replicate n b lt i
