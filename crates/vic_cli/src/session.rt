@@ -36,7 +36,7 @@ fn put_halt(out: &mut Bytes, alloc: Global, check: u8, hash: &Digest32) -> Resul
 {
     let digits = hex::encode(alloc, &hash.bytes)?;
     out.append(b"halted ")?;
-    put_number(out, alloc, u32::from(check))?;
+    put_number(out, u64::from(check))?;
     out.append(b" ")?;
     out.append(digits.as_bytes())?;
     out.append(b"\n")
@@ -47,7 +47,7 @@ fn put_refusal(out: &mut Bytes, alloc: Global, reason: u8) -> Result<(), NoMemor
     ensures { OnOk result (out.new ≡ out.old ++ end_line (SessionEnd.GreetingRefused reason)) }
 {
     out.append(b"greeting refused ")?;
-    put_number(out, alloc, u32::from(reason))?;
+    put_number(out, u64::from(reason))?;
     out.append(b"\n")
 }
 

@@ -35,7 +35,7 @@ pub fn put_said(
 fn put_line(out: &mut Bytes, alloc: Global, who: u8, words: &[u8]) -> Result<(), NoMemory>
     ensures { OnOk result (out.new ≡ out.old ++ line_by who words.now) }
 {
-    put_number(out, alloc, u32::from(who))?;
+    put_number(out, u64::from(who))?;
     out.append(b" ")?;
     out.append(words)?;
     out.append(b"\n")

@@ -38,11 +38,11 @@ fn state_text(alloc: Global, client: &Client) -> Result<Bytes, NoMemory>
 {
     let mut text = Bytes::new(alloc);
     text.append(b"state sealed ")?;
-    put_number(&mut text, alloc, client.sealed())?;
+    put_number(&mut text, u64::from(client.sealed()))?;
     text.append(b" length ")?;
-    put_number(&mut text, alloc, client.length())?;
+    put_number(&mut text, u64::from(client.length()))?;
     text.append(b" unsettled ")?;
-    put_number(&mut text, alloc, client.unsettled())?;
+    put_number(&mut text, u64::from(client.unsettled()))?;
     text.append(b"\n")?;
     Ok(text)
 }

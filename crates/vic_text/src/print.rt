@@ -40,11 +40,11 @@ pub fn outcome_text(alloc: Global, outcome: &Outcome) -> Result<Bytes, NoMemory>
             text.append(b"done ")?;
             put_answer(&mut text, alloc, answer)?;
         }
-        Outcome::Aborted(position) => put_numbered(&mut text, alloc, b"aborted ", *position)?,
+        Outcome::Aborted(position) => put_numbered(&mut text, b"aborted ", *position)?,
         Outcome::Refused(reason) => {
-            put_numbered(&mut text, alloc, b"refused ", u32::from(*reason))?
+            put_numbered(&mut text, b"refused ", u32::from(*reason))?
         }
-        Outcome::Halted(check) => put_numbered(&mut text, alloc, b"halted ", u32::from(*check))?,
+        Outcome::Halted(check) => put_numbered(&mut text, b"halted ", u32::from(*check))?,
     }
     Ok(text)
 }
@@ -66,22 +66,22 @@ pub fn object_text(alloc: Global, outcome: &ObjectOutcome) -> Result<Bytes, NoMe
             put_names(&mut text, alloc, names)?;
         }
         ObjectOutcome::Aborted(position) => {
-            put_numbered(&mut text, alloc, b"object aborted ", *position)?
+            put_numbered(&mut text, b"object aborted ", *position)?
         }
         ObjectOutcome::Refused(reason) => {
-            put_numbered(&mut text, alloc, b"object refused ", u32::from(*reason))?
+            put_numbered(&mut text, b"object refused ", u32::from(*reason))?
         }
     }
     Ok(text)
 }
 
-/// Appends a number in decimal.
-pub fn put_number(out: &mut Bytes, alloc: Global, number: u32) -> Result<(), NoMemory>
+/// Appends a number in decimal. It takes memory for its digits alone, where `out` has too little.
+pub fn put_number(out: &mut Bytes, number: u64) -> Result<(), NoMemory>
     ensures ok { OnOk result (out.new ≡ out.old ++ decimal number) }
     ensures err { OnErr result (out.new ≡ out.old) }
 {
-    let text = number.to_string(alloc)?;
-    out.append(text.as_bytes())
+    let mut digits = itoa::Buffer::new();
+    out.append(digits.format(number).as_bytes())
 }
 
 /// Appends bytes as a byte word.
@@ -157,7 +157,7 @@ fn bad_line_text(alloc: Global, number: u32, kind: u8) -> Result<Bytes, NoMemory
     ensures { IfOk result (λ made. made ≡ bad_line (record { number = number; kind = kind })) }
 {
     let mut text = Bytes::new(alloc);
-    put_numbered(&mut text, alloc, b"line ", number)?;
+    put_numbered(&mut text, b"line ", number)?;
     text.append(b": ")?;
     text.append(BadKind::of_number(kind).text())?;
     text.append(b"\n")?;
@@ -173,11 +173,11 @@ fn put_named(out: &mut Bytes, alloc: Global, name: &[u8], bytes: &Bytes) -> Resu
     put_word(out, alloc, bytes.as_slice())
 }
 
-fn put_numbered(out: &mut Bytes, alloc: Global, name: &[u8], number: u32) -> Result<(), NoMemory>
+fn put_numbered(out: &mut Bytes, name: &[u8], number: u32) -> Result<(), NoMemory>
     ensures ok { OnOk result (out.new ≡ out.old ++ name.now ++ decimal number) }
 {
     out.append(name)?;
-    put_number(out, alloc, number)
+    put_number(out, u64::from(number))
 }
 
 fn put_answer(out: &mut Bytes, alloc: Global, answer: &Answer) -> Result<(), NoMemory>

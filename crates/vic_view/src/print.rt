@@ -82,20 +82,12 @@ fn all_views(alloc: Global, t: &Transcript, all: &[ClientPath]) -> Result<Views,
     Ok(views)
 }
 
-/// A number that counts things in memory, in decimal digits.
-fn put_count(out: &mut Bytes, alloc: Global, number: usize) -> Result<(), NoMemory>
-    ensures ok { OnOk result (out.new ≡ out.old ++ decimal number) }
-{
-    let text = number.to_string(alloc)?;
-    out.append(text.as_bytes())
-}
-
 fn put_shown(out: &mut Bytes, alloc: Global, shown: &Shown) -> Result<(), NoMemory>
     ensures ok { OnOk result (out.new ≡ out.old ++ shown_line shown.now) }
 {
-    put_number(out, alloc, u32::from(shown.entry.client))?;
+    put_number(out, u64::from(shown.entry.client))?;
     out.append(b".")?;
-    put_number(out, alloc, shown.entry.seq)?;
+    put_number(out, u64::from(shown.entry.seq))?;
     out.append(b" ")?;
     put_op(out, alloc, &shown.entry.op)?;
     out.append(b" = ")?;
@@ -117,7 +109,7 @@ fn put_view(out: &mut Bytes, alloc: Global, client: usize, view: &[Shown]) -> Re
     ensures ok { OnOk result (out.new ≡ out.old ++ view_text client view.now) }
 {
     out.append(b"view ")?;
-    put_count(out, alloc, client)?;
+    put_number(out, client as u64)?;
     out.append(b"\n")?;
     put_shown_list(out, alloc, view)
 }
@@ -143,11 +135,11 @@ fn put_agreement(
     ensures ok { OnOk result (out.new ≡ out.old ++ agree_text one other calls) }
 {
     out.append(b"agree ")?;
-    put_count(out, alloc, one)?;
+    put_number(out, one as u64)?;
     out.append(b" ")?;
-    put_count(out, alloc, other)?;
+    put_number(out, other as u64)?;
     out.append(b" ")?;
-    put_count(out, alloc, calls)?;
+    put_number(out, calls as u64)?;
     out.append(b"\n")
 }
 

@@ -54,7 +54,7 @@ fn put_run(alloc: Global, head: &[u8], script: &[u8], out: &mut Bytes) -> Result
     out.push(b'\n')?;
     out.append(sink.inner().held().as_slice())?;
     out.append(b"status ")?;
-    put_number(out, alloc, u32::from(status.number()))?;
+    put_number(out, u64::from(status.number()))?;
     out.push(b'\n')
 }
 
