@@ -9,9 +9,10 @@ use Rattle.vic_wire.specs.declared.message.ToClient.TheVariants as say
 use Rattle.vic_wire.specs.Bits.{is_odd}
 use Rattle.vic_wire.specs.Messages.{answer_text}
 use Rattle.vic_wire.specs.Parts.{part_for, bare_part}
-use Rattle.vic_rules.specs.Client.{is_write}
-use Rattle.vic_order.specs.Order.{Server, Ordered, serve, sealed_count, ordered_at, commit_at}
+use Rattle.vic_order.specs.Order.{Server, serve}
+use Rattle.vic_order.specs.Next.{next_op}
 use Rattle.vic_order.specs.Serving.{Serving}
+use Rattle.vic_order.specs.Scenes.{or_none}
 use Rattle.vic_attacks.specs.declared.HostileKind.{HostileKind}
 use Rattle.vic_attacks.specs.declared.HostileKind.TheVariants as kind
 
@@ -63,10 +64,6 @@ or_dictionary None other = other
 abbrev pub past_dictionary : Hostile → Dictionary
 past_dictionary h = or_dictionary h.past h.going.dictionary
 
-abbrev pub or_none : Option (Option (List ℕ)) → Option (List ℕ)
-or_none (Some x) = x
-or_none None = None
-
 -- what a client was answered last, if it was
 abbrev pub told_to : List (Option (List ℕ)) → ℕ → Option (List ℕ)
 told_to told who = if nat_eq who 0 then None else or_none (slice_get told (who - 1))
@@ -110,15 +107,8 @@ op_in None = None
 abbrev pub last_op : List Tagged → Option Op
 last_op entries = op_in (slice_get entries (length entries - 1))
 
--- the operation that an Update is for: that of the first entry that isn't sealed, where it is a put or del that was committed done
-abbrev pub write_in : Option Ordered → Option Bool → Option Op
-write_in (Some o) (Some done) = if done then (if is_write o.entry.op then Some o.entry.op else None) else None
-write_in o status = None
-
-abbrev pub next_op : Server → Option Op
-next_op s = write_in (ordered_at s (sealed_count s + 1)) (commit_at s (sealed_count s + 1))
-
--- a part is cut from this dictionary: that of a Reply for the call that it answers, that of an Update for the given operation
+-- a part is cut from this dictionary: that of a Reply for the call that it answers, that of an Update for the given operation, which
+-- is to be the one that is sealed next
 abbrev pub with_part_of : Dictionary → Option Op → ToClient → ToClient
 with_part_of d next (say.Reply seal entries part) = say.Reply seal entries (part_or_bare d (last_op entries))
 with_part_of d next (say.Update seal part) = say.Update seal (part_or_bare d next)

@@ -1,7 +1,7 @@
 -- The laws of honest runs, one by one.
-use Rattle.std.specs.Prelude.{◌≡◌, ◌≢◌, ◌↔◌, ℕ, ◌+◌, ◌-◌, ◌<◌, ◌≤◌, ◌⊎◌, Bool, true, false, not, ◌&&◌, ◌||◌, List, [], ◌∷◌, ◌++◌, length, Option, Some, None, nat_eq, nat_le, min}
+use Rattle.std.specs.Prelude.{◌≡◌, ◌≢◌, ◌↔◌, ℕ, ◌+◌, ◌<◌, ◌≤◌, ◌⊎◌, Bool, true, false, not, ◌&&◌, List, [], ◌∷◌, ◌++◌, length, Option, Some, None, nat_le, min}
 use Rattle.std.specs.List.{sum_by}
-use Rattle.vic_dict.specs.declared.limits.TheConstants.{MOST_CONTENTS, MOST_CONTENT_BYTES, MOST_ENTRIES, MOST_TOLD, MOST_UNSEALED, MOST_WEIGHT}
+use Rattle.vic_dict.specs.declared.limits.TheConstants.{MOST_CONTENTS, MOST_CONTENT_BYTES, MOST_TOLD}
 use Rattle.vic_dict.specs.declared.op.Op.{Op}
 use Rattle.vic_dict.specs.declared.op.Op.TheVariants as op
 use Rattle.vic_dict.specs.declared.op.Answer.TheVariants as answer
@@ -33,7 +33,7 @@ use Rattle.vic_rules.specs.History.{IsLawful, standing, move_of, Completion, com
 use Rattle.vic_rules.specs.Views.{confirmed_calls, view_of, IsLegal, left_by, IsInRealTime, HasAll, ShowsOnlyCalls}
 use Rattle.vic_rules.specs.Trust.{IsForged}
 use Rattle.vic_laws.specs.ContentClaims.{IsStore, NoAskOf, last_put}
-use Rattle.vic_order.specs.Order.{Ordered, Server, Answered, size, sealed_count, top_seal, is_put, op_weight, weight, ordered_at, commit_at, is_kept, serve}
+use Rattle.vic_order.specs.Order.{Ordered, Server, Answered, size, sealed_count, top_seal, ordered_at, commit_at, is_kept, limit_tests, serve}
 use Rattle.vic_order.specs.Fates.{entries, fate, dictionary_by}
 use Rattle.vic_order.specs.Scenes.{Queue, Scene, SceneOf, queue_of, server_at, Event, Serves}
 use Rattle.vic_order.specs.Honest.{IsHonestRun, scene_after}
@@ -76,9 +76,7 @@ pub record ReturnsItsFate (g : Group) (log : List Ordered) (past : List TraceSte
 
 -- the number of the limit that a call would pass: entries in all, entries that aren't sealed, weight, entries that its client hasn't seen
 abbrev pub passed_limit : Server → ℕ → Op → Option ℕ
-passed_limit s known o = first_failing (
-    (4, not (nat_eq (size s) MOST_ENTRIES)) ∷ (2, not (nat_eq (size s - sealed_count s) MOST_UNSEALED)) ∷ (3, not (is_put o) || nat_le (weight s + op_weight o) MOST_WEIGHT)
-    ∷ (1, nat_le ((size s + 1) - known) MOST_TOLD) ∷ [])
+passed_limit s known o = first_failing (limit_tests s known o)
 
 -- a request that is refused was a call, and would have passed that limit
 pub record RefusedAtLimit (s : Server) (payload : List ℕ) (r : ℕ) : Type 0 where

@@ -1,7 +1,8 @@
 -- Where no answer is kept, nobody was told one.
 use Rattle.std.proofs.Common.{◌≡◌, ℕ, zero, suc, ◌-◌, true, false, nat_eq, if◌then◌else◌, List, replicate, refl}
 use Rattle.std.specs.Prelude.{Option, None, slice_get}
-use Rattle.vic_attacks.specs.Hostile.{or_none, told_to}
+use Rattle.vic_order.specs.Scenes.{or_none}
+use Rattle.vic_attacks.specs.Hostile.{told_to}
 
 abbrev pub nobody : ℕ → List (Option (List ℕ))
 nobody n = replicate n None

@@ -3,8 +3,9 @@
 ghost use Rattle.std.specs.Prelude.{◌≡◌, ◌≤◌, IfOk, OnErr};
 ghost use Rattle.vic_wire.specs.Messages.{HasSpelling, answer_text};
 ghost use Rattle.vic_order.specs.Order.{serve};
+ghost use Rattle.vic_order.specs.Next.{next_op};
 ghost use Rattle.vic_server.specs.Changes.{IsPossible, server_after, makes_change};
-ghost use Rattle.vic_attacks.specs.Hostile.{hostile_from, number, with_count, answer_as_is, with_swap, with_empty_part, with_part_of, next_op, by_going, by_going_beside_kept, by_kept, told_to, by_late_request, by_early_request, by_kind};
+ghost use Rattle.vic_attacks.specs.Hostile.{hostile_from, number, with_count, answer_as_is, with_swap, with_empty_part, with_part_of, by_going, by_going_beside_kept, by_kept, told_to, by_late_request, by_early_request, by_kind};
 ghost use Rattle.vic_hostile.specs.Served.{IsServed, server_in};
 
 use crate::changed::{with_empty_part, with_part_of, with_swap, without_last};

@@ -1,5 +1,6 @@
 pub mod Order
 pub mod Fates
 pub mod Honest
+pub mod Next
 pub mod Serving
 pub mod Scenes

@@ -219,18 +219,26 @@ ordered_next s who seq o tag =
     set_member (record s { log = record { entry = record { client = who; seq = seq; op = o }; tag = tag; sealed_then = sealed_count s } ∷ s.log })
     who (record { last = seq; stage = stage.Open (size s + 1) })
 
+-- what a call has to pass where it comes in its order: entries in all, entries that aren't sealed, weight, and entries that its
+-- client hasn't seen
+abbrev pub limit_tests : Server → ℕ → Op → List (ℕ × Bool)
+limit_tests s known o =
+    (HISTORY_FULL, not (nat_eq (size s) MOST_ENTRIES))
+    ∷ (PENDING_FULL, not (nat_eq (size s - sealed_count s) MOST_UNSEALED))
+    ∷ (WEIGHT_FULL, not (is_put o) || nat_le (weight s + op_weight o) MOST_WEIGHT)
+    ∷ (BEHIND, nat_le (size s + 1 - known) MOST_TOLD) ∷ []
+
+-- what an Invoke has to pass: its order, and then the limits
+abbrev pub invoke_tests : Server → ℕ → ℕ → ℕ → Op → List (ℕ × Bool)
+invoke_tests s who known seq o =
+    (OUT_OF_ORDER, is_ready (member s who).stage && (nat_lt (member s who).last seq && nat_le known (size s)))
+    ∷ limit_tests s known o
+
 -- a request of a client that has come in
 abbrev pub on_request : Server → ℕ → ToServer → Answered
 on_request s who (ask.Hello kind client) = answer_alone s (say.Refused OUT_OF_ORDER)
 on_request s who (ask.Invoke known seq o tag) =
-    let m = member s who in
-    let t = size s + 1 in
-    answer_by_tests s (
-    (OUT_OF_ORDER, is_ready m.stage && (nat_lt m.last seq && nat_le known (size s)))
-    ∷ (HISTORY_FULL, not (nat_eq (size s) MOST_ENTRIES))
-    ∷ (PENDING_FULL, not (nat_eq (size s - sealed_count s) MOST_UNSEALED))
-    ∷ (WEIGHT_FULL, not (is_put o) || nat_le (weight s + op_weight o) MOST_WEIGHT)
-    ∷ (BEHIND, nat_le (t - known) MOST_TOLD) ∷ [])
+    answer_by_tests s (invoke_tests s who known seq o)
     (let next = ordered_next s who seq o tag in answer_with_change next (say.Reply (top_seal s) (entries_above known next.log) (part_for s.dictionary o)))
 on_request s who (ask.Commit position done tag) =
     answer_by_tests s ((OUT_OF_ORDER, is_open_at position (member s who).stage) ∷ [])

@@ -18,7 +18,9 @@ use Rattle.vic_honest.proofs.Spoken.{TaggedBytes}
 use Rattle.vic_order.specs.Order.{Server, serve}
 use Rattle.vic_attacks.specs.declared.HostileKind.{HostileKind}
 use Rattle.vic_attacks.specs.declared.HostileKind.TheVariants as kind
-use Rattle.vic_attacks.specs.Hostile.{Hostile, hostile_from, number, is_late, or_server, kept_server, or_dictionary, past_dictionary, or_none, told_to, with_told, answer_as_is, entries_with_swap, with_swap, empty_part, with_empty_part, part_or_bare, last_op, next_op, with_part_of, without_last, by_going, by_going_beside_kept, by_kept, by_last_answer, by_late_request, is_replay, by_early_request, by_kind}
+use Rattle.vic_order.specs.Next.{next_op}
+use Rattle.vic_order.specs.Scenes.{or_none}
+use Rattle.vic_attacks.specs.Hostile.{Hostile, hostile_from, number, is_late, or_server, kept_server, or_dictionary, past_dictionary, told_to, with_told, answer_as_is, entries_with_swap, with_swap, empty_part, with_empty_part, part_or_bare, last_op, with_part_of, without_last, by_going, by_going_beside_kept, by_kept, by_last_answer, by_late_request, is_replay, by_early_request, by_kind}
 use Rattle.vic_runs.specs.Reached.{ServerHolds, IfThere, HostileHolds}
 use Rattle.vic_runs.proofs.Lists.{all-set, all-replicate}
 use Rattle.vic_runs.proofs.Keeping.{SpeaksBytes, spoken-bytes, holds-serve}

@@ -13,10 +13,9 @@ use Rattle.vic_wire.specs.Texts.{content_text}
 use Rattle.vic_order.specs.declared.Stage.TheVariants as stage
 use Rattle.vic_wire.specs.Parts.{part_for}
 use Rattle.vic_rules.specs.Client.{first_failing}
-use Rattle.vic_order.specs.Order.{Ordered, Server, Answered, answer_alone, answer_with_change, answer_by_tests, answer_unless_refused, member, size, sealed_count, ordered_at, commit_at, with_commit, with_seal, set_stage, is_ready, is_away, is_open_at, is_member, same_mode, owns_committed, turn, turn_on, top_seal, update_part, ordered_next, entries_above, is_kept, content_with, serve_read, serve}
+use Rattle.vic_order.specs.Order.{Ordered, Server, Answered, answer_alone, answer_with_change, answer_by_tests, answer_unless_refused, member, size, sealed_count, ordered_at, commit_at, with_commit, with_seal, set_stage, is_ready, is_away, is_open_at, is_member, same_mode, owns_committed, turn, turn_on, top_seal, update_part, ordered_next, entries_above, is_kept, content_with, invoke_tests, serve_read, serve}
 use Rattle.vic_change.specs.Changes.{change}
 use Rattle.vic_change.specs.declared.Change.{Change}
-use Rattle.vic_server.specs.Keeping.{invoke_tests}
 use Rattle.vic_server.specs.Replay.{KeptServer, kept_with, after_request}
 
 -- where it refuses, it is as it was, and makes no change

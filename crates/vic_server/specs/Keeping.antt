@@ -1,19 +1,18 @@
 -- What holds of a server in memory: lists have the oldest first, and an index and a counter stand beside them.
-use Rattle.std.specs.Prelude.{◌≡◌, ℕ, suc, ◌<◌, ◌≤◌, ◌+◌, ◌-◌, Bool, not, ◌&&◌, ◌||◌, List, [], ◌∷◌, length, reverse, Option, Some, None, nat_eq, nat_lt, nat_le, slice_get, if◌then◌else◌}
+use Rattle.std.specs.Prelude.{◌≡◌, ℕ, suc, ◌<◌, ◌≤◌, ◌+◌, Bool, List, length, reverse, Option, Some, None, nat_eq, slice_get, if◌then◌else◌}
 use Rattle.std.specs.List.{sum_by, AllByRecursion}
 use Rattle.std.specs.FinMap as map
-use Rattle.vic_dict.specs.declared.limits.TheConstants.{MOST_CLIENTS, MOST_ENTRIES, MOST_TOLD, MOST_UNSEALED, MOST_WEIGHT}
+use Rattle.vic_dict.specs.declared.limits.TheConstants.{MOST_CLIENTS, MOST_ENTRIES, MOST_TOLD, MOST_WEIGHT}
 use Rattle.vic_dict.specs.declared.op.Op.{Op}
 use Rattle.vic_dict.specs.declared.op.Op.TheVariants as op
 use Rattle.std.specs.Coded.{Coded}
 use Rattle.vic_dict.specs.Dictionary.{Dictionary, bytes_code}
-use Rattle.vic_wire.specs.declared.refusal.TheConstants.{BEHIND, PENDING_FULL, WEIGHT_FULL, HISTORY_FULL, OUT_OF_ORDER}
 use Rattle.vic_wire.specs.declared.message.Seal.{Seal}
 use Rattle.vic_wire.specs.declared.message.ToClient.{ToClient}
 use Rattle.vic_wire.specs.declared.message.ToClient.TheVariants as say
 use Rattle.vic_order.specs.declared.Stage.{Stage}
 use Rattle.vic_order.specs.declared.Stage.TheVariants as stage
-use Rattle.vic_order.specs.Order.{Ordered, Committed, Member, Server, commit_in, op_weight, unsealed_weight, update_part, is_ready, is_put, member, size, sealed_count, weight}
+use Rattle.vic_order.specs.Order.{Ordered, Committed, Member, Server, commit_in, op_weight, unsealed_weight, update_part, size, weight}
 
 -- what an index says of a place; nothing past its end
 abbrev pub or_nothing : Option (Option Bool) → Option Bool
@@ -68,16 +67,7 @@ abbrev pub turn_from : Seal → Dictionary → ℕ → Option Ordered → Option
 turn_from seal d who (Some o) (Some done) = if nat_eq o.entry.client who then say.Update seal (update_part d o.entry.op done) else say.Wait
 turn_from seal d who o status = say.Wait
 
--- what an Invoke has to pass
-abbrev pub invoke_tests : Server → ℕ → ℕ → ℕ → Op → List (ℕ × Bool)
-invoke_tests s who known seq o =
-    (OUT_OF_ORDER, is_ready (member s who).stage && (nat_lt (member s who).last seq && nat_le known (size s)))
-    ∷ (HISTORY_FULL, not (nat_eq (size s) MOST_ENTRIES))
-    ∷ (PENDING_FULL, not (nat_eq (size s - sealed_count s) MOST_UNSEALED))
-    ∷ (WEIGHT_FULL, not (is_put o) || nat_le (weight s + op_weight o) MOST_WEIGHT)
-    ∷ (BEHIND, nat_le (size s + 1 - known) MOST_TOLD) ∷ []
-
--- an Invoke that passes them
+-- an Invoke that passes its tests
 pub record IsAllowed (s : Server) (from : ℕ) (o : Op) : Type 0 where
   pub known : from ≤ size s
   pub room : size s < MOST_ENTRIES

@@ -2,4 +2,3 @@ pub mod Keeping
 pub mod Changes
 pub mod Causes
 pub mod Replay
-pub mod Next

@@ -4,7 +4,7 @@ ghost use Rattle.std.specs.Prelude.{◌≡◌, ◌+◌, ◌<◌, ◌≤◌, IfSo
 ghost use Rattle.vic_dict.specs.Dictionary.{Fits};
 ghost use Rattle.vic_order.specs.Order.{ordered_at, commit_at, sealed_count};
 ghost use Rattle.vic_server.specs.Changes.{server_after};
-ghost use Rattle.vic_server.specs.Next.{next_op_of, op_at, next_op};
+ghost use Rattle.vic_order.specs.Next.{write_in, write_at, next_op};
 
 use crate::change::Change;
 use crate::machine::{Machine, is_write};
@@ -13,7 +13,7 @@ use vic_dict::Op;
 
 /// An entry's operation, where it is a put or a del that was committed done.
 fn op_of(row: Option<&Row>, status: Option<bool>) -> Option<&Op>
-    ensures is { option_copied result ≡ next_op_of (option_copied row.entry) status }
+    ensures is { option_copied result ≡ write_in (option_copied row.entry) status }
     ensures fits { IfSome (option_copied result) (λ o. Fits o) }
 {
     match (row, status) {
@@ -55,7 +55,7 @@ impl Machine {
 
     pub(crate) fn op_above<'a>(&'a self, change: &'a Change, position: u32) -> Option<&'a Op>
         requires { 0 < position }
-        ensures is { option_copied result ≡ op_at (server_after self.now change.now) position }
+        ensures is { option_copied result ≡ write_at (server_after self.now change.now) position }
         ensures fits { IfSome (option_copied result) (λ o. Fits o) }
     {
         op_of(

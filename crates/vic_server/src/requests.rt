@@ -13,9 +13,9 @@ ghost use Rattle.vic_wire.specs.Parts.{part_for};
 ghost use Rattle.vic_wire.specs.Reading.{read_request};
 ghost use Rattle.vic_rules.specs.Client.{first_failing};
 ghost use Rattle.vic_server.specs.declared.change.Change.TheVariants as change;
-ghost use Rattle.vic_order.specs.Order.{is_ready, is_away, is_open_at, is_inside, is_put, same_mode, is_member, owns_committed, ordered_at, commit_at, size, sealed_count, op_weight, weight, turn, turn_on, set_stage, with_seal, member, on_request, on_hello, serve_read, serve, top_seal, entries_above};
+ghost use Rattle.vic_order.specs.Order.{is_ready, is_away, is_open_at, is_inside, is_put, same_mode, is_member, owns_committed, ordered_at, commit_at, size, sealed_count, op_weight, weight, turn, turn_on, set_stage, with_seal, member, invoke_tests, on_request, on_hello, serve_read, serve, top_seal, entries_above};
 ghost use Rattle.vic_bounds.specs.Bounds.{HasShortPart};
-ghost use Rattle.vic_server.specs.Keeping.{IsWithin, IsAllowed, invoke_tests};
+ghost use Rattle.vic_server.specs.Keeping.{IsWithin, IsAllowed};
 ghost use Rattle.vic_server.specs.Changes.{Follows, IsSeat, IsPossible, server_after, to_wait};
 ghost use Rattle.vic_server.specs.Causes.{Causes};
 

@@ -12,7 +12,7 @@ ghost use Rattle.vic_dict.specs.Dictionary.{Fits};
 ghost use Rattle.vic_order.specs.Order.{serve, size, sealed_count, weight, ordered_at};
 ghost use Rattle.vic_change.specs.Changes.{change};
 ghost use Rattle.vic_server.specs.Keeping.{pairs_weight};
-ghost use Rattle.vic_server.specs.Next.{next_op, op_at};
+ghost use Rattle.vic_order.specs.Next.{next_op, write_at};
 ghost use Rattle.vic_server.specs.Changes.{Follows, IsPossible, server_after, makes_change, to_wait};
 ghost use Rattle.vic_server.specs.Causes.{Causes};
 ghost use Rattle.vic_server.specs.declared.change.Change.TheVariants as effect;
@@ -156,7 +156,7 @@ impl Served {
     /// committed done.
     pub fn op_above<'a>(&'a self, change: &'a Effect, position: u32) -> Option<&'a Op>
         requires { 0 < position }
-        ensures is { option_copied result ≡ op_at (server_after self.now.server change.now) position }
+        ensures is { option_copied result ≡ write_at (server_after self.now.server change.now) position }
         ensures next { position ≡ sealed_count (server_after self.now.server change.now) + 1 → option_copied result ≡ next_op (server_after self.now.server change.now) }
         ensures fits { IfSome (option_copied result) (λ o. Fits o) }
     {
