@@ -24,7 +24,7 @@ use Rattle.vic_client.specs.declared.pending.Pending.{Pending}
 use Rattle.vic_client.specs.Kept.{KeptClient, StandsFor, IsSameClient, is_idle, kept_move}
 use Rattle.vic_client.specs.Kept.{kept_group}
 use Rattle.vic_client.specs.Shows.{Shows}
-use Rattle.vic_client.specs.Pending.{after_keeping, after_forgetting, but_newest, phase_turned, IsSoundKept, IsPendingOf}
+use Rattle.vic_client.specs.Pending.{after_keeping, after_forgetting, but_newest, phase_turned, IsSoundKept, IsPendingOf, HasPending}
 use Rattle.vic_client.specs.Sound.{OwnWithin, PhaseFits}
 use Rattle.vic_client.specs.Hearing.{IsSoundState, kept_of_state, IsPendingIn, StandsIn, Hears}
 use Rattle.vic_client.proofs.Moved.{payload_halted, own_grows, own_joins}
@@ -92,6 +92,10 @@ same_kept effect.Ends old new back = record { id = ap (λ (c : KeptClient). c.id
 same_kept (effect.Replies n position root turned) old new back = record { id = ap (λ (c : KeptClient). c.id) back; group = ap kept_group back }
 same_kept (effect.Seals position root) old new back = record { id = ap (λ (c : KeptClient). c.id) back; group = ap kept_group back }
 same_kept (effect.Lists n position root) old new back = record { id = ap (λ (c : KeptClient). c.id) back; group = ap kept_group back }
+
+-- a step that is pending is one that its client has pending
+pub has_pending : (was c : KeptClient) (p : Pending) (given : Input) → IsPendingOf was p c given → HasPending p.effect c
+has_pending was c p given pends = record { was = was; step = p.step; given = given; pends = pends }
 
 -- once it is kept, the client stands for where the move leads
 pub stands_kept : (old mid new : KeptClient) (p : Pending) (given : Input) (s : Standing) → IsPendingOf old p mid given → new ≡ after_keeping p.effect mid → StandsFor old s

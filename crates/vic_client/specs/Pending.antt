@@ -10,6 +10,7 @@ use Rattle.vic_chain.specs.Held.{Held, held_length, held_sealed_at, held_cut_to}
 use Rattle.vic_client.specs.declared.pending.Effect.{Effect}
 use Rattle.vic_client.specs.declared.pending.Effect.TheVariants as effect
 use Rattle.vic_client.specs.declared.pending.Pending.{Pending}
+use Rattle.vic_client.specs.declared.step.Step.{Step}
 use Rattle.vic_client.specs.Kept.{KeptClient, StandsFor, IsSameClient, kept_move}
 use Rattle.vic_client.specs.Shows.{Shows}
 use Rattle.vic_client.specs.Sound.{IsSound, PhaseFits}
@@ -76,6 +77,14 @@ pub record IsPendingOf (old : KeptClient) (p : Pending) (new : KeptClient) (give
   pub back : after_forgetting p.effect new ≡ old
   pub same : IsSameClient old (after_keeping p.effect new)
   pub shows : (s : Standing) → StandsFor old s → Shows old p.step (after_keeping p.effect new) (kept_move old s given)
+
+-- the client has a step with this effect pending, of some client at some input: to forget it leads to that client, and to keep it
+-- is the rule's move from there
+pub record HasPending (e : Effect) (c : KeptClient) : Type 0 where
+  pub was : KeptClient
+  pub step : Step
+  pub given : Input
+  pub pends : IsPendingOf was (record { step = step; effect = e }) c given
 
 -- a payload fits a frame, and an envelope in a frame: it isn't empty, and it is no longer than this
 abbrev pub FitsFrame : List ℕ → Type 0

@@ -12,7 +12,7 @@ ghost use Rattle.vic_rules.specs.declared.trace.Input.TheVariants as input;
 ghost use Rattle.vic_client.specs.Sound.{PhaseFits};
 ghost use Rattle.vic_client.specs.Kept.{StandsFor, IsSameClient, is_idle, kept_group, kept_move, sent_at};
 ghost use Rattle.vic_client.specs.Shows.{Shows};
-ghost use Rattle.vic_client.specs.Pending.{CanKeep, CanSeal, FitsFrame, IsPendingOf, after_keeping, after_forgetting, phase_turned};
+ghost use Rattle.vic_client.specs.Pending.{CanKeep, CanSeal, FitsFrame, IsPendingOf, HasPending, after_keeping, after_forgetting, phase_turned};
 
 use crate::calling::call_op;
 use crate::hearing::hear;
@@ -197,14 +197,11 @@ impl Client {
     }
 
     /// Keeps the step that is pending: it is made. It takes no memory; it costs what the entries cost that it seals.
-    pub fn keep(&mut self, pending: Pending) -> Step
-        requires { CanKeep pending.effect self.old }
-        ensures client { self.new ≡ after_keeping pending.effect self.old }
-        ensures step { result ≡ pending.step }
+    pub fn keep(&mut self, effect: Effect)
+        requires { HasPending effect self.old }
+        ensures { self.new ≡ after_keeping effect self.old }
     {
-        let Pending { step, effect } = pending;
         self.become_kept(effect);
-        step
     }
 
     // What keeping a step makes of the client.
@@ -230,10 +227,10 @@ impl Client {
                 self.proxy = Proxy::closed();
             }
             Effect::Replies {
+                length: _,
                 position,
                 root,
                 turned,
-                ..
             } => {
                 seal_to(&mut self.state, position, &root, Awaiting::Turn);
                 self.turn(turned);
@@ -242,7 +239,11 @@ impl Client {
                 seal_to(&mut self.state, position, &root, Awaiting::Turn);
                 self.state.own.drop_first();
             }
-            Effect::Lists { position, root, .. } => {
+            Effect::Lists {
+                length: _,
+                position,
+                root,
+            } => {
                 seal_to(&mut self.state, position, &root, Awaiting::Nothing);
             }
         }
@@ -260,27 +261,56 @@ impl Client {
 
     // Keeps a pending step that sends a payload: the payload.
     fn keep_sent(&mut self, pending: Pending) -> Bytes
-        requires can { CanKeep pending.effect self.old }
+        requires last { HasPending pending.effect self.old }
         requires sends { IsSome pending.step.send }
         ensures client { self.new ≡ after_keeping pending.effect self.old }
         ensures sent { Some result ≡ pending.step.send }
     {
-        self.keep(pending).send.unwrap()
+        let Pending { step, effect } = pending;
+        self.keep(effect);
+        step.send.unwrap()
     }
 
     /// Forgets the step that is pending: the client is as before it was planned or heard. It takes no memory; it costs what the
     /// entries cost that came onto the path.
-    pub fn forget(&mut self, pending: Pending)
-        requires { CanKeep pending.effect self.old }
-        ensures { self.new ≡ after_forgetting pending.effect self.old }
+    pub fn forget(&mut self, effect: Effect)
+        requires { HasPending effect self.old }
+        ensures { self.new ≡ after_forgetting effect self.old }
     {
-        match pending.effect {
-            Effect::Replies { length, .. } => {
+        self.become_forgotten(effect);
+    }
+
+    // What forgetting a step makes of the client.
+    fn become_forgotten(&mut self, effect: Effect)
+        requires { CanKeep effect self.old }
+        ensures { self.new ≡ after_forgetting effect self.old }
+    {
+        match effect {
+            Effect::Replies {
+                length,
+                position: _,
+                root: _,
+                turned: _,
+            } => {
                 self.state.window.cut_back(length);
                 self.state.own.drop_last();
             }
-            Effect::Lists { length, .. } => self.state.window.cut_back(length),
-            _ => (),
+            Effect::Lists {
+                length,
+                position: _,
+                root: _,
+            } => self.state.window.cut_back(length),
+            Effect::Stays | Effect::Halts(_) | Effect::Ends => (),
+            Effect::Asks {
+                awaiting: _,
+                calls: _,
+                turned: _,
+            } => (),
+            Effect::Awaits(_) => (),
+            Effect::Seals {
+                position: _,
+                root: _,
+            } => (),
         }
     }
 
@@ -357,7 +387,9 @@ impl Client {
         ensures err { OnErr result (self.new ≡ self.old) }
     {
         let pending = self.hear(alloc, payload)?;
-        Ok(self.keep(pending))
+        let Pending { step, effect } = pending;
+        self.keep(effect);
+        Ok(step)
     }
 
     /// Its number in the group.

@@ -6,13 +6,14 @@
 //! shows the move that the rule makes there, and stands for where it leads.
 //!
 //! Each call can be made in two phases: the step is planned or heard, which may take memory, and is then kept or forgotten, which
-//! takes none and can't fail (`IsPendingOf` of `specs/Pending.antt`).
+//! takes none and can't fail (`IsPendingOf` of `specs/Pending.antt`). One of the two has to be done, to a step that is
+//! pending in the client as it then is (`HasPending`).
 #![tactic(auto)]
 
 mod calling;
 pub mod client;
 mod hearing;
-pub mod pending;
+mod pending;
 mod sending;
 pub mod step;
 mod taking;

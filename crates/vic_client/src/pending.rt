@@ -9,8 +9,9 @@ use vic_rules::Awaiting;
 use vic_wire::Digest32;
 
 /// What becomes of a client that keeps a step. `length` is the length that its path had before the entries of the answer came
-/// onto it; `position` and `root` are those of the seal that it takes or makes.
-#[derive(Debug, Drop)]
+/// onto it; `position` and `root` are those of the seal that it takes or makes. It isn't `Drop`, and its module is private: no other
+/// crate can let it go or take it apart, so each is kept or forgotten.
+#[derive(Debug)]
 pub enum Effect {
     /// It had halted before, and nothing changes.
     Stays,
@@ -47,12 +48,13 @@ pub enum Effect {
     },
 }
 
-/// A step that a client is about to make: what it sends and returns, and what becomes of the client. It is for the client that
-/// planned or heard it, which keeps it or forgets it before it does anything else.
-#[derive(Debug, Drop)]
+/// A step that a client is about to make: what it sends and returns, and what becomes of the client. The step is its caller's. The
+/// effect is given back to the client that planned or heard it, which keeps it or forgets it before it does anything else; no
+/// caller can do neither. Both ask that it is pending in this client, as it is now (`HasPending` of `specs/Pending.antt`).
+#[derive(Debug)]
 pub struct Pending {
     pub step: Step,
-    pub(crate) effect: Effect,
+    pub effect: Effect,
 }
 
 impl Pending {

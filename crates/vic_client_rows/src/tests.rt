@@ -1,7 +1,7 @@
 use sha2::{Digest, Sha256};
 use std::alloc::Global;
 use std::test::Fail;
-use vic_client::{Client, Step};
+use vic_client::{Client, Pending, Step};
 use vic_dict::{Answer, Bytes, Mode, NoMemory, Op, Outcome};
 use vic_tag::GroupKey;
 use vic_wire::Digest32;
@@ -282,9 +282,12 @@ fn caller(alloc: Global) -> Result<Client, Fail> {
 // The client hears a payload and forgets it, and then hears it and keeps its step.
 fn hear_twice(alloc: Global, client: &mut Client, payload: &[u8]) -> Result<Step, Fail> {
     let forgotten = client.hear(alloc, payload)?;
-    client.forget(forgotten);
+    let Pending { step: _, effect } = forgotten;
+    client.forget(effect);
     let kept = client.hear(alloc, payload)?;
-    Ok(client.keep(kept))
+    let Pending { step, effect } = kept;
+    client.keep(effect);
+    Ok(step)
 }
 
 // Whether what can be asked of two clients is the same.

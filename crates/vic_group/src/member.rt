@@ -162,18 +162,18 @@ impl Member {
         ensures err { OnErr result (self.new ≡ self.old) }
         ensures stays { OnErr result (AddsNoStep transcript.old transcript.new) }
     {
-        let mut pending = self.plan(alloc, &input)?;
-        let sent = pending.step.send.take();
-        let returned = pending.step.returned.take();
-        let object = pending.step.object.take();
-        let step = Step {
-            send: sent,
-            returned,
-            object,
-        };
-        self.make(alloc, input, step, transcript)?;
-        self.client.keep(pending);
-        Ok(())
+        let pending = self.plan(alloc, &input)?;
+        let Pending { step, effect } = pending;
+        match self.make(alloc, input, step, transcript) {
+            Ok(()) => {
+                self.client.keep(effect);
+                Ok(())
+            }
+            Err(NoMemory) => {
+                self.client.forget(effect);
+                Err(NoMemory)
+            }
+        }
     }
 
     // What is printed of a client that takes a payload is appended, and its step is made.
@@ -211,22 +211,15 @@ impl Member {
         ensures stays { OnErr result (AddsNoStep transcript.old transcript.new) }
     {
         payload.are_bytes();
-        let mut pending = self.client.hear(alloc, payload.as_slice())?;
-        let sent = pending.step.send.take();
-        let returned = pending.step.returned.take();
-        let object = pending.step.object.take();
-        let step = Step {
-            send: sent,
-            returned,
-            object,
-        };
+        let pending = self.client.hear(alloc, payload.as_slice())?;
+        let Pending { step, effect } = pending;
         match self.tell(alloc, payload, step, transcript, out) {
             Ok(()) => {
-                self.client.keep(pending);
+                self.client.keep(effect);
                 Ok(())
             }
             Err(NoMemory) => {
-                self.client.forget(pending);
+                self.client.forget(effect);
                 Err(NoMemory)
             }
         }

@@ -3,7 +3,7 @@ ghost use Rattle.vic_rules.specs.Objects.{FitsObject};
 use sha2::{Digest, Sha256};
 use std::alloc::Global;
 use std::test::Fail;
-use vic_client::{Client, Step};
+use vic_client::{Client, Pending, Step};
 use vic_dict::{Answer, Bytes, Mode, NoMemory, Outcome};
 use vic_proxy::{ObjectCall, ObjectOutcome, fits};
 use vic_server::{Serve, Served};
@@ -365,7 +365,8 @@ fn ask(alloc: Global, client: &mut Client, asked: Asked) -> Result<Bytes, NoMemo
 // What the client makes of a payload. It hears it and forgets it first, and then takes it.
 fn take(alloc: Global, client: &mut Client, payload: &[u8]) -> Result<Step, NoMemory> {
     let heard = client.hear(alloc, payload)?;
-    client.forget(heard);
+    let Pending { step: _, effect } = heard;
+    client.forget(effect);
     client.take(alloc, payload)
 }
 

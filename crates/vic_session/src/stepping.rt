@@ -50,7 +50,9 @@ pub fn make_step(alloc: Global, client: &mut Client, given: Given<'_>) -> Result
     ensures err { OnErr result (client.new ≡ client.old) }
 {
     let pending = plan(alloc, client, given)?;
-    Ok(client.keep(pending))
+    let Pending { step, effect } = pending;
+    client.keep(effect);
+    Ok(step)
 }
 
 /// The request of a client that is asked for something. After want of memory the client is as before.

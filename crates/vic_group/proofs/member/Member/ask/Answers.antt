@@ -1,17 +1,28 @@
-use Rattle.std.proofs.Common.{ap, ◌∙◌}
+use Rattle.std.proofs.Common.{refl, sym, ap, subst, ◌∙◌}
 use Rattle.vic_client.specs.Kept.{KeptClient}
-use Rattle.vic_client.specs.Pending.{after_keeping}
+use Rattle.vic_client.specs.Pending.{HasPending, after_keeping}
+use Rattle.vic_client.proofs.Pendings.{has_pending}
 use Rattle.vic_group.specs.declared.member.Member.{Member}
 use Rattle.vic_group.proofs.Acting.{acts, may_ask}
 use Rattle.vic_group.proofs.member.Member.ask.Goals as goal
 
-pub returns-clause-acts : goal.returns-clause-acts
-returns-clause-acts c = λ g h i at.
+pub keep-requires : goal.keep-requires
+keep-requires c =
+    subst (λ (k : KeptClient). HasPending c.in_ok-pending.pending.effect k) (sym (ap (λ (m : Member). m.client) c.in-Ok.ensures.ok))
+    (has_pending _ _ c.in_ok-pending.pending _ c.in_ok-pending.ensures)
+
+pub forget-requires : goal.forget-requires
+forget-requires c =
+    subst (λ (k : KeptClient). HasPending c.in_ok-pending.pending.effect k) (sym (ap (λ (m : Member). m.client) c.in-Err.ensures.err))
+    (has_pending _ _ c.in_ok-pending.pending _ c.in_ok-pending.ensures)
+
+pub returns-in-Ok-clause-acts : goal.returns-in-Ok-clause-acts
+returns-in-Ok-clause-acts c = λ g h i at.
     let old = c.args.self.now in
-    let made = c.in_ok-make.ensures.ok in
-    acts g h i c.args.input old _ c.in_ok-pending.pending old.client c.take-sent.result at c.in_ok-pending.ensures c.take-sent.ensures.value (may_ask g h i old c.args.input at c.requires.idle c.requires.can)
+    let made = c.in-Ok.ensures.ok in
+    acts g h i c.args.input old _ c.in_ok-pending.pending old.client c.in_ok-pending.pending.step.send at c.in_ok-pending.ensures refl (may_ask g h i old c.args.input at c.requires.idle c.requires.can)
     (record {
-      client = c.keep.ensures.client ∙ ap (λ (k : KeptClient). after_keeping c.in_ok-pending.pending.effect k) (ap (λ (m : Member). m.client) made);
+      client = c.keep.ensures ∙ ap (λ (k : KeptClient). after_keeping c.in_ok-pending.pending.effect k) (ap (λ (m : Member). m.client) made);
       server = ap (λ (m : Member). m.server) made;
       up = ap (λ (m : Member). m.up) made;
       down = ap (λ (m : Member). m.down) made;
