@@ -15,8 +15,11 @@ use vic_wire::ToClient;
 /// Where a client stands: its path, the position of its highest seal, and the parts that it took, the oldest first.
 #[derive(Drop)]
 pub(crate) struct Stand {
+    /// All of it, the oldest first.
     pub(crate) path: Places,
+    /// 0 where nothing is sealed.
     pub(crate) sealed: usize,
+    /// Their bytes, as they came.
     pub(crate) parts: Names,
 }
 

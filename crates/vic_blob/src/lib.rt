@@ -58,8 +58,11 @@ fn copied_places(places: &BTreeMap<[u8; 32], u32>) -> Result<BTreeMap<[u8; 32], 
 /// Contents, the oldest first, and where each stands by its hash.
 #[derive(Debug, Drop)]
 pub struct Blobs {
+    /// The contents themselves.
     contents: Vec<Bytes>,
+    /// Under each hash the index of its content, from 0.
     places: BTreeMap<[u8; 32], u32>,
+    /// How many bytes the contents have in all.
     bytes: u64,
 }
 

@@ -20,7 +20,9 @@ use vic_wire::Digest32;
 /// An entry above the seal, and the hash of the path that ends with it.
 #[derive(Debug, Drop)]
 pub struct ChainedEntry {
+    /// The entry of a position.
     pub entry: Entry,
+    /// The hash of the path up to and with it.
     pub hash: Digest32,
 }
 
@@ -28,8 +30,11 @@ pub struct ChainedEntry {
 /// what stands above the seal. A path has at most 1,048,576 entries.
 #[derive(Debug, Drop)]
 pub struct Window {
+    /// The position of the highest seal.
     sealed: u32,
+    /// The root of the dictionary there.
     root: Digest32,
+    /// The hash of the path there.
     base: Digest32,
     // The newest first.
     links: VecDeque<ChainedEntry>,

@@ -113,12 +113,19 @@ impl OwnList {
 /// state stands for no client, and the clause `exact` of `judge` says nothing of it.
 #[derive(Debug, Drop)]
 pub struct State {
+    /// The client's number, from 1 to the count.
     pub id: u8,
+    /// How many clients the group has, 1 to 64.
     pub count: u8,
+    /// Whether the group has objects.
     pub mode: Mode,
+    /// The key that the clients share.
     pub key: GroupKey,
+    /// Its highest seal, and the path above it.
     pub window: Window,
+    /// Its own calls that it has decided and that aren't sealed.
     pub own: OwnList,
+    /// What answer it awaits, if one.
     pub awaiting: Awaiting,
 }
 

@@ -27,6 +27,7 @@ fn key_of(alloc: Global, word: &str) -> Result<Option<GroupKey>, NoMemory>
 {
     match GroupKey::from_hex(alloc, word) {
         Ok(key) => {
+            // For the proof alone: it tells that a key has 1 to 64 bytes.
             let _size = key.len();
             Ok(Some(key))
         }

@@ -17,8 +17,11 @@ use vic_text::word::{exact_number_of, is_name};
 /// What the words ask for.
 #[derive(Clone, Copy, Debug)]
 pub struct DrillWords {
+    /// What all is drawn from.
     pub number: u32,
+    /// 1 to 64.
     pub clients: u8,
+    /// 1 to 100,000.
     pub calls: u32,
 }
 

@@ -30,7 +30,9 @@ impl Text {
 /// A status, and the text to write before the command ends so.
 #[derive(Drop)]
 pub struct Composed {
+    /// How the command ends, if the write succeeds.
     pub status: Status,
+    /// What is to be written.
     pub text: Text,
 }
 

@@ -23,15 +23,20 @@ use vic_text::word::is_name;
 /// What the words ask for.
 #[derive(Clone, Copy, Debug)]
 pub struct Asked {
+    /// Whether the group has objects.
     pub kind: Mode,
+    /// 1 to 64.
     pub clients: u8,
+    /// How many it serves, 1 to 64.
     pub connections: u8,
 }
 
 /// What the command is about to write, and the server, where lines were served.
 #[derive(Drop)]
 struct Planned {
+    /// What is to be written, and the status.
     composed: Composed,
+    /// The server as it then stands.
     served: Option<Served>,
 }
 

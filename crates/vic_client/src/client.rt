@@ -33,9 +33,13 @@ use vic_wire::{Digest32, ToServer};
 /// sealed, what it awaits, how often it called, how far its call on objects has come, and the check at which it halted.
 #[derive(Debug, Drop)]
 pub struct Client {
+    /// What the checks look at.
     state: State,
+    /// How many calls it has made: the number of the last one.
     calls: u32,
+    /// How far its call on objects has come; closed where there is none.
     proxy: Proxy,
+    /// The number of the check at which it halted, if it did: it stays halted.
     halted: Option<u8>,
 }
 
@@ -163,6 +167,7 @@ impl Client {
         ensures sends { IfOk result (λ p. IsSome p.step.send) }
         ensures fits { IfOk result (λ p. IfSome p.step.send FitsFrame) }
     {
+        // For the proof alone: the look at the client gives what its type says.
         let _calls = self.calls;
         let sent = request_payload(alloc, &ToServer::Poll)?;
         Ok(Pending::awaits(Some(sent), Awaiting::Turn))

@@ -38,6 +38,7 @@ pub(crate) fn invoke_payload(
         → IfOk result (λ b. b ≡ request_text (request_of (state_group state.now) state.now.id s (Invokes seq op.now))) }
     ensures fits { IfOk result FitsFrame }
 {
+    // For the proof alone: a spelling has bytes.
     op.are_bytes();
     let entry = Entry {
         client: state.id,

@@ -82,7 +82,9 @@ fn is_done(outcome: &Outcome) -> bool
 /// How far a call on objects has come once its operation is decided, where it has moved; and what it returns, where it is over.
 #[derive(Debug, Drop)]
 struct Behind {
+    /// Where the call on objects then stands, if it has moved.
     turned: Option<Proxy>,
+    /// What it returns, if it is over.
     object: Option<ObjectOutcome>,
 }
 

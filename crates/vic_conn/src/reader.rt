@@ -19,7 +19,9 @@ const LENGTH_BYTES: usize = 4;
 /// bytes fed and taken, however small the pieces are.
 #[derive(Debug, Drop)]
 pub struct FrameReader {
+    /// What was fed, less what a shift has dropped.
     bytes: Vec<u8>,
+    /// How many of them were taken.
     taken: usize,
 }
 

@@ -93,10 +93,12 @@ impl Bytes {
         &self.items[place]
     }
 
-    /// What the type says of its numbers. It does nothing.
+    /// What the type says of its numbers: each is below 256. It does nothing when it runs. It is called where a proof needs
+    /// this fact: a contract sees a text as a list of numbers, which may be any.
     pub fn are_bytes(&self)
         ensures { AreBytes self.now }
     {
+        // The type's fact comes with the look at a value of it.
         let items = self.items.as_slice();
         let _len = items.len();
     }

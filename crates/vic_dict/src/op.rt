@@ -46,8 +46,11 @@ pub enum Outcome {
 /// One call in the common order: the client, its number among this client's calls (from 1 on), and the operation.
 #[derive(Debug, Drop, PartialEq, Eq)]
 pub struct Entry {
+    /// The number of the client, 1 to 64.
     pub client: u8,
+    /// The number among this client's calls, from 1 on.
     pub seq: u32,
+    /// What is called.
     pub op: Op,
 }
 
@@ -77,7 +80,7 @@ impl Op {
         }
     }
 
-    /// What the type says of the numbers of its texts. It does nothing.
+    /// What the type says of the numbers of its texts, for a proof: see `Bytes::are_bytes`. It does nothing when it runs.
     pub fn are_bytes(&self)
         ensures { AreBytesIn self.now }
     {

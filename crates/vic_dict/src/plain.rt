@@ -18,6 +18,7 @@ use std::marker::Model;
 /// a change that number.
 #[derive(Debug, Drop)]
 pub struct PlainDict {
+    /// Keys with their values; the keys rise strictly.
     rows: Vec<(Bytes, Bytes)>,
 }
 
@@ -93,6 +94,7 @@ fn is_rising(rows: &[(Bytes, Bytes)]) -> bool
     ensures bytes { IsTrue result → AreByteRows rows.now }
 {
     for i in 0..rows.len() {
+        // For the clause `bytes` alone.
         rows[i].0.are_bytes();
         rows[i].1.are_bytes();
         if i > 0 && !rows[i - 1].0.as_slice().cmp(rows[i].0.as_slice()).is_lt() {
@@ -139,6 +141,7 @@ impl PlainDict {
         ensures ok { OnOk result (self.new ≡ map.insert self.old key value) }
         ensures err { OnErr result (self.new ≡ self.old) }
     {
+        // For the proof alone: rows have bytes.
         key.are_bytes();
         value.are_bytes();
         match find_row(self.rows.as_slice(), key.as_slice()) {
@@ -257,6 +260,7 @@ impl PlainDict {
         ensures rows { OnOk result (map.entries self.new ≡ map.entries self.old ++ (key, value) ∷ []) }
         ensures err { OnErr result (self.new ≡ self.old) }
     {
+        // For the proof alone: rows have bytes.
         key.are_bytes();
         value.are_bytes();
         self.rows.push((key, value))?;

@@ -13,7 +13,9 @@ const MOST: usize = 327;
 /// A text of at most 327 bytes, on the stack. Contracts see the text.
 #[derive(Drop)]
 pub(crate) struct Draft {
+    /// The text in front; what is behind it means nothing.
     bytes: [u8; MOST],
+    /// How many bytes the text has.
     len: usize,
 }
 

@@ -17,7 +17,9 @@ const POLL: u8 = 3;
 /// A generator: the number that is drawn from, and how often each client has acted, modulo 4. Equal numbers give equal runs.
 #[derive(Debug, Drop)]
 pub struct Gen {
+    /// The number that the next draw starts from.
     x: u32,
+    /// How often clients 1, 2 and so on have acted, modulo 4.
     acts: Vec<u8>,
 }
 

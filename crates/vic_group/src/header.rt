@@ -22,7 +22,9 @@ use vic_view::Transcript;
 /// How a server misbehaves, and after how many requests, at most 1,000,000.
 #[derive(Drop)]
 pub(crate) struct Attack {
+    /// One of the seven ways, by its name in the line.
     kind: HostileKind,
+    /// How many requests are served by the rule before.
     after: u32,
 }
 
@@ -41,9 +43,13 @@ impl Model for Attack {
 /// has named them.
 #[derive(Drop)]
 pub(crate) struct Header {
+    /// By `clients` or `objects`.
     pub(crate) mode: Mode,
+    /// How many clients, 1 to 64.
     pub(crate) count: u8,
+    /// None without a `key` line: the key is 32 zero bytes.
     pub(crate) key: Option<GroupKey>,
+    /// None without a `hostile` line: the server is honest.
     pub(crate) hostile: Option<Attack>,
 }
 

@@ -24,11 +24,17 @@ use vic_view::{Input, TraceStep, Transcript};
 /// took and sent last.
 #[derive(Debug, Drop)]
 pub struct Member {
+    /// Its rule, which knows nothing of queues.
     pub client: Client,
+    /// The number of the server that serves it, from 1 on.
     pub server: u32,
+    /// Its requests that no server has served, the oldest first.
     pub up: Queue,
+    /// The answers that it hasn't taken, the oldest first.
     pub down: Queue,
+    /// The payload that it took last, for `again`.
     pub taken: Option<Bytes>,
+    /// The payload that it sent last, for `resend`.
     pub sent: Option<Bytes>,
 }
 

@@ -26,7 +26,7 @@ pub fn fits(call: &ObjectCall) -> bool
     }
 }
 
-/// What the types say of the texts' numbers. It does nothing.
+/// What the types say of the texts' numbers, for a proof: see `Bytes::are_bytes`. It does nothing when it runs.
 pub fn are_bytes(call: &ObjectCall)
     ensures { AreBytesInObject call.now }
 {

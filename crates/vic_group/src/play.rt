@@ -36,14 +36,18 @@ pub enum End {
 /// What a script's run prints, and how it ends.
 #[derive(Debug, Drop)]
 pub struct Played {
+    /// The bytes to write.
     pub text: Bytes,
+    /// Which of the ends it was: it decides the status.
     pub end: End,
 }
 
 /// A bad line: its number, from 1 on, and its kind.
 #[derive(Clone, Copy, Debug, PartialEq, Eq)]
 pub struct BadLine {
+    /// Of all lines of the script, from 1 on.
     pub number: u32,
+    /// 1 to 7, as docs/PROTOCOL.md has them.
     pub kind: u8,
 }
 

@@ -13,9 +13,13 @@ use vic_server::Serve;
 /// Servers 1 to 4, as far as they exist; the first always does.
 #[derive(Debug, Drop)]
 pub struct Servers<S> {
+    /// Server 1.
     first: S,
+    /// Server 2, once it is made.
     second: Option<S>,
+    /// Server 3, once it is made.
     third: Option<S>,
+    /// Server 4, once it is made.
     fourth: Option<S>,
 }
 

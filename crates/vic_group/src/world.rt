@@ -49,8 +49,11 @@ pub enum WorldFault {
 /// before, but for the turns of a `run` line that were done, the last of which may have been served alone.
 #[derive(Debug, Drop)]
 pub struct World<S> {
+    /// The group, and each step so far.
     transcript: Transcript,
+    /// The clients 1, 2 and so on, with their queues.
     members: Vec<Member>,
+    /// The servers that the members' numbers name.
     servers: Servers<S>,
 }
 

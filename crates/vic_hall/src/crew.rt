@@ -20,8 +20,11 @@ const MOST_THREADS: usize = 64;
 /// A connection at work: its pass, its link, and how its worker ended, once it did.
 #[derive(Drop)]
 pub struct Job<L> {
+    /// The connection's pass at the lock.
     pub pass: Pass<Recorder>,
+    /// The connection.
     pub link: L,
+    /// How its worker ended.
     pub end: WorkEnd,
 }
 

@@ -25,6 +25,7 @@ use vic_wire::ToClient;
 /// the number of connections.
 #[derive(Drop)]
 pub struct Hall {
+    /// The server with its history, behind the lock.
     lock: TurnLock<Recorder>,
 }
 
@@ -92,6 +93,7 @@ impl Hall {
     {
         let Hall { lock } = self;
         let Recorder { served } = lock.close(passes);
+        // For the proof alone.
         served.keeps_history();
         served
     }

@@ -41,6 +41,7 @@ impl Recorded for Recorder {
         who: u8,
         payload: &[u8],
     ) -> Result<ToClient, NoMemory> {
+        // For the proof alone: the replies are those after the history.
         self.served.keeps_history();
         self.served.step(alloc, seat, who, payload)
     }

@@ -26,12 +26,19 @@ const MOST_COUNTED: u32 = 2_000_001;
 /// second server, a dictionary, or an answer for each client.
 #[derive(Debug, Drop)]
 pub struct Hostile {
+    /// How it misbehaves.
     kind: HostileKind,
+    /// How many requests it serves by the rule before.
     after: u32,
+    /// How many requests have come, up to a bound.
     count: u32,
+    /// The server that goes on from the first request.
     going: Served,
+    /// A copy as it stood after the first requests, for rollback and fork.
     kept: Option<Served>,
+    /// The dictionary that was sealed then, for stale.
     past: Option<Trie>,
+    /// What each client was told last, for replay.
     told: Option<Places>,
 }
 

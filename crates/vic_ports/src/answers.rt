@@ -92,7 +92,9 @@ pub(crate) fn write_to<W: Write>(output: &mut W, piece: &[u8]) -> Put
 /// u64; and whether a read has answered that nothing is left.
 #[derive(Clone, Copy, Debug, PartialEq, Eq)]
 pub(crate) struct Tally {
+    /// Reads and writes that failed.
     pub(crate) faults: u64,
+    /// Whether nothing is left to read.
     pub(crate) ended: bool,
 }
 

@@ -74,11 +74,17 @@ impl Calls {
 /// A source over bytes in memory.
 #[derive(Debug, Drop)]
 pub struct MemorySource {
+    /// All that it has to give.
     bytes: Bytes,
+    /// How many of them were read.
     taken: usize,
+    /// The reads that are to fail.
     fails: Calls,
+    /// How many reads there were.
     calls: u64,
+    /// How many of them failed.
     faults: u64,
+    /// Whether a read has answered that nothing is left.
     ended: bool,
     ghost within: { taken ≤ length bytes },
 }
@@ -163,9 +169,13 @@ impl Source for MemorySource {
 /// A sink that holds what was written.
 #[derive(Debug, Drop)]
 pub struct MemorySink {
+    /// What was written.
     bytes: Bytes,
+    /// The writes that are to fail.
     fails: Calls,
+    /// How many writes there were.
     calls: u64,
+    /// How many of them failed.
     faults: u64,
 }
 

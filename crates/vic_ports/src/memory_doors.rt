@@ -61,9 +61,13 @@ pub struct MemoryDoors {
     waiting: Vec<MemoryLink>,
     /// Each as it came.
     came: Vec<Snapshot<MemoryLink>>,
+    /// Lines that were given back, in their order.
     returned: Lines,
+    /// The accepts that are to fail.
     fails: Calls,
+    /// How many accepts there were.
     calls: u64,
+    /// How many of them failed.
     faults: u64,
     ghost room: { vec_len came + vec_len waiting ≤ vec_capacity came },
     ghost room_back: { vec_len came + vec_len waiting ≤ vec_capacity returned.items },

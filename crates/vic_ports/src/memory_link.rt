@@ -12,12 +12,19 @@ use vic_dict::Bytes;
 /// A link over bytes in memory; its reads and writes are counted in one sequence.
 #[derive(Debug, Drop)]
 pub struct MemoryLink {
+    /// All that it has to give.
     pub(crate) bytes: Bytes,
+    /// How many of them were read.
     pub(crate) taken: usize,
+    /// What was written.
     pub(crate) written: Bytes,
+    /// The calls that are to fail.
     pub(crate) fails: Calls,
+    /// How many reads and writes there were.
     pub(crate) calls: u64,
+    /// How many of them failed.
     pub(crate) faults: u64,
+    /// Whether a read has answered that nothing is left.
     pub(crate) ended: bool,
     ghost within: { taken ≤ length bytes },
 }

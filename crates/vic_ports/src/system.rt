@@ -12,7 +12,9 @@ use std::io::{Read, Stdin, Stdout, Write};
 /// A source over a reader.
 #[derive(Drop)]
 pub struct ReadSource<R> {
+    /// What is read from.
     input: R,
+    /// Its faults, and its end.
     pub(crate) tally: Tally,
 }
 
@@ -56,7 +58,9 @@ impl<R: Read> Source for ReadSource<R> {
 /// A sink over a writer.
 #[derive(Drop)]
 pub struct WriteSink<W> {
+    /// What is written to.
     output: W,
+    /// Its faults.
     pub(crate) tally: Tally,
 }
 

@@ -16,7 +16,9 @@ use std::net::{Net, TcpListener, TcpStream};
 /// One end of a TCP connection; none where it couldn't be opened, and then every call fails.
 #[derive(Drop)]
 pub struct TcpLine {
+    /// None where it couldn't be opened.
     stream: Option<TcpStream>,
+    /// Its faults, and its end.
     tally: Tally,
 }
 
@@ -87,7 +89,9 @@ impl Link for TcpLine {
 /// at their other end.
 #[derive(Drop)]
 pub struct TcpDoors {
+    /// None where the port couldn't be opened.
     listener: Option<TcpListener>,
+    /// How many accepts failed.
     faults: u64,
 }
 

@@ -56,7 +56,8 @@ pub fn fits(call: &ObjectCall) -> bool
     }
 }
 
-/// What the type says of the numbers of the texts of a call on objects. It does nothing.
+/// What the type says of the numbers of the texts of a call on objects, for a proof: see `Bytes::are_bytes`. It does nothing
+/// when it runs.
 pub fn are_bytes(call: &ObjectCall)
     ensures { AreBytesInObject call.now }
 {

@@ -485,6 +485,7 @@ impl Pruned {
         // On a cut of a dictionary's tree it is the answer of the dictionary.
         ensures cut { IfOk result (λ a. (d : Dictionary) → HasByteKeys d → IsCut (part self.now) (tree_of d) → a ≡ reply d op.now) }
     {
+        // For the proof alone.
         are_bytes(op);
         if let Op::List(prefix) = op {
             return self.list(alloc, prefix);
@@ -574,7 +575,7 @@ fn are_listed(names: &[Bytes], prefix: &[u8]) -> bool
     true
 }
 
-// The texts of an operation are bytes.
+// The texts of an operation are bytes, for a proof: see `Bytes::are_bytes`. It does nothing when it runs.
 fn are_bytes(op: &Op)
     ensures { AreBytesIn op.now }
 {

@@ -6,7 +6,9 @@ use vic_wire::Digest32;
 /// A call that its client has decided, and whose position it hasn't sealed.
 #[derive(Debug, Drop)]
 pub struct Own {
+    /// Where its entry stands on the path, counted from 1.
     pub position: u32,
+    /// What was called.
     pub op: Op,
     /// Done, or else aborted.
     pub done: bool,

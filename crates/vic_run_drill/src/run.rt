@@ -18,10 +18,15 @@ use vic_server::Served;
 /// nothing of what has happened but that. After want of memory it goes no further.
 #[derive(Debug, Drop)]
 pub struct Drill {
+    /// Clients 1, 2 and so on, each with its message under way.
     pub seats: Vec<Seat>,
+    /// The honest server.
     pub served: Served,
+    /// What the acts are drawn from.
     pub generator: Gen,
+    /// How many calls were made so far.
     pub calls: u32,
+    /// How calls ended.
     pub tally: Tally,
 }
 

@@ -39,7 +39,9 @@ pub enum Went {
 /// A client, and what is under way for it.
 #[derive(Debug, Drop)]
 pub struct Seat {
+    /// The client.
     pub client: Client,
+    /// Its request, its answer, or nothing.
     pub under_way: UnderWay,
 }
 

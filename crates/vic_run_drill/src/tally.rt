@@ -8,8 +8,11 @@ use vic_dict::Outcome;
 /// How many calls were done, aborted and refused.
 #[derive(Clone, Copy, Debug, PartialEq, Eq)]
 pub struct Tally {
+    /// Calls with an answer.
     pub done: u32,
+    /// Calls that left nothing.
     pub aborted: u32,
+    /// Calls that were never ordered.
     pub refused: u32,
 }
 

@@ -25,6 +25,8 @@ pub enum Change {
 /// An answer, and the change that goes with it.
 #[derive(Debug, Drop)]
 pub struct Plan {
+    /// What is to be answered.
     pub answer: ToClient,
+    /// What is to become of the server, once the answer stands.
     pub change: Change,
 }

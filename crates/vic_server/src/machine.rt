@@ -35,14 +35,21 @@ pub const LONGEST_PART: usize = 8_471_265;
 /// A server of a group: its log, commits and seals, the sealed dictionary, the contents that it keeps, and where each client stands.
 #[derive(Debug, Drop)]
 pub struct Machine {
+    /// Whether the group has objects.
     mode: Mode,
+    /// The log: the entry of position 1 stands first.
     rows: Vec<Row>,
+    /// All commits, the oldest first.
     commits: Vec<Commit>,
     /// By position, how the entry there was committed; at least as long as the log.
     statuses: Vec<Option<bool>>,
+    /// The seals of positions 1, 2 and so on.
     seals: Vec<SealRow>,
+    /// What the done calls up to the last seal leave.
     dictionary: Trie,
+    /// The contents, under their hashes; empty without objects.
     blobs: Blobs,
+    /// Where the clients 1, 2 and so on stand.
     members: Vec<Seat>,
     /// Of the sealed pairs and the unsealed puts.
     weight: u64,

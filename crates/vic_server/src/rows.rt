@@ -14,7 +14,9 @@ use vic_wire::{Digest32, Seal, Tagged};
 /// An entry that was ordered, with its tag, and how many entries were sealed then.
 #[derive(Debug, Drop)]
 pub struct Row {
+    /// The entry, and the tag that its Invoke carried.
     item: Tagged,
+    /// The position of the last seal when it was ordered.
     sealed_then: u32,
 }
 
@@ -87,6 +89,7 @@ impl Row {
 /// The seal of a position above 0.
 #[derive(Debug, Drop)]
 pub struct SealRow {
+    /// With the tag as it came: the server tests none.
     seal: Seal,
 }
 
@@ -122,8 +125,11 @@ impl SealRow {
 /// How the entry of a position was committed, with the tag.
 #[derive(Debug, Drop)]
 pub struct Commit {
+    /// The position that was committed.
     pub position: u32,
+    /// Done, or else aborted.
     pub done: bool,
+    /// The tag of the commit text, as it came.
     pub tag: Digest32,
 }
 
@@ -162,7 +168,9 @@ impl Commit {
 /// The number of a client's last call, and where it stands.
 #[derive(Debug, Drop)]
 pub struct Seat {
+    /// 0 before the first call.
     last: u32,
+    /// Away, ready, open at a position, or left.
     stage: Stage,
 }
 

@@ -30,11 +30,15 @@ use vic_wire::ToClient;
 /// A server of a group, and the history of the changes that requests made.
 #[derive(Debug, Drop)]
 pub struct Served {
+    /// What the changes have led to.
     machine: Machine,
+    /// As it was made, which no change alters.
     mode: Mode,
+    /// How many clients the group has, 1 to 64.
     count: u8,
     /// Whether all clients had come in before the first request.
     gathered: bool,
+    /// All requests that changed the server, the oldest first.
     changes: Vec<Change>,
 }
 
@@ -96,7 +100,7 @@ impl Served {
         })
     }
 
-    /// What the type says: its server is what its history leads to. It does nothing.
+    /// What the type says, for a proof: its server is what its history leads to. It does nothing when it runs.
     pub fn keeps_history(&self)
         ensures { self.now.server ≡ replay self.now.opening self.now.changes }
     {

@@ -28,10 +28,15 @@ pub enum At {
 /// and what the client is at.
 #[derive(Clone, Copy)]
 pub struct Place<'a> {
+    /// The bytes behind the line.
     pub rest: &'a [u8],
+    /// Bytes of the whole script.
     pub total: usize,
+    /// Bytes up to the end of the line.
     pub behind: usize,
+    /// Of the line, from 1 on.
     pub number: u32,
+    /// What the line has the client do, as far as it isn't over.
     pub doing: At,
 }
 

@@ -30,8 +30,11 @@ pub enum KeyFault {
 /// The key that all clients of a group share: 1 to 64 bytes. Contracts see the bytes.
 #[derive(Debug, Drop)]
 pub struct GroupKey {
+    /// The bytes of the key.
     items: Vec<u8>,
+    /// SHA-256 after the key's block for the inner hash of HMAC.
     inner: Sha256,
+    /// SHA-256 after its block for the outer one.
     outer: Sha256,
 }
 

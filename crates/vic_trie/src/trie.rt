@@ -23,9 +23,13 @@ use vic_hash::Digest32;
 /// change hashes the nodes on the way to its key alone.
 #[derive(Debug, Drop)]
 pub struct Trie {
+    /// Where its nodes come from.
     alloc: Global,
+    /// None of the empty dictionary.
     top: Option<Node>,
+    /// Of all pairs: 16 and the bytes of key and value for each.
     weight: u64,
+    /// How many pairs.
     count: u32,
 }
 
@@ -176,6 +180,7 @@ impl Trie {
             fresh,
             spare,
         } = ready;
+        // For the proof alone.
         key.are_bytes();
         let long = value.len() as u64;
         match put_ready_into(&mut self.top, key.as_slice(), value, fresh, spare) {

@@ -29,6 +29,7 @@ const SERVING: usize = 1;
 /// the number of passes.
 #[derive(Drop)]
 pub struct TurnLock<V: Recorded> {
+    /// Two words, tickets drawn and turns ended, and one slot for the value.
     table: Table<V, View<V::Fixed>, About<V>, Turns, Global>,
 }
 

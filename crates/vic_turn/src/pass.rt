@@ -9,7 +9,9 @@ use std::marker::Model;
 /// What one connection steps with. Contracts see its number, and what it has seen and made.
 #[derive(Drop)]
 pub struct Pass<V: Recorded> {
+    /// From 1 on, in the order in which passes were made.
     pub(crate) number: u32,
+    /// Its place at the lock, with what it has seen.
     pub(crate) seat: Seat<V, View<V::Fixed>>,
 }
 
@@ -28,6 +30,7 @@ impl<V: Recorded> Model for Pass<V> {
 /// A copy of what a pass has seen.
 #[derive(Drop)]
 pub struct Note<V: Recorded> {
+    /// Its place at the lock, with what it has seen.
     pub(crate) seat: Seat<V, View<V::Fixed>>,
 }
 

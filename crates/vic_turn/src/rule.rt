@@ -10,7 +10,9 @@ use std::snapshot::Snapshot;
 /// What the rule is told once: the value as it was, and how many passes there are.
 #[derive(Drop)]
 pub struct About<V> {
+    /// As it was before all changes.
     pub value: Snapshot<V>,
+    /// How many passes there are.
     pub count: u32,
 }
 

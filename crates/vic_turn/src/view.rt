@@ -12,6 +12,7 @@ pub struct View<F> {
     pub told: LinkedList<LinkedList<Change>>,
     /// The numbers that it stands for, each with its changes. A note has none.
     pub held: LinkedList<(u32, LinkedList<Change>)>,
+    /// The ticket that it drew, until its turn has ended.
     pub ticket: Option<u64>,
     /// While its turn lasts, all changes.
     pub known: Option<LinkedList<Change>>,

@@ -32,8 +32,11 @@ use vic_wire::{Digest32, Seal, Tagged, ToClient};
 /// A call that a client completed: the client, its path with the call's entry last, and the outcome.
 #[derive(Drop)]
 pub(crate) struct CompletedCall {
+    /// Its number, from 1 on.
     client: u8,
+    /// The path, the oldest first.
     path: Places,
+    /// Done or aborted.
     outcome: Outcome,
 }
 

@@ -24,7 +24,9 @@ use vic_text::{put_number, put_op, put_outcome};
 /// What is printed at the end of a run, and whether some tag was taken that no client had made before.
 #[derive(Debug, Drop)]
 pub struct Printed {
+    /// The lines to print.
     pub text: Bytes,
+    /// Whether some tag was: it decides the last line and the status.
     pub forged: bool,
 }
 

@@ -17,7 +17,9 @@ use vic_wire::{Tagged, TaggedList, ToClient};
 /// A position of a client's path: the entry, and how the client completed this call here, if it did.
 #[derive(Debug, Drop)]
 pub struct Place {
+    /// The entry at this position.
     pub entry: Entry,
+    /// How the path's client completed its own call here; none for a call of another.
     pub outcome: Option<Outcome>,
 }
 
@@ -78,7 +80,9 @@ impl Places {
 /// A client's path, and how long it was when the client last completed a call.
 #[derive(Debug, Drop)]
 pub struct ClientPath {
+    /// The path, the oldest first.
     pub places: Places,
+    /// How many places it had then; 0 where it completed no call.
     pub done: usize,
 }
 

@@ -64,9 +64,13 @@ impl TraceSteps {
 /// A group's kind, how many clients it has, its key, and the steps of all its clients, the oldest first.
 #[derive(Debug, Drop)]
 pub struct Transcript {
+    /// Whether the group has objects.
     pub mode: Mode,
+    /// How many clients, 1 to 64.
     pub count: u8,
+    /// The key that the clients share.
     pub key: GroupKey,
+    /// Each step of a client, the oldest first.
     steps: TraceSteps,
 }
 

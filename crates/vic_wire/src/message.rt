@@ -9,6 +9,7 @@ use vic_dict::{Bytes, Entry, Mode, NoMemory, Op};
 /// A SHA-256 value or a tag: 32 bytes.
 #[derive(Clone, Copy, Debug, PartialEq, Eq)]
 pub struct Digest32 {
+    /// In the order in which they are written.
     pub bytes: [u8; 32],
 }
 
@@ -16,15 +17,20 @@ pub struct Digest32 {
 /// root is that of the empty dictionary and the tag is 32 zeros.
 #[derive(Clone, Copy, Debug)]
 pub struct Seal {
+    /// Counted from 1; 0 where nothing is sealed.
     pub position: u32,
+    /// The root of the dictionary that the done calls up to there leave.
     pub root: Digest32,
+    /// The tag of the seal text, by the client that sealed it.
     pub tag: Digest32,
 }
 
 /// An entry with the tag of its invoke text.
 #[derive(Debug, Drop)]
 pub struct Tagged {
+    /// The call that was ordered.
     pub entry: Entry,
+    /// The tag of its invoke text, by its client.
     pub tag: Digest32,
 }
 
