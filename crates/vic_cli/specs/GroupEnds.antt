@@ -30,7 +30,7 @@ use Rattle.vic_text.specs.Statuses.{read_fault_line, no_memory_line}
 use Rattle.vic_cli.specs.Output.{Taken, IsUnread, IsReadWhole, IsReadPast}
 use Rattle.vic_cli.specs.Command.{Command}
 
--- every line of a script is done, and this tells whether a tag was taken that no client had made before
+-- every line of a script is done, and this tells whether a tag was forged
 abbrev pub IsDone : Bool → List ℕ → Type 0
 IsDone forged script = (bad_line_of script ≡ None) × (is_forged (script_group script) (script_history script) ≡ forged)
 
@@ -52,7 +52,7 @@ Causes right t status.BadLine text = (IsReadWhole t ⊎ IsReadPast t) × IsPrint
 Causes right t status.NoMemory text = (right ≡ true) × (t.now ≡ t.before)
 Causes right t s text = ⊥
 
--- the status of a run: of its bad line, and of whether a tag was taken that no client had made before
+-- the status of a run: of its bad line, and of whether a tag was forged
 abbrev pub status_of : Option Bad → Bool → Status
 status_of (Some b) forged = status.BadLine
 status_of None false = status.Ok

@@ -91,7 +91,7 @@ abbrev pub Follows : ℕ → Trial → SceneOf Hostile → World Hostile → Lis
 Follows n (Fails kind) s w old new bad = (bad ≡ Some (record { number = n; kind = kind })) × ((new ≡ old) × ShowsScene state w s)
 Follows n (Does place text) s w old new bad = (bad ≡ None) × ((new ≡ old ++ text) × ShowsReached w place (n + 1))
 
--- how a run ends: with a bad line, or else by whether a tag was taken that no client had made before
+-- how a run ends: with a bad line, or else by whether a tag was forged
 abbrev pub end_by : Option Bad → Bool → End
 end_by (Some b) forged = end.Bad
 end_by None true = end.Forged

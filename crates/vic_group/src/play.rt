@@ -27,7 +27,7 @@ use vic_view::Transcript;
 pub enum End {
     /// Every line was done, and every tag that was taken had been made before.
     Whole,
-    /// Every line was done, and a tag was taken that no client had made before.
+    /// Every line was done, and a tag was forged: a client took it, and no client had made it before.
     Forged,
     /// A line is bad.
     Bad,

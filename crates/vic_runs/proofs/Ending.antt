@@ -16,7 +16,7 @@ use Rattle.vic_runs.specs.Prints.{IsFirstForged, FirstForgedIs, StandsIn, Prints
 
 -- ---- the first forged text
 
--- of a payload: the text isn't made, and those before it are
+-- of a payload: the text is forged, and those before it were made
 record FirstOf (made texts : List (List ℕ)) (t : List ℕ) : Type 0 where
   before : List (List ℕ)
   behind : List (List ℕ)

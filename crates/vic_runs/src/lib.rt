@@ -71,7 +71,7 @@ pub fn honest_line_is()
     ensures { HonestLineIs }
 {}
 
-/// The first step at which a text was taken that no client had made, and the first such text of its payload.
+/// The first step at which a forged text was taken, and the first such text of its payload.
 pub fn first_forged_is()
     ensures { FirstForgedIs }
 {}

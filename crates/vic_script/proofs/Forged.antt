@@ -31,7 +31,7 @@ is_among-in texts text e = let found = any_found (bytes_eq text) texts e in subs
 pub in-is_among : (texts : List (List ℕ)) (text : List ℕ) → IsIn texts text → is_among texts text ≡ true
 in-is_among texts text i = any_from (bytes_eq text) texts text i ((bytes_eq-Decides text text).1 refl)
 
--- a step that takes a text that was not made
+-- a step that takes a forged text
 abbrev TakesForged : Group → List TraceStep → TraceStep → Type 0
 TakesForged g past x = (text : List ℕ) × IsIn (texts_taken g past x) text × (IsIn (texts_made g past) text → ⊥)
 

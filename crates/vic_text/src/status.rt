@@ -8,7 +8,7 @@ ghost use Rattle.vic_text.specs.Statuses.{status_number, fixed_line};
 pub enum Status {
     /// Every line was done.
     Ok = 0,
-    /// A tag was taken that no client had made before.
+    /// A tag was forged: a client took it, and no client had made it before.
     TagsNotMade = 1,
     /// The words are none of a command.
     Usage = 2,

@@ -58,7 +58,7 @@ takes_forged_then g xs i x a hs h made same =
     ∙ ap (list_any (λ t. not (is_among (texts_made g past) t)))
     (ap (λ (ks : List Digest32). taken_with (hash_at ks) (read_by x.input x.returned)) (hashes_now g xs i x a hs h) ∙ sym (taken_at_step g [] x past (steps_to g xs i x a)))
 
--- where some text wasn't made the history is forged
+-- where some text is forged the history is
 pub forged_then : (g : Group) (xs : List TraceStep) (i : ℕ) (x : TraceStep) → IsAt g xs i x → (hs : List Digest32) → AreHashes g xs i x hs → (made : List (List ℕ)) → SameTexts made (texts_made g (reverse (take i xs)))
     → has_forged made (taken_with (hash_at hs) (read_by x.input x.returned)) ≡ true → true ≡ is_forged g (reverse xs)
 forged_then g xs i x a hs h made same found = sym (forged_at g xs i x a.within a.is (sym (takes_forged_then g xs i x a hs h made same) ∙ found))

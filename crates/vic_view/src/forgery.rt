@@ -1,4 +1,4 @@
-//! Whether some client took a text whose tag no client had made before.
+//! Whether a history is forged: whether some client took a text whose tag no client had made before.
 
 ghost use Rattle.std.specs.Prelude.{◌≡◌, ◌<◌, ◌≤◌, ◌+◌, ◌-◌, ◌↔◌, true, [], ◌∷◌, ◌++◌, map, length, replicate, IfOk, IfSome, OnOk, OnErr, slice_index_or, Some, None};
 ghost use Rattle.std.specs.List.{AllByRecursion};
@@ -299,7 +299,7 @@ pub(crate) fn note_made(
 
 // ---- what was taken
 
-/// Whether a seal's text wasn't made. That of position 0 needs no tag.
+/// Whether a seal's text is forged. That of position 0 needs no tag.
 fn is_seal_forged(
     alloc: Global,
     seal: &Seal,
@@ -320,7 +320,7 @@ fn is_seal_forged(
     Ok(!made.has(text.as_slice()))
 }
 
-/// Whether the text of some entry wasn't made.
+/// Whether the text of some entry is forged.
 fn are_entries_forged(alloc: Global, entries: &[Tagged], made: &Texts) -> Result<bool, NoMemory>
     requires { AllByRecursion IsTagged entries.now }
     ensures { IfOk result (λ b. b ≡ has_forged made.now (map (λ t. invoke_text t.entry) entries.now)) }
@@ -334,7 +334,7 @@ fn are_entries_forged(alloc: Global, entries: &[Tagged], made: &Texts) -> Result
     Ok(false)
 }
 
-/// Whether a seal's text or that of some entry wasn't made.
+/// Whether a seal's text or that of some entry is forged.
 fn are_forged(
     alloc: Global,
     seal: &Seal,
@@ -351,7 +351,7 @@ fn are_forged(
     are_entries_forged(alloc, entries, made)
 }
 
-/// Whether some text that a client took at a step wasn't made.
+/// Whether some text that a client took at a step is forged: it isn't among those that were made before.
 pub(crate) fn takes_forged(
     alloc: Global,
     step: &TraceStep,

@@ -1,5 +1,5 @@
 //! Transcripts of a group's clients, and the views that they give: what each client completed and saw confirmed, how far two
-//! views agree, and whether a client took a tag that no client had made.
+//! views agree, and whether the history is forged.
 //!
 //! A view is `view_of` of `vic_rules` (`specs/Views.antt`), which the contract of `view_of` carries. The lines that are
 //! printed are those of `vic_script` (`specs/Print.antt`), which the contract of `print_end` carries. Whether a text was taken whose

@@ -278,7 +278,7 @@ pub(crate) fn put_made(
     Ok(())
 }
 
-/// Whether some client took a text whose tag no client had made before, as `forged` tells it. It is slow on purpose: at each
+/// Whether the history is forged, as `forged` tells it. It is slow on purpose: at each
 /// step it goes through the transcript for the client's path and its hashes, and for each text that was taken through all texts
 /// that were made.
 pub fn forged_plainly(alloc: Global, t: &Transcript) -> Result<bool, NoMemory>

@@ -21,7 +21,7 @@ use vic_dict::{Bytes, NoMemory};
 use vic_rules::Shown;
 use vic_text::{put_number, put_op, put_outcome};
 
-/// What is printed at the end of a run, and whether some tag was taken that no client had made before.
+/// What is printed at the end of a run, and whether a tag was forged.
 #[derive(Debug, Drop)]
 pub struct Printed {
     /// The lines to print.

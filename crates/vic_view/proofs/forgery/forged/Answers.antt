@@ -9,7 +9,7 @@ use Rattle.vic_script.proofs.Forged.{forged_means}
 use Rattle.vic_view.specs.Transcripts.{transcript_group, transcript_history}
 use Rattle.vic_view.proofs.forgery.forged.Goals as goal
 
--- what the test answers means that a text was taken which wasn't made
+-- what the test answers means that a text was forged
 means : (g : Group) (h : List TraceStep) (r : Result Bool NoMemory) → IfOk r (λ b. b ≡ is_forged g h) → IfOk r (λ b. (b ≡ true) ↔ IsForged g h)
 means g h (Ok b) e = forged_means g h b e
 means g h (Err e) told = tt
