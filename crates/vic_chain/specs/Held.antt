@@ -8,9 +8,13 @@ use Rattle.vic_chain.specs.declared.window.ChainedEntry.{ChainedEntry}
 
 -- the highest seal (position, root, and the hash of the path there), and the entries above it with the hashes of the path
 pub record Held : Type 0 where
+  -- the position of the highest seal
   pub sealed : ℕ
+  -- the root of that seal
   pub root : List ℕ
+  -- the hash of the path there
   pub base : Digest32
+  -- the entries above it with their hashes, the newest first
   pub links : List ChainedEntry
 
 -- the length of the path

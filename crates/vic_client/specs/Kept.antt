@@ -12,15 +12,25 @@ use Rattle.vic_chain.specs.Held.{Held, ShowsPath}
 -- who it is, its group, the window of its path, its own calls that aren't sealed, what it awaits, how often it called, how far its
 -- call on objects has come, and the check at which it halted
 pub record KeptClient : Type 0 where
+  -- its number, from 1 on
   pub id : ℕ
+  -- how many clients the group has
   pub count : ℕ
+  -- plain, or with objects
   pub mode : Mode
+  -- the bytes of the group's key
   pub key : List ℕ
+  -- the highest seal, and the path above it
   pub window : Held
+  -- its own calls that aren't sealed, the oldest first
   pub own : List Own
+  -- the answer that it awaits, if one
   pub awaiting : Awaiting
+  -- how many calls it has made
   pub calls : ℕ
+  -- how far its call on objects has come
   pub phase : Phase
+  -- the check at which it halted, if it did
   pub halted : Option ℕ
 
 -- the group that it is in

@@ -9,7 +9,9 @@ use Rattle.vic_gen.specs.declared.Act.TheVariants as act
 
 -- the number, and how often each client has acted, counted modulo 4, the first client first
 pub record Drawing : Type 0 where
+  -- the number that the next draw starts from
   pub x : ℕ
+  -- how often each client has acted
   pub acts : List ℕ
 
 abbrev pub drawing_from : ℕ → ℕ → Drawing

@@ -29,28 +29,43 @@ use Rattle.vic_order.specs.declared.Stage.TheVariants as stage
 
 -- an entry that was ordered: its tag, and the sealed count when it was ordered. It never changes
 pub record Ordered : Type 0 where
+  -- the call
   pub entry : Entry
+  -- the tag of its Invoke, untested
   pub tag : Digest32
+  -- the position of the last seal when it was ordered
   pub sealed_then : ℕ
 
 -- how the entry of a position was committed
 pub record Committed : Type 0 where
+  -- counted from 1
   pub position : ℕ
+  -- done, or else aborted
   pub done : Bool
+  -- the tag of its Commit, untested
   pub tag : Digest32
 
 -- a client's last number and its stage
 pub record Member : Type 0 where
+  -- the number of its last call; 0 before the first
   pub last : ℕ
+  -- whether it is in, and whether a call of it is open
   pub stage : Stage
 
 pub record Server : Type 0 where
+  -- plain, or with objects
   pub mode : Mode
+  -- what was ordered, the newest first
   pub log : List Ordered
+  -- how entries were committed, the newest first
   pub commits : List Committed
+  -- one for each sealed position, the newest first
   pub seals : List Seal
+  -- what the done calls up to the last seal leave
   pub dictionary : Dictionary
+  -- contents that are kept, each once, the newest first
   pub contents : List (List ℕ)
+  -- what it keeps of clients 1, 2 and so on
   pub members : List Member
 
 abbrev pub away_member : Member
@@ -136,8 +151,11 @@ weight s = sum_by (λ p. length p.0 + length p.1 + 16) (map.entries s.dictionary
 
 -- what the server is next, what it answers, and whether the request made a change
 pub record Answered : Type 0 where
+  -- the server afterwards
   pub next : Server
+  -- what it answers
   pub answer : ToClient
+  -- whether the request belongs to the changes of its history
   pub change : Bool
 
 -- it answers, and stays as it is

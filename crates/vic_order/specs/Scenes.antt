@@ -18,11 +18,17 @@ Queue = List (List ℕ)
 -- a group, its history (the newest step first), each client's queue of requests and its queue of answers, the number of the
 -- server that each client is served by, and servers 1 to 4, as far as they exist. V is what a server is
 pub record SceneOf (V : Type 0) : Type 0 where
+  -- the group, which no event changes
   pub group : Group
+  -- the steps of all clients, the newest first
   pub history : List TraceStep
+  -- of each client, its requests that no server has served
   pub up : List Queue
+  -- of each client, the answers that it hasn't taken
   pub down : List Queue
+  -- of each client, the number of its server
   pub served_by : List ℕ
+  -- servers 1 to 4, as far as they exist
   pub servers : List (Option V)
 
 -- with servers that follow the rule

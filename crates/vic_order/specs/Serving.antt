@@ -16,8 +16,11 @@ by_rule s seat who payload = (answer_text (serve s who payload).answer, (serve s
 
 -- a request as it reaches a server
 pub record Request : Type 0 where
+  -- the number of the connection
   pub seat : ℕ
+  -- the client that it greeted as; 0 for none
   pub who : ℕ
+  -- the bytes, whatever they are
   pub payload : List ℕ
 
 -- one that a call can make: the numbers are ones of their types and the payload is bytes

@@ -46,13 +46,21 @@ use Rattle.vic_wire.specs.Parts.{Part, read_part, part_root, reaches, walked, ro
 -- aren't sealed (the oldest first), what it awaits, how often it has invoked, how far its call on objects has come, and the check
 -- at which it halted
 pub record Standing : Type 0 where
+  -- all entries that it took, the newest first
   pub path : List Entry
+  -- the position of the highest seal; 0 before the first
   pub sealed : ℕ
+  -- the root of that seal
   pub root : List ℕ
+  -- its own calls that it has decided and not sealed, the oldest first
   pub own : List Own
+  -- the answer that it awaits, if one
   pub awaiting : Awaiting
+  -- how many calls it has made
   pub calls : ℕ
+  -- how far its call on objects has come
   pub phase : Phase
+  -- the check at which it halted, if it did
   pub halted : Option ℕ
 
 abbrev pub at_start : Standing
@@ -282,9 +290,13 @@ pub data Sending : Type 0 where
 
 -- where a client stands next, what it sends, and what it returns to its caller: of a call, and of a call on objects
 pub record Move : Type 0 where
+  -- where it then stands
   pub next : Standing
+  -- what it sends, if anything
   pub sends : Option Sending
+  -- the outcome of its call, where the step ends one
   pub returns : Option Outcome
+  -- the outcome of its call on objects, where the step ends one
   pub object : Option ObjectOutcome
 
 abbrev pub move_without_object : Standing → Option Sending → Option Outcome → Move

@@ -39,8 +39,11 @@ pub record IsLawful (g : Group) (h : List TraceStep) : Type 0 where
 
 -- a call that is Done or Aborted, with the path that ends with it
 pub record Completion : Type 0 where
+  -- whose call it is
   pub client : ℕ
+  -- the client's path there, the call's entry first
   pub prefix : List Entry
+  -- done or aborted
   pub outcome : Outcome
 
 abbrev pub completion : ℕ → List Entry → Option Outcome → List Completion

@@ -81,7 +81,9 @@ takes_forged g past x = list_any (λ t. not (is_among (texts_made g past) t)) (t
 
 -- a step, counted from 1, the oldest first, and a text that was taken there and made at no step before
 pub record ForgedText : Type 0 where
+  -- the step of the history, from 1 on
   pub step : ℕ
+  -- the bytes that were to be tagged
   pub text : List ℕ
 
 -- the first text that isn't among those that were made

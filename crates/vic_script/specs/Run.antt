@@ -24,7 +24,9 @@ script_limit = LONGEST_SCRIPT
 
 -- a bad line: its number, from 1 on, and its kind
 pub record Bad : Type 0 where
+  -- of all lines, from 1 on
   pub number : ℕ
+  -- 1 to 7
   pub kind : ℕ
 
 -- the key of a group whose header names none: 32 zeros
@@ -36,7 +38,9 @@ plain_group count = record { mode = mode.Plain; count = count; key = zero_key }
 
 -- how server 1 misbehaves, and after how many requests
 pub record Attack : Type 0 where
+  -- how the server misbehaves
   pub kind : HostileKind
+  -- how many requests it serves by the rule before
   pub after : ℕ
 
 -- it doesn't
@@ -45,9 +49,13 @@ no_attack = record { kind = kind.Honest; after = 0 }
 
 -- a header: the mode of the group, how many clients it has, and its key and how its server misbehaves, if it names them
 pub record ScriptHeader : Type 0 where
+  -- plain, or with objects
   pub mode : Mode
+  -- how many clients, 1 to 64
   pub count : ℕ
+  -- its bytes; without a `key` line none
   pub key : Option (List ℕ)
+  -- without a `hostile` line none
   pub hostile : Option Attack
 
 abbrev pub group_by : ScriptHeader → Group
@@ -77,8 +85,11 @@ scene_in (Stands s) = Some s
 
 -- a script that was run: where it stands, if its header has begun; what its lines printed; and its first bad line, if there is one
 pub record ScriptRun : Type 0 where
+  -- where the lines lead, once the header has begun
   pub scene : Option (SceneOf Hostile)
+  -- what the lines printed
   pub text : List ℕ
+  -- the line that ended the run, if one did
   pub bad : Option Bad
 
 abbrev pub run_to_bad_line : Progress → ℕ → ℕ → ScriptRun

@@ -60,7 +60,9 @@ print_of_events rule s (m ∷ before) = print_of_events rule s before ++ print_o
 
 -- what a scene has become, and the text that was printed
 pub record PrintedSceneOf (V : Type 0) : Type 0 where
+  -- where the events lead
   pub scene : SceneOf V
+  -- what was printed on the way
   pub text : List ℕ
 
 abbrev pub printed_scene_after : {V : Type 0} → Serving V → SceneOf V → List Event → PrintedSceneOf V

@@ -20,8 +20,11 @@ tag_of key text = hash (masked_key 0x5c key ++ hash (masked_key 0x36 key ++ text
 
 -- what a group fixes: its kind, how many clients it has, and its key
 pub record Group : Type 0 where
+  -- plain, or with objects
   pub mode : Mode
+  -- how many clients it has, from 1 on
   pub count : ℕ
+  -- the bytes of the key that the clients share
   pub key : List ℕ
 
 -- a group has 1 to 64 clients and a key of 1 to 64 bytes
