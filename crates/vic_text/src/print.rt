@@ -41,9 +41,7 @@ pub fn outcome_text(alloc: Global, outcome: &Outcome) -> Result<Bytes, NoMemory>
             put_answer(&mut text, alloc, answer)?;
         }
         Outcome::Aborted(position) => put_numbered(&mut text, b"aborted ", *position)?,
-        Outcome::Refused(reason) => {
-            put_numbered(&mut text, b"refused ", u32::from(*reason))?
-        }
+        Outcome::Refused(reason) => { put_numbered(&mut text, b"refused ", u32::from(*reason))? }
         Outcome::Halted(check) => put_numbered(&mut text, b"halted ", u32::from(*check))?,
     }
     Ok(text)

@@ -24,12 +24,7 @@ pub fn is_name(word: &[u8], name: &[u8]) -> bool
 fn place_of(text: &[u8], byte: u8) -> Option<usize>
     ensures { IsFirstPlace byte text.now result }
 {
-    for (i, b) in text.iter().enumerate() {
-        if *b == byte {
-            return Some(i);
-        }
-    }
-    None
+    memchr::memchr(byte, text)
 }
 
 /// The first word of a line and what stands behind the space after it; None where there is no space.
