@@ -3,7 +3,6 @@ use Rattle.std.proofs.Common.{◌≡◌, ℕ, ◌+◌, ◌-◌, ◌<◌, ◌≤�
 use Rattle.std.specs.Prelude.{◌↔◌, IsTrue}
 use Rattle.std.proofs.lemmas.Bool.{and_parts}
 use Rattle.vic_dict.specs.Dictionary.{Fits}
-use Rattle.vic_dict.specs.declared.bytes.NoMemory.{NoMemory}
 use Rattle.vic_dict.specs.declared.op.Op.{Op}
 use Rattle.vic_dict.specs.declared.op.Mode.{Mode}
 use Rattle.vic_dict.specs.declared.op.Mode.TheVariants as mode
@@ -24,6 +23,8 @@ use Rattle.vic_runs.proofs.Kept.{alike_is_kept}
 use Rattle.vic_runs.proofs.Honest.{honest-more, honest-opening, honest-line, honest-left}
 use Rattle.vic_runs.proofs.Runs.{holds_at, holds_anyway}
 use Rattle.vic_group.specs.declared.world.World.{World}
+use Rattle.vic_group.specs.declared.world.WorldFault.{WorldFault}
+use Rattle.vic_group.specs.declared.world.WorldFault.TheVariants as fault
 use Rattle.vic_group.specs.declared.member.Member.{Member}
 use Rattle.vic_group.specs.World.{ShowsScene, IsReady, HasBytes, MayDo, LeftWithoutMemory, DoesLine, StandsHonestly, states}
 use Rattle.vic_group.proofs.Scenes.{stands_here}
@@ -165,13 +166,13 @@ module _ {S V : Type 0} (state : S → V) (rule : Serving V) where
   left_so new s n line.Skip r left = left_at new s n left r
 
   -- an honest line, whatever it comes to
-  pub stands_line : (w new : World S) (n : ℕ) (l : Line) (r : Result (Option ℕ) NoMemory) (before after : List ℕ) → MayDo w l → HasBytes l → ((s : SceneOf V) → ShowsScene state w s → DoesLine state rule s l r new before after)
+  pub stands_line : (w new : World S) (n : ℕ) (l : Line) (r : Result (Unit {0}) WorldFault) (before after : List ℕ) → MayDo w l → HasBytes l → ((s : SceneOf V) → ShowsScene state w s → DoesLine state rule s l r new before after)
       → StandsHonestly state rule w n → is_honest_line l ≡ true → StandsHonestly state rule new (n + 1)
   stands_line w new n l r before after may bytes does at honest = by_result r (does at.scene at.shows)
     where
-      by_result : (r : Result (Option ℕ) NoMemory) → DoesLine state rule at.scene l r new before after → StandsHonestly state rule new (n + 1)
-      by_result (Ok None) done =
+      by_result : (r : Result (Unit {0}) WorldFault) → DoesLine state rule at.scene l r new before after → StandsHonestly state rule new (n + 1)
+      by_result (Ok ended) done =
           stands_at new (done_line rule at.scene l).scene (n + 1) done.1.1
           (honest-line (AnswersAs rule) rule (alike_is_kept rule) at.scene n l at.reached (call_left w at.scene l at.shows may done.0) done.0 (line_fits at.scene l bytes done.0 honest) honest)
-      by_result (Ok (Some k)) bad = left_at new at.scene n bad.1 at.reached
-      by_result (Err e) left = left_so new at.scene n l at.reached left
+      by_result (Err (fault.Bad k)) bad = left_at new at.scene n bad.1 at.reached
+      by_result (Err fault.NoMemory) left = left_so new at.scene n l at.reached left

@@ -2,7 +2,6 @@
 use Rattle.std.specs.Prelude.{◌≡◌, ℕ, ◌+◌, ◌<◌, ◌≤◌, ◌^◌, ◌⊎◌, Bool, true, false, List, [], ◌∷◌, ◌++◌, map, length, Option, Some, None, Result, Ok, Err, option_map, is_some, slice_get, ◌-◌}
 use Rattle.std.specs.List.{AllByRecursion}
 use Rattle.vic_dict.specs.declared.limits.TheConstants.{MOST_CLIENTS}
-use Rattle.vic_dict.specs.declared.bytes.NoMemory.{NoMemory}
 use Rattle.vic_dict.specs.Dictionary.{Fits, AreBytesIn}
 use Rattle.vic_dict.specs.declared.op.Mode.{Mode}
 use Rattle.vic_dict.specs.declared.op.Mode.TheVariants as mode
@@ -11,7 +10,7 @@ use Rattle.vic_rules.specs.Objects.{FitsObject, AreBytesInObject}
 use Rattle.vic_rules.specs.declared.trace.Input.{Input}
 use Rattle.vic_rules.specs.declared.trace.Input.TheVariants as input
 use Rattle.vic_rules.specs.declared.trace.TraceStep.{TraceStep}
-use Rattle.vic_rules.specs.Client.{step, payload_of, MayStep}
+use Rattle.vic_rules.specs.Client.{step, payload_of, MayStep, first_failing}
 use Rattle.vic_rules.specs.History.{standing, IsLawful}
 use Rattle.vic_order.specs.Serving.{Serving, AnswersAs}
 use Rattle.vic_client.specs.Kept.{StandsFor, kept_group}
@@ -19,14 +18,16 @@ use Rattle.vic_view.specs.declared.transcript.Transcript.{Transcript}
 use Rattle.vic_view.specs.Transcripts.{transcript_steps, transcript_history, transcript_group}
 use Rattle.vic_script.specs.declared.line.Line.{Line}
 use Rattle.vic_script.specs.declared.line.Line.TheVariants as line
-use Rattle.vic_order.specs.Scenes.{SceneOf, queue_with, server_at, last_taken, last_sent, is_client, Event, Serves, after_events}
-use Rattle.vic_script.specs.Scenes.{print_of_events, most_turns, events_of_turns, events_of, bad_kind}
+use Rattle.vic_order.specs.Scenes.{SceneOf, queue_with, server_at, last_taken, last_sent, is_client, Event, Serves, after_step, after_events}
+use Rattle.vic_script.specs.Scenes.{print_of_events, most_turns, events_of_turns, events_of, asked_tests, bad_kind}
 use Rattle.vic_honest.specs.SafeRuns.{AreApart}
 use Rattle.vic_honest.specs.Claims.{IsHonestScene, HoldsAnyway}
 use Rattle.vic_runs.specs.Reached.{IsHonestlyReached}
 use Rattle.vic_group.specs.declared.member.Member.{Member}
 use Rattle.vic_group.specs.declared.servers.Servers.{Servers}
 use Rattle.vic_group.specs.declared.world.World.{World}
+use Rattle.vic_group.specs.declared.world.WorldFault.{WorldFault}
+use Rattle.vic_group.specs.declared.world.WorldFault.TheVariants as fault
 use Rattle.vic_group.specs.Members.{AllStand}
 
 -- ---- what is shown
@@ -131,11 +132,22 @@ abbrev pub LeftWithoutMemory : {S V : Type 0} → (S → V) → Serving V → Sc
 LeftWithoutMemory state rule s (line.Run i) w = (is_client s i ≡ true) × TurnsLeftWithoutMemory state rule most_turns s i w
 LeftWithoutMemory state rule s l w = ShowsScene state w s
 
+-- a client was asked for something; or that was bad by its first kind, or found no memory, and nothing changed
+abbrev pub AsksClient : {S V : Type 0} → (S → V) → SceneOf V → ℕ → Input → Result (Unit {0}) WorldFault → World S → Type 0
+AsksClient state s i given (Ok done) w = (first_failing (asked_tests s i) ≡ None) × ShowsScene state w (after_step s i given)
+AsksClient state s i given (Err (fault.Bad k)) w = (first_failing (asked_tests s i) ≡ Some k) × ShowsScene state w s
+AsksClient state s i given (Err fault.NoMemory) w = ShowsScene state w s
+
+-- how a line ends by which something went, or nothing did
+abbrev pub end_by_waiting : Bool → Result (Unit {0}) WorldFault
+end_by_waiting true = Ok tt
+end_by_waiting false = Err (fault.Bad 5)
+
 -- a line was done, and its text was appended; or it was bad by its first kind, and nothing changed; or it found no memory
-abbrev pub DoesLine : {S V : Type 0} → (S → V) → Serving V → SceneOf V → Line → Result (Option ℕ) NoMemory → World S → List ℕ → List ℕ → Type 0
-DoesLine state rule s l (Ok None) w before after = (bad_kind s l ≡ None) × Makes state rule s (events_of rule s l) w before after
-DoesLine state rule s l (Ok (Some k)) w before after = (bad_kind s l ≡ Some k) × ShowsScene state w s
-DoesLine state rule s l (Err e) w before after = LeftWithoutMemory state rule s l w
+abbrev pub DoesLine : {S V : Type 0} → (S → V) → Serving V → SceneOf V → Line → Result (Unit {0}) WorldFault → World S → List ℕ → List ℕ → Type 0
+DoesLine state rule s l (Ok done) w before after = (bad_kind s l ≡ None) × Makes state rule s (events_of rule s l) w before after
+DoesLine state rule s l (Err (fault.Bad k)) w before after = (bad_kind s l ≡ Some k) × ShowsScene state w s
+DoesLine state rule s l (Err fault.NoMemory) w before after = LeftWithoutMemory state rule s l w
 
 -- ---- honest servers
 

@@ -16,7 +16,7 @@ use vic_dict::{Bytes, Mode, NoMemory};
 use vic_hostile::{Hostile, HostileKind};
 use vic_server::Served;
 use vic_tag::GroupKey;
-use vic_text::{Line, LineFault, kind_named, read_line};
+use vic_text::{BadKind, Line, LineFault, kind_named, read_line};
 use vic_view::Transcript;
 
 /// How a server misbehaves, and after how many requests, at most 1,000,000.
@@ -87,7 +87,7 @@ fn opening_line(alloc: Global, text: &[u8]) -> Result<Headed, NoMemory>
         Ok(Line::Skip) => Ok(Headed::Goes(None)),
         Ok(Line::Clients(count)) => Ok(begun(Mode::Plain, count)),
         Ok(Line::Objects(count)) => Ok(begun(Mode::Objects, count)),
-        Ok(_) | Err(LineFault::Grammar) => Ok(Headed::Bad(None, 1)),
+        Ok(_) | Err(LineFault::Grammar) => Ok(Headed::Bad(None, BadKind::NotALine.number())),
         Err(LineFault::NoMemory) => Err(NoMemory),
     }
 }
@@ -143,7 +143,7 @@ fn keyed(alloc: Global, header: Header, digits: &Bytes) -> Result<Headed, NoMemo
     ensures { IfOk result (λ r. Leads (Heads (header_by header)) (Some (Line.Key digits.now)) r) }
 {
     if !may_name_key(&header) {
-        return Ok(Headed::Bad(Some(header), 1));
+        return Ok(Headed::Bad(Some(header), BadKind::NotALine.number()));
     }
     let key = spelled_key(alloc, digits.as_slice())?;
     Ok(Headed::Goes(Some(Header {
@@ -161,7 +161,7 @@ fn turned(header: Header, name: &Bytes, after: u32) -> Headed
     ensures { Leads (Heads (header_by header)) (Some (Line.Hostile name.now after)) result }
 {
     if header.hostile.is_some() {
-        return Headed::Bad(Some(header), 1);
+        return Headed::Bad(Some(header), BadKind::NotALine.number());
     }
     Headed::Goes(Some(Header {
         mode: header.mode,

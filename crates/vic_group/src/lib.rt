@@ -22,7 +22,6 @@ pub mod world;
 
 pub use apart::texts_are_apart;
 pub use play::{End, Played};
-pub use vic_view::Printed;
 pub use world::{World, WorldFault};
 
 #[cfg(test)]

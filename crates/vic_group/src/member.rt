@@ -10,6 +10,7 @@ ghost use Rattle.vic_client.specs.Kept.{is_idle};
 ghost use Rattle.vic_client.specs.Pending.{IsPendingOf};
 ghost use Rattle.vic_order.specs.Scenes.{queue_with, or_before, payload_in, oldest_payload, payload_with_flip, server_at, set_server};
 ghost use Rattle.vic_script.specs.Scenes.{print_of_outcomes};
+ghost use Rattle.vic_text.specs.BadKinds.{bad_number};
 
 use crate::queue::Queue;
 use crate::said::put_said;
@@ -18,6 +19,7 @@ use std::alloc::Global;
 use vic_client::{Client, Pending, Step};
 use vic_dict::{Bytes, NoMemory};
 use vic_server::Serve;
+use vic_text::BadKind;
 use vic_view::{Input, TraceStep, Transcript};
 
 /// A client, the number of the server that serves it, its queue of requests and its queue of answers, and the payloads that it
@@ -232,15 +234,19 @@ impl Member {
     }
 
     /// The kind by which it is bad to ask the client for something: it has halted, or it awaits an answer.
-    pub fn refusal(&self) -> Option<u8>
-        ensures { MatchOption result (IsTrue (is_idle self.now.client)) (λ kind. first_failing ((3, is_none self.now.client.halted) ∷ (4, awaits_nothing self.now.client.awaiting) ∷ []) ≡ Some kind) }
+    pub fn refusal(&self) -> Option<BadKind>
+        ensures { MatchOption result
+            (IsTrue (is_idle self.now.client))
+            (λ kind. first_failing
+            ((3, is_none self.now.client.halted)
+            ∷ (4, awaits_nothing self.now.client.awaiting) ∷ []) ≡ Some (bad_number kind)) }
     {
         if self.client.halted().is_some() {
-            Some(3)
+            Some(BadKind::Halted)
         } else if self.client.idle() {
             None
         } else {
-            Some(4)
+            Some(BadKind::Busy)
         }
     }
 

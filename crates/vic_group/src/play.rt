@@ -19,7 +19,7 @@ use std::alloc::Global;
 use vic_dict::limits::LONGEST_SCRIPT;
 use vic_dict::{Bytes, NoMemory};
 use vic_hostile::Hostile;
-use vic_text::{Line, LineFault, put_bad_line, read_line};
+use vic_text::{BadKind, Line, LineFault, put_bad_line, read_line};
 use vic_view::Transcript;
 
 /// How the run of a script ends.
@@ -61,7 +61,7 @@ pub(crate) enum Ran {
 }
 
 /// Runs a script, and answers what it prints. What stands behind its byte 16,777,217 isn't looked at. It costs what its lines cost
-/// (`World::apply`), and the end of the print (`World::views`).
+/// (`World::apply`), and the end of the print (`World::put_views`).
 pub fn play(alloc: Global, script: &[u8]) -> Result<Played, NoMemory>
     ensures { IfOk result (λ p. (p.text ≡ print_of_script script.now) × (p.end ≡ end_of (run_of script.now))) }
 {
@@ -102,7 +102,7 @@ fn run_known(alloc: Global, known: &[u8]) -> Result<Ran, NoMemory>
         let (text, others) = first_line(rest);
         let behind = line_end(known.len(), before, text);
         if LONGEST_SCRIPT < behind {
-            return unopened(alloc, header, number, 7);
+            return unopened(alloc, header, number, BadKind::ScriptTooLong.number());
         }
         match head_line(alloc, header, text)? {
             Headed::Goes(next) => {
@@ -127,7 +127,7 @@ fn closed(alloc: Global, header: Option<Header>, number: u32) -> Result<Ran, NoM
     ensures { IfOk result (λ r. ComesTo (record { scene = scene_in (progress_by header); text = []; bad = bad_end number (progress_by header) }) r) }
 {
     match header {
-        None => unopened(alloc, None, number, 1),
+        None => unopened(alloc, None, number, BadKind::NotALine.number()),
         Some(header) => Ok(Ran::Whole(opened(alloc, header)?, Bytes::new(alloc))),
     }
 }
@@ -191,7 +191,8 @@ fn do_line(
     ensures { IfOk result (λ bad. Follows number (trial_at behind (Stands (scene_of world.old)) text.now) (scene_of world.old) world.new out.old out.new bad) }
 {
     if LONGEST_SCRIPT < behind {
-        return Ok(Some(BadLine { number, kind: 7 }));
+        let kind = BadKind::ScriptTooLong.number();
+        return Ok(Some(BadLine { number, kind }));
     }
     match try_text(alloc, world, text, out)? {
         Some(kind) => Ok(Some(BadLine { number, kind })),
@@ -213,7 +214,7 @@ fn try_text(
     let mode = world.transcript().mode;
     match read_line(alloc, text, Some(mode)) {
         Ok(line) => try_line_on(alloc, world, &line, out),
-        Err(LineFault::Grammar) => Ok(Some(1)),
+        Err(LineFault::Grammar) => Ok(Some(BadKind::NotALine.number())),
         Err(LineFault::NoMemory) => Err(NoMemory),
     }
 }
@@ -250,12 +251,11 @@ fn finished(alloc: Global, world: &World<Hostile>, out: Bytes) -> Result<Played,
     requires { ShowsItsScene world.now }
     ensures { IfOk result (λ p. (p.text ≡ out ++ end_text (transcript_group world.now.transcript) (transcript_history world.now.transcript) None) × (p.end ≡ end_by None (is_forged (transcript_group world.now.transcript) (transcript_history world.now.transcript)))) }
 {
-    let views = world.views(alloc)?;
     let mut text = out;
-    text.append(views.text.as_slice())?;
+    let forged = world.put_views(&mut text, alloc)?;
     Ok(Played {
         text,
-        end: whole_end(views.forged),
+        end: whole_end(forged),
     })
 }
 

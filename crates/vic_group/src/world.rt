@@ -1,21 +1,21 @@
 //! A world of clients and servers, in which a script's lines happen.
 
-ghost use Rattle.std.specs.Prelude.{◌≡◌, ◌≢◌, ◌<◌, ◌≤◌, ◌+◌, ◌++◌, ◌&&◌, ◌↔◌, ℕ, true, false, nat_lt, nat_le, [], ◌∷◌, length, OnOk, OnErr, IfOk, Ok, Err, Some, None, MatchOption, IsTrue, is_some, slice_get, ◌-◌};
+ghost use Rattle.std.specs.Prelude.{◌≡◌, ◌≢◌, ◌<◌, ◌≤◌, ◌+◌, ◌++◌, ◌&&◌, ◌↔◌, ℕ, true, false, nat_lt, nat_le, [], ◌∷◌, length, OnOk, OnErr, IfOk, Ok, Err, Some, None, MatchResult, IsTrue, is_some, slice_get, ◌-◌};
 ghost use Rattle.vic_dict.specs.declared.limits.TheConstants.{MOST_CLIENTS};
 ghost use Rattle.vic_order.specs.Serving.{AnswersAs};
 ghost use Rattle.vic_rules.specs.declared.trace.Input.TheVariants as input;
 ghost use Rattle.vic_rules.specs.History.{IsLawful};
 ghost use Rattle.vic_rules.specs.Trust.{IsForged};
-ghost use Rattle.vic_rules.specs.Client.{first_failing};
 ghost use Rattle.vic_dict.specs.Dictionary.{Fits};
 ghost use Rattle.vic_rules.specs.Objects.{FitsObject};
 ghost use Rattle.vic_order.specs.Order.{fresh_server, ready_member, same_mode};
 ghost use Rattle.vic_group.specs.declared.member.Member.{Member as AMember};
-ghost use Rattle.vic_group.specs.World.{HasBytes};
+ghost use Rattle.vic_text.specs.BadKinds.{bad_number};
+ghost use Rattle.vic_group.specs.World.{HasBytes, end_by_waiting};
 ghost use Rattle.vic_script.specs.declared.line.Line.TheVariants as line;
 ghost use Rattle.vic_script.specs.Lines.{is_server_number};
 ghost use Rattle.vic_order.specs.Scenes.{SceneOf, opening_with, after_step, after_serving, waits_in, has_byte, server_at, Takes, Flips, Hears};
-ghost use Rattle.vic_script.specs.Scenes.{done_line, bad_kind, events_of_turns, asked_tests, fits_op, fits_object, is_honest_line};
+ghost use Rattle.vic_script.specs.Scenes.{done_line, bad_kind, events_of_turns, fits_op, fits_object, is_honest_line};
 ghost use Rattle.vic_script.specs.Print.{end_text, is_forged};
 
 use crate::member::Member;
@@ -30,7 +30,8 @@ use vic_rules::ObjectCall;
 use vic_script::Line;
 use vic_server::Serve;
 use vic_tag::GroupKey;
-use vic_view::{Input, Printed, Transcript, print_end};
+use vic_text::BadKind;
+use vic_view::{Input, Transcript, put_end};
 
 /// The most turns of a run.
 const MOST_TURNS: u32 = 2100;
@@ -38,11 +39,39 @@ const MOST_TURNS: u32 = 2100;
 /// Why a line was not done.
 #[derive(Clone, Copy, Debug, PartialEq, Eq, Error)]
 pub enum WorldFault {
-    /// The line is bad by this kind; nothing changed.
+    /// The line is bad by the kind of this number (`BadKind::number`); nothing changed.
     #[error("a bad line of kind {0}")]
     Bad(u8),
     #[error("no memory")]
     NoMemory,
+}
+
+impl From<NoMemory> for WorldFault {
+    ghost use Rattle.vic_group.specs.declared.world.WorldFault.TheVariants as fault;
+
+    ghost from_gives = { λ _ e. e ≡ fault.NoMemory };
+
+    fn from(_cause: NoMemory) -> WorldFault {
+        WorldFault::NoMemory
+    }
+}
+
+/// Why a line of this kind was not done.
+fn bad(kind: BadKind) -> WorldFault
+    ensures { result ≡ WorldFault.Bad (bad_number kind) }
+{
+    WorldFault::Bad(kind.number())
+}
+
+/// How a line ends of which something went; or nothing did, since nothing waited.
+fn waited(went: bool) -> Result<(), WorldFault>
+    ensures { result ≡ end_by_waiting went }
+{
+    if went {
+        Ok(())
+    } else {
+        Err(bad(BadKind::NothingWaits))
+    }
 }
 
 /// The clients of a group, each with its queues; the servers; and what the clients did, step by step. After want of memory it is as
@@ -100,7 +129,7 @@ fn line_bytes(line: &Line)
 }
 
 impl<S: Serve + Drop> World<S> {
-    ghost use Rattle.vic_group.specs.World.{ShowsScene, MayDo, CanAsk, DoesLine, LeftWithoutMemory, TurnsLeftWithoutMemory, Makes, MakesIf, StandsHonestly};
+    ghost use Rattle.vic_group.specs.World.{ShowsScene, MayDo, CanAsk, AsksClient, DoesLine, LeftWithoutMemory, TurnsLeftWithoutMemory, Makes, MakesIf, StandsHonestly};
     ghost use Rattle.vic_view.specs.Transcripts.{transcript_history, transcript_group};
     ghost use Rattle.vic_dict.specs.declared.limits.TheConstants.{MOST_CLIENTS};
 
@@ -128,36 +157,35 @@ impl<S: Serve + Drop> World<S> {
         })
     }
 
-    // The place and the number of a client, if there is such a client.
-    fn place(&self, who: u32) -> Option<(usize, u8)>
-        ensures { MatchOption result (length self.now.members.items ≤ MOST_CLIENTS → (nat_lt 0 who && nat_le who (length self.now.members.items)) ≡ false) (λ p. (p.1 ≡ who) × ((p.1 ≡ p.0 + 1) × (p.0 < length self.now.members.items))) }
+    // The place and the number of a client; bad where there is no such client.
+    fn place(&self, who: u32) -> Result<(usize, u8), WorldFault>
+        ensures { MatchResult result
+            (λ p. (p.1 ≡ who) × ((p.1 ≡ p.0 + 1) × (p.0 < length self.now.members.items)))
+            (λ e. (e ≡ WorldFault.Bad 2) × (length self.now.members.items ≤ MOST_CLIENTS
+            → (nat_lt 0 who && nat_le who (length self.now.members.items)) ≡ false)) }
     {
-        if who == 0 || who > MOST_CLIENTS {
-            return None;
+        if who == 0 || who > MOST_CLIENTS as u32 {
+            return Err(bad(BadKind::NoClient));
         }
         let place = who as usize - 1;
         if place < self.members.len() {
-            Some((place, who as u8))
+            Ok((place, who as u8))
         } else {
-            None
+            Err(bad(BadKind::NoClient))
         }
     }
 
-    // A client calls, polls or syncs; or the kind by which that is bad.
-    fn ask(&mut self, alloc: Global, who: u32, input: Input) -> Result<Option<u8>, NoMemory>
+    // A client calls, polls or syncs; or that is bad.
+    fn ask(&mut self, alloc: Global, who: u32, input: Input) -> Result<(), WorldFault>
         requires { 0 < who → (m : AMember) → slice_get self.old.members.items (who - 1) ≡ Some m → CanAsk m input }
-        ensures ok { (s : SceneOf S.State) → ShowsScene S.state self.old s → IfOk result (λ bad. (first_failing (asked_tests s who) ≡ bad)
-            × MatchOption bad (ShowsScene S.state self.new (after_step s who input)) (λ kind. ShowsScene S.state self.new s)) }
-        ensures err { (s : SceneOf S.State) → ShowsScene S.state self.old s → OnErr result (ShowsScene S.state self.new s) }
+        ensures { (s : SceneOf S.State) → ShowsScene S.state self.old s → AsksClient S.state s who input result self.new }
     {
-        let Some((place, _)) = self.place(who) else {
-            return Ok(Some(2));
-        };
+        let (place, _) = self.place(who)?;
         if let Some(kind) = self.members[place].refusal() {
-            return Ok(Some(kind));
+            return Err(bad(kind));
         }
         self.members[place].ask(alloc, input, &mut self.transcript)?;
-        Ok(None)
+        Ok(())
     }
 
     // A client's server serves its oldest request; whether one waited.
@@ -256,12 +284,12 @@ impl<S: Serve + Drop> World<S> {
 
     // ---- the lines
 
-    fn call_line(&mut self, alloc: Global, who: u32, op: &Op) -> Result<Option<u8>, NoMemory>
+    fn call_line(&mut self, alloc: Global, who: u32, op: &Op) -> Result<(), WorldFault>
         requires { MayDo self.old (line.Call who op.now) }
         ensures { (s : SceneOf S.State) → ShowsScene S.state self.old s → DoesLine S.state S.rule s (line.Call who op.now) result self.new [] [] }
     {
         if !is_plain_call(self.transcript.mode, op) {
-            return Ok(Some(1));
+            return Err(bad(BadKind::NotALine));
         }
         // The texts of an operation are bytes.
         op.are_bytes();
@@ -269,17 +297,12 @@ impl<S: Serve + Drop> World<S> {
         self.ask(alloc, who, input)
     }
 
-    fn object_line(
-        &mut self,
-        alloc: Global,
-        who: u32,
-        call: &ObjectCall,
-    ) -> Result<Option<u8>, NoMemory>
+    fn object_line(&mut self, alloc: Global, who: u32, call: &ObjectCall) -> Result<(), WorldFault>
         requires { MayDo self.old (line.Object who call.now) }
         ensures { (s : SceneOf S.State) → ShowsScene S.state self.old s → DoesLine S.state S.rule s (line.Object who call.now) result self.new [] [] }
     {
         if !is_object_call(self.transcript.mode, call) {
-            return Ok(Some(1));
+            return Err(bad(BadKind::NotALine));
         }
         // The texts of a call are bytes.
         objects::are_bytes(call);
@@ -287,39 +310,28 @@ impl<S: Serve + Drop> World<S> {
         self.ask(alloc, who, input)
     }
 
-    fn serve_line(&mut self, alloc: Global, who: u32) -> Result<Option<u8>, NoMemory>
+    fn serve_line(&mut self, alloc: Global, who: u32) -> Result<(), WorldFault>
         ensures { (s : SceneOf S.State) → ShowsScene S.state self.old s → DoesLine S.state S.rule s (line.Serve who) result self.new [] [] }
     {
-        let Some((place, id)) = self.place(who) else {
-            return Ok(Some(2));
-        };
+        let (place, id) = self.place(who)?;
         let went = self.serve(alloc, place, id)?;
-        Ok(if went { None } else { Some(5) })
+        waited(went)
     }
 
-    fn take_line(
-        &mut self,
-        alloc: Global,
-        who: u32,
-        out: &mut Bytes,
-    ) -> Result<Option<u8>, NoMemory>
+    fn take_line(&mut self, alloc: Global, who: u32, out: &mut Bytes) -> Result<(), WorldFault>
         ensures { (s : SceneOf S.State) → ShowsScene S.state self.old s → DoesLine S.state S.rule s (line.Take who) result self.new out.old out.new }
     {
-        let Some((place, id)) = self.place(who) else {
-            return Ok(Some(2));
-        };
+        let (place, id) = self.place(who)?;
         let went = self.take(alloc, place, id, out)?;
-        Ok(if went { None } else { Some(5) })
+        waited(went)
     }
 
-    fn run_line(&mut self, alloc: Global, who: u32, out: &mut Bytes) -> Result<Option<u8>, NoMemory>
+    fn run_line(&mut self, alloc: Global, who: u32, out: &mut Bytes) -> Result<(), WorldFault>
         ensures { (s : SceneOf S.State) → ShowsScene S.state self.old s → DoesLine S.state S.rule s (line.Run who) result self.new out.old out.new }
     {
-        let Some((place, id)) = self.place(who) else {
-            return Ok(Some(2));
-        };
+        let (place, id) = self.place(who)?;
         self.run(alloc, place, id, MOST_TURNS, out)?;
-        Ok(None)
+        Ok(())
     }
 
     fn give_line(
@@ -328,34 +340,25 @@ impl<S: Serve + Drop> World<S> {
         who: u32,
         payload: &Bytes,
         out: &mut Bytes,
-    ) -> Result<Option<u8>, NoMemory>
+    ) -> Result<(), WorldFault>
         ensures { (s : SceneOf S.State) → ShowsScene S.state self.old s → DoesLine S.state S.rule s (line.Give who payload.now) result self.new out.old out.new }
     {
-        let Some((place, id)) = self.place(who) else {
-            return Ok(Some(2));
-        };
+        let (place, id) = self.place(who)?;
         let payload = payload.copy(alloc)?;
         self.hear(alloc, place, id, payload, out)?;
-        Ok(None)
+        Ok(())
     }
 
-    fn again_line(
-        &mut self,
-        alloc: Global,
-        who: u32,
-        out: &mut Bytes,
-    ) -> Result<Option<u8>, NoMemory>
+    fn again_line(&mut self, alloc: Global, who: u32, out: &mut Bytes) -> Result<(), WorldFault>
         ensures { (s : SceneOf S.State) → ShowsScene S.state self.old s → DoesLine S.state S.rule s (line.Again who) result self.new out.old out.new }
     {
-        let Some((place, id)) = self.place(who) else {
-            return Ok(Some(2));
-        };
+        let (place, id) = self.place(who)?;
         let Some(taken) = &self.members[place].taken else {
-            return Ok(Some(5));
+            return Err(bad(BadKind::NothingWaits));
         };
         let payload = taken.copy(alloc)?;
         self.hear(alloc, place, id, payload, out)?;
-        Ok(None)
+        Ok(())
     }
 
     fn flip_line(
@@ -364,69 +367,60 @@ impl<S: Serve + Drop> World<S> {
         who: u32,
         number: u32,
         out: &mut Bytes,
-    ) -> Result<Option<u8>, NoMemory>
+    ) -> Result<(), WorldFault>
         ensures { (s : SceneOf S.State) → ShowsScene S.state self.old s → DoesLine S.state S.rule s (line.Flip who number) result self.new out.old out.new }
     {
-        let Some((place, id)) = self.place(who) else {
-            return Ok(Some(2));
-        };
+        let (place, id) = self.place(who)?;
         let went = self.take_flipped(alloc, place, id, number, out)?;
-        Ok(if went { None } else { Some(5) })
+        waited(went)
     }
 
-    fn resend_line(&mut self, alloc: Global, who: u32) -> Result<Option<u8>, NoMemory>
+    fn resend_line(&mut self, alloc: Global, who: u32) -> Result<(), WorldFault>
         ensures { (s : SceneOf S.State) → ShowsScene S.state self.old s → DoesLine S.state S.rule s (line.Resend who) result self.new [] [] }
     {
-        let Some((place, _)) = self.place(who) else {
-            return Ok(Some(2));
-        };
+        let (place, _) = self.place(who)?;
         let went = self.members[place].resend(alloc)?;
-        Ok(if went { None } else { Some(5) })
+        waited(went)
     }
 
-    fn copy_line(&mut self, alloc: Global, from: u32, to: u8) -> Result<Option<u8>, NoMemory>
+    fn copy_line(&mut self, alloc: Global, from: u32, to: u8) -> Result<(), WorldFault>
         ensures { (s : SceneOf S.State) → ShowsScene S.state self.old s → DoesLine S.state S.rule s (line.Copy from to) result self.new [] [] }
     {
         if !is_server_number(to) {
-            return Ok(Some(1));
+            return Err(bad(BadKind::NotALine));
         }
         let Some(server) = self.servers.at(from) else {
-            return Ok(Some(6));
+            return Err(bad(BadKind::NoServer));
         };
         // A server copied onto itself stays as it is, and that takes no memory.
         if from == u32::from(to) {
-            return Ok(None);
+            return Ok(());
         }
         let copy = server.copy(alloc)?;
         self.servers.set(to, copy);
-        Ok(None)
+        Ok(())
     }
 
-    fn move_line(&mut self, who: u32, number: u32) -> Option<u8>
-        ensures { (s : SceneOf S.State) → ShowsScene S.state self.old s → DoesLine S.state S.rule s (line.Move who number) (Ok result) self.new [] [] }
+    fn move_line(&mut self, who: u32, number: u32) -> Result<(), WorldFault>
+        ensures { (s : SceneOf S.State) → ShowsScene S.state self.old s → DoesLine S.state S.rule s (line.Move who number) result self.new [] [] }
     {
-        let Some((place, _)) = self.place(who) else {
-            return Some(2);
-        };
+        let (place, _) = self.place(who)?;
         if self.servers.at(number).is_none() {
-            return Some(6);
+            return Err(bad(BadKind::NoServer));
         }
         self.members[place].server = number;
-        None
+        Ok(())
     }
 
-    // Does a line, and appends its text; or the kind by which it is bad, and then nothing changes.
-    fn do_line(
-        &mut self,
-        alloc: Global,
-        line: &Line,
-        out: &mut Bytes,
-    ) -> Result<Option<u8>, NoMemory>
+    // Does a line, and appends its text; or it is bad, and then nothing changes.
+    fn do_line(&mut self, alloc: Global, line: &Line, out: &mut Bytes) -> Result<(), WorldFault>
         requires { MayDo self.old line.now }
         ensures { (s : SceneOf S.State) → ShowsScene S.state self.old s → DoesLine S.state S.rule s line.now result self.new out.old out.new }
     {
         match line {
-            Line::Clients(_) | Line::Objects(_) | Line::Key(_) | Line::Hostile(_, _) => Ok(Some(1)),
+            Line::Clients(_) | Line::Objects(_) | Line::Key(_) | Line::Hostile(_, _) => Err(bad(
+                BadKind::NotALine,
+            )),
             Line::Call(who, op) => self.call_line(alloc, *who, op),
             Line::Object(who, call) => self.object_line(alloc, *who, call),
             Line::Poll(who) => self.ask(alloc, *who, Input::Poll),
@@ -439,8 +433,8 @@ impl<S: Serve + Drop> World<S> {
             Line::Flip(who, number) => self.flip_line(alloc, *who, *number, out),
             Line::Resend(who) => self.resend_line(alloc, *who),
             Line::Copy(from, to) => self.copy_line(alloc, *from, *to),
-            Line::Move(who, number) => Ok(self.move_line(*who, *number)),
-            Line::Skip => Ok(None),
+            Line::Move(who, number) => self.move_line(*who, *number),
+            Line::Skip => Ok(()),
         }
     }
 
@@ -462,11 +456,8 @@ impl<S: Serve + Drop> World<S> {
         // The texts of the line are bytes.
         line_bytes(line);
         let mut out = Bytes::new(alloc);
-        match self.do_line(alloc, line, &mut out) {
-            Ok(None) => Ok(out),
-            Ok(Some(kind)) => Err(WorldFault::Bad(kind)),
-            Err(NoMemory) => Err(WorldFault::NoMemory),
-        }
+        self.do_line(alloc, line, &mut out)?;
+        Ok(out)
     }
 
     /// What its clients did, step by step.
@@ -490,14 +481,17 @@ impl<S: Serve + Drop> World<S> {
         self.servers.first()
     }
 
-    /// The lines of all views, how far each two agree, and whether each tag that was taken was made, which is told beside them. It
-    /// costs what `print_end` of `vic_view` does.
-    pub fn views(&self, alloc: Global) -> Result<Printed, NoMemory>
+    /// Appends the lines of all views, how far each two agree, and whether each tag that was taken was made, of which the answer is
+    /// the contrary. Where memory runs out, some of it may stand there. It costs what `put_end` of `vic_view` does.
+    pub fn put_views(&self, out: &mut Bytes, alloc: Global) -> Result<bool, NoMemory>
         requires { IsLawful (transcript_group self.now.transcript) (transcript_history self.now.transcript) }
-        ensures text { IfOk result (λ v. v.text ≡ end_text (transcript_group self.now.transcript) (transcript_history self.now.transcript) None) }
-        ensures forged { IfOk result (λ v. v.forged ≡ is_forged (transcript_group self.now.transcript) (transcript_history self.now.transcript)) }
-        ensures means { IfOk result (λ v. (v.forged ≡ true) ↔ IsForged (transcript_group self.now.transcript) (transcript_history self.now.transcript)) }
+        ensures text { OnOk result (out.new ≡ out.old
+            ++ end_text (transcript_group self.now.transcript) (transcript_history self.now.transcript) None) }
+        ensures forged { IfOk result (λ forged. forged
+            ≡ is_forged (transcript_group self.now.transcript) (transcript_history self.now.transcript)) }
+        ensures means { IfOk result (λ forged. (forged ≡ true)
+            ↔ IsForged (transcript_group self.now.transcript) (transcript_history self.now.transcript)) }
     {
-        print_end(alloc, &self.transcript)
+        put_end(out, alloc, &self.transcript)
     }
 }

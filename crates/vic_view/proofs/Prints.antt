@@ -115,9 +115,11 @@ pub length_views : (g : Group) (h : List TraceStep) (n : ℕ) → length (views_
 length_views g h n = length-map (numbers_from 1 n) (shown_view g h) ∙ length_numbers 1 n
 
 -- the three parts, one after the other
-pub prints_all : (g : Group) (h : List TraceStep) (views : List (List Shown)) (forged : Bool) (a b c d : List ℕ) → views ≡ views_up_to g h g.count → a ≡ [] → b ≡ a ++ view_texts 1 views
-    → c ≡ b ++ agree_texts 1 views → d ≡ c ++ tags_line forged → d ≡ all_views g h ++ all_agreements g h ++ tags_line forged
-prints_all g h views forged a b c d is ea eb ec ed =
-    let one : b ≡ all_views g h = eb ∙ ap (λ (x : List ℕ). x ++ view_texts 1 views) ea ∙ ap (view_texts 1) is ∙ texts_are g h 1 g.count in
+pub prints_all : (g : Group) (h : List TraceStep) (views : List (List Shown)) (forged : Bool) (a b c d : List ℕ) → views ≡ views_up_to g h g.count → b ≡ a ++ view_texts 1 views
+    → c ≡ b ++ agree_texts 1 views → d ≡ c ++ tags_line forged → d ≡ a ++ (all_views g h ++ all_agreements g h ++ tags_line forged)
+prints_all g h views forged a b c d is eb ec ed =
+    let one : b ≡ a ++ all_views g h = eb ∙ ap (λ (x : List ℕ). a ++ x) (ap (view_texts 1) is ∙ texts_are g h 1 g.count) in
     let two : agree_texts 1 views ≡ all_agreements g h = ap (agree_texts 1) is ∙ agrees_are g h 1 g.count g.count (omega arith) in
-    ed ∙ ap (λ (x : List ℕ). x ++ tags_line forged) (ec ∙ ap (λ (x : List ℕ). x ++ agree_texts 1 views) one ∙ ap (λ (x : List ℕ). all_views g h ++ x) two)
+    let both : c ≡ a ++ (all_views g h ++ all_agreements g h) =
+    ec ∙ ap (λ (x : List ℕ). x ++ agree_texts 1 views) one ∙ ap (λ (x : List ℕ). a ++ all_views g h ++ x) two ∙ append_assoc a (all_views g h) (all_agreements g h) in
+    ed ∙ ap (λ (x : List ℕ). x ++ tags_line forged) both ∙ append_assoc a (all_views g h ++ all_agreements g h) (tags_line forged)

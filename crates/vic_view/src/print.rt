@@ -185,42 +185,60 @@ fn put_tags(out: &mut Bytes, forged: bool) -> Result<(), NoMemory>
     }
 }
 
-/// The lines of all views, how far each two agree, and what is said of tags, where the paths of all clients are known.
-fn print_along(
+/// Appends the lines of all views, how far each two agree, and what is said of tags, where the paths of all clients are known.
+fn put_along(
+    out: &mut Bytes,
     alloc: Global,
     t: &Transcript,
     all: &[ClientPath],
     forged: bool,
-) -> Result<Bytes, NoMemory>
+) -> Result<(), NoMemory>
     requires lawful { IsLawful (transcript_group t.now) (transcript_history t.now) }
     requires paths { AreReplayed t.now.count (transcript_history t.now) all.now }
-    ensures { IfOk result (λ b. b ≡ every_view (transcript_group t.now) (transcript_history t.now) ++ every_agreement (transcript_group t.now) (transcript_history t.now) ++ tags_line forged) }
+    ensures { OnOk result (out.new ≡ out.old
+        ++ (every_view (transcript_group t.now) (transcript_history t.now)
+        ++ every_agreement (transcript_group t.now) (transcript_history t.now)
+        ++ tags_line forged)) }
 {
     let views = all_views(alloc, t, all)?;
-    let mut out = Bytes::new(alloc);
-    put_views(&mut out, alloc, views.as_slice())?;
-    put_agreements(&mut out, alloc, views.as_slice())?;
-    put_tags(&mut out, forged)?;
-    Ok(out)
+    put_views(out, alloc, views.as_slice())?;
+    put_agreements(out, alloc, views.as_slice())?;
+    put_tags(out, forged)?;
+    Ok(())
 }
 
-/// What is printed at the end of a run: the lines of all views, how far each two agree, and whether each tag that was taken
-/// was made, which it also tells. It costs the transcript; for each client a look at each step, the hashes along its path, and what
-/// the calls of its view hold; for each two clients a few numbers; and for each text that was
-/// tagged or taken the logarithm of the number of those tagged.
-pub fn print_end(alloc: Global, t: &Transcript) -> Result<Printed, NoMemory>
+/// Appends what is printed at the end of a run: the lines of all views, how far each two agree, and whether each tag that was taken
+/// was made, of which the answer is the contrary. Where memory runs out, some of it may stand there. It costs the transcript; for
+/// each client a look at each step, the hashes along its path, and what the calls of its view hold; for each two clients a few
+/// numbers; and for each text that was tagged or taken the logarithm of the number of those tagged.
+pub fn put_end(out: &mut Bytes, alloc: Global, t: &Transcript) -> Result<bool, NoMemory>
     requires { IsLawful (transcript_group t.now) (transcript_history t.now) }
-    ensures text { IfOk result (λ p. p.text ≡ end_text (transcript_group t.now) (transcript_history t.now) None) }
-    ensures forged { IfOk result (λ p. p.forged ≡ is_forged (transcript_group t.now) (transcript_history t.now)) }
-    ensures means { IfOk result (λ p. (p.forged ≡ true) ↔ IsForged (transcript_group t.now) (transcript_history t.now)) }
+    ensures text { OnOk result (out.new ≡ out.old
+        ++ end_text (transcript_group t.now) (transcript_history t.now) None) }
+    ensures forged { IfOk result (λ forged.
+        forged ≡ is_forged (transcript_group t.now) (transcript_history t.now)) }
+    ensures means { IfOk result (λ forged.
+        (forged ≡ true) ↔ IsForged (transcript_group t.now) (transcript_history t.now)) }
 {
     let paths = all_paths(alloc, t)?;
     let forged = forged_along(alloc, t, paths.as_slice())?;
-    let text = print_along(alloc, t, paths.as_slice(), forged)?;
-    Ok(Printed {
-        text,
-        forged: forged,
-    })
+    put_along(out, alloc, t, paths.as_slice(), forged)?;
+    Ok(forged)
+}
+
+/// The same, printed alone, with the answer of `put_end` beside it.
+pub fn print_end(alloc: Global, t: &Transcript) -> Result<Printed, NoMemory>
+    requires { IsLawful (transcript_group t.now) (transcript_history t.now) }
+    ensures text { IfOk result (λ p.
+        p.text ≡ end_text (transcript_group t.now) (transcript_history t.now) None) }
+    ensures forged { IfOk result (λ p.
+        p.forged ≡ is_forged (transcript_group t.now) (transcript_history t.now)) }
+    ensures means { IfOk result (λ p.
+        (p.forged ≡ true) ↔ IsForged (transcript_group t.now) (transcript_history t.now)) }
+{
+    let mut text = Bytes::new(alloc);
+    let forged = put_end(&mut text, alloc, t)?;
+    Ok(Printed { text, forged })
 }
 
 /// The text of `print_end` alone.

@@ -2,7 +2,7 @@ use Rattle.std.proofs.Common.{◌≡◌, ◌≤◌, ℕ, ◌+◌, List, length, 
 use Rattle.std.proofs.lemmas.Bool.{eqb-true}
 use Rattle.vic_script.specs.declared.line.Line.{Line}
 use Rattle.vic_script.specs.Lines.{lines_of, line_of}
-use Rattle.vic_script.specs.Run.{script_limit, Progress, Before, scene_in, mode_in, line_end, run_to_bad_line, ScriptRun, run_from}
+use Rattle.vic_script.specs.Run.{script_limit, Progress, Before, scene_in, mode_in, line_end, run_to_bad_line, Fails, ScriptRun, run_from}
 use Rattle.vic_group.specs.declared.header.Headed.{Headed}
 use Rattle.vic_group.specs.declared.header.Headed.TheVariants as headed
 use Rattle.vic_group.specs.Playing.{header_by, progress_by, Leads, ComesTo, trial_at}
@@ -19,7 +19,8 @@ returns-then-behind-gt-LONGEST_SCRIPT c =
     let others : List ℕ = c.first_line.result.1.now in
     let run : ScriptRun = run_from total 0 1 Before (lines_of c.args.known.now) in
     let on = heading_line run total c.loop-rest.before n behind place c.loop-rest.rest.now text others c.loop-rest.invariant.run c.first_line.ensures.lines c.line_end-behind.ensures in
-    let stopped = head_stops run n 7 place (trial_at behind place text) (λ next. run_from total behind (n + 1) next (lines_of others)) on (tried_long behind place text (omega (arith, c.if-behind-gt-LONGEST_SCRIPT.true))) in
+    let stopped = head_stops run n c.number.result place (trial_at behind place text) (λ next. run_from total behind (n + 1) next (lines_of others)) on
+    (tried_long behind place text (omega (arith, c.if-behind-gt-LONGEST_SCRIPT.true)) ∙ ap (λ (k : ℕ). Fails k) (sym c.number.ensures)) in
     if_ok-map c.unopened.result _ _ (λ r h. subst (λ (x : ScriptRun). ComesTo x r) (sym stopped) h) c.unopened.ensures
 
 pub returns-in-Bad : goal.returns-in-Bad

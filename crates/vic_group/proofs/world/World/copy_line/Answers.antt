@@ -6,13 +6,13 @@ use Rattle.vic_group.proofs.Lines.{copied_line, misplaced_line, uncopied_line, s
 use Rattle.vic_group.proofs.world.World.copy_line.Goals as goal
 
 pub returns-then-not-is_server_number : goal.returns-then-not-is_server_number
-returns-then-not-is_server_number g c = λ s shows. misplaced_line g.S.Serve.state g.S.Serve.rule s c.args.from c.args.to c.args.self.now (sym c.is_server_number.ensures ∙ c.if-not-is_server_number.true) shows
+returns-then-not-is_server_number g c = λ s shows. rw c.bad.ensures (misplaced_line g.S.Serve.state g.S.Serve.rule s c.args.from c.args.to c.args.self.now (sym c.is_server_number.ensures ∙ c.if-not-is_server_number.true) shows)
 
 pub returns-in_default : goal.returns-in_default
 returns-in_default g c = λ s shows.
     let w = c.args.self.now in
     let none = sym c.at.ensures ∙ ap (λ o. option_map (λ v. g.S.Serve.state v.now) o) c.in_default.is in
-    uncopied_line g.S.Serve.state g.S.Serve.rule s c.args.from c.args.to w (sym c.is_server_number.ensures ∙ c.if-not-is_server_number.false) (sym (server_shown g.S.Serve.state w s c.args.from shows) ∙ ap (λ o. is_some o) none) shows
+    rw c.bad-in_default.ensures (uncopied_line g.S.Serve.state g.S.Serve.rule s c.args.from c.args.to w (sym c.is_server_number.ensures ∙ c.if-not-is_server_number.false) (sym (server_shown g.S.Serve.state w s c.args.from shows) ∙ ap (λ o. is_some o) none) shows)
 
 pub returns-then-from : goal.returns-then-from
 returns-then-from g c = λ s shows.

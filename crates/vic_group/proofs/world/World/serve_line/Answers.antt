@@ -1,26 +1,22 @@
-use Rattle.std.proofs.Common.{[], ◌∷◌, refl, ◌∙◌}
+use Rattle.std.proofs.Common.{[], ◌∷◌, refl, ◌∙◌, Err, ap}
+use Rattle.std.proofs.lemmas.Result.{err_from_is_err_and}
 use Rattle.vic_script.specs.declared.line.Line.TheVariants as line
 use Rattle.vic_order.specs.Scenes.{waits_in}
 use Rattle.vic_group.specs.World.{states}
+use Rattle.vic_group.specs.declared.world.WorldFault.{WorldFault}
 use Rattle.vic_group.proofs.Asking.{is_there, not_there}
-use Rattle.vic_group.proofs.Lines.{absent, served_line, unserved_line}
+use Rattle.vic_group.proofs.Lines.{absent, served_line}
 use Rattle.vic_group.proofs.world.World.serve_line.Goals as goal
 
-pub returns-in_default : goal.returns-in_default
-returns-in_default g c = λ s shows.
+pub returns-in_err-place : goal.returns-in_err-place
+returns-in_err-place g c = λ s shows.
     let w = c.args.self.now in
-    absent g.S.Serve.state g.S.Serve.rule s (line.Serve c.args.who) c.args.who ((5, waits_in s.up c.args.who) ∷ []) w refl (not_there w.transcript w.members.items (states g.S.Serve.state w.servers) s c.args.who shows c.in_default.ensures) shows
+    let p = err_from_is_err_and c.from_residual.result c.from_residual.ensures.1 in
+    absent g.S.Serve.state g.S.Serve.rule c.from_residual.result s (line.Serve c.args.who) c.args.who ((5, waits_in s.up c.args.who) ∷ []) w [] [] (rw (p.1, p.2) (ap (λ (e : WorldFault). Err e) c.in_err-place.ensures.0)) refl (not_there w.transcript w.members.items (states g.S.Serve.state w.servers) s c.args.who shows c.in_err-place.ensures.1) shows
 
-pub returns-then-went : goal.returns-then-went
-returns-then-went g c = λ s shows.
+pub returns : goal.returns
+returns g c = λ s shows.
     let w = c.args.self.now in
-    let there = is_there w.transcript w.members.items (states g.S.Serve.state w.servers) s c.in-Some.id shows c.in-Some.place c.in-Some.ensures.1.0 c.in-Some.ensures.1.1 in
+    let there = is_there w.transcript w.members.items (states g.S.Serve.state w.servers) s c.in_ok-place.id shows c.in_ok-place.place c.in_ok-place.ensures.1.0 c.in_ok-place.ensures.1.1 in
     let served = c.in_ok-went.ensures.ok s shows in
-    served_line g.S.Serve.state g.S.Serve.rule s c.in-Some.id c.args.who c.serve.new.self c.in-Some.ensures.0 there (served.0 ∙ c.if-went.true) served.1
-
-pub returns-else-went : goal.returns-else-went
-returns-else-went g c = λ s shows.
-    let w = c.args.self.now in
-    let there = is_there w.transcript w.members.items (states g.S.Serve.state w.servers) s c.in-Some.id shows c.in-Some.place c.in-Some.ensures.1.0 c.in-Some.ensures.1.1 in
-    let served = c.in_ok-went.ensures.ok s shows in
-    unserved_line g.S.Serve.state g.S.Serve.rule s c.in-Some.id c.args.who c.serve.new.self c.in-Some.ensures.0 there (served.0 ∙ c.if-went.false) served.1
+    rw c.waited.ensures (served_line g.S.Serve.state g.S.Serve.rule c.in_ok-went.went s c.in_ok-place.id c.args.who c.serve.new.self c.in_ok-place.ensures.0 there served.0 served.1)

@@ -3,7 +3,7 @@ use Rattle.vic_rules.specs.declared.trace.Shown.{Shown}
 use Rattle.vic_view.specs.Transcripts.{transcript_group, transcript_history}
 use Rattle.vic_view.specs.Printed.{view_texts, agree_texts}
 use Rattle.vic_view.proofs.Prints.{length_views, prints_all}
-use Rattle.vic_view.proofs.print.print_along.Goals as goal
+use Rattle.vic_view.proofs.print.put_along.Goals as goal
 
 pub put_agreements-requires : goal.put_agreements-requires
 put_agreements-requires c =
@@ -14,8 +14,8 @@ put_agreements-requires c =
 
 pub returns : goal.returns
 returns c =
-    prints_all (transcript_group c.args.t.now) (transcript_history c.args.t.now) c.in_ok-views.views c.args.forged c.new-out.result c.put_views.new.out c.put_agreements.new.out c.put_tags.new.out
-    c.in_ok-views.ensures c.new-out.ensures
-    (c.in_ok-put_views.ensures.ok ∙ ap (λ (x : List (List Shown)). c.new-out.result ++ view_texts 1 x) c.as_slice.ensures)
+    prints_all (transcript_group c.args.t.now) (transcript_history c.args.t.now) c.in_ok-views.views c.args.forged c.args.out.now c.put_views.new.out c.put_agreements.new.out c.put_tags.new.out
+    c.in_ok-views.ensures
+    (c.in_ok-put_views.ensures.ok ∙ ap (λ (x : List (List Shown)). c.args.out.now ++ view_texts 1 x) c.as_slice.ensures)
     (c.in_ok-put_agreements.ensures.ok ∙ ap (λ (x : List (List Shown)). c.put_views.new.out ++ agree_texts 1 x) c.as_slice-2.ensures)
     c.in_ok-put_tags.ensures.ok
